@@ -1,0 +1,237 @@
+-- Satisfaction of the woven pattern, part by part: one statement for each text.
+use Prim.Native.Nat.{ℕ, _+_, _-_, _<_, _≤_}
+use mathlib.Core.Path.{_≡_, refl, sym, subst, subst₂, subst₃, _∙_}
+use mathlib.Core.Logic.{_⊎_, ⊎-elim, _≢_}
+use mathlib.Core.List.{List, [], _∷_, _++_, map, List·Memᴰ·head, List·Memᴰ·tail, List·Memᴰ·append-cases as append-cases, Memᴰ·append-left, Memᴰ·append-right}
+use mathlib.Core.Bool.{Bool, true, false}
+use native.Mathlib.Omega.{arith}
+use lib.ListN.{length, getD, length-append, List·getD-append}
+use lib.Seq.{getD-append-add}
+use lib.Dec.{T, ltb, ltb→lt, lt→ltb}
+use Rattle.model.specs.Bytes.{Bytes}
+use Rattle.model.specs.Choice.{pick}
+use Rattle.model.specs.Lists.{joined, below}
+use Rattle.model.specs.Names.{mem, place}
+use Rattle.model.specs.Book.{Book}
+use Rattle.model.specs.QueryText.{Condition, differ, demand, QueryText}
+use Rattle.model.specs.Query.{ChainEdge, vertexNames, edgesOf, edgeNames, conditionsOf}
+use Rattle.model.specs.Pattern.{Pattern, Edge, Clause, excluded, vertexHas, edgeHas, clauseOf, edgeOf, patternOf}
+use Rattle.model.specs.Graph.{Each, IsNode, relEntries, nodeEntries, valueIn, meets}
+use Rattle.model.specs.Models.{EdgeHolds}
+use Rattle.model.specs.Satisfies.{Map, edgeAt, NumberedEdgeHolds, ClauseHolds, Satisfies}
+use Rattle.model.specs.Weave.{Asked, wovenName, named, moved, movedEdge, movedClause, movedClauses}
+use Rattle.model.proofs.Members.{_∈_, test, each-e, each-i, map-i, map-e, mem-e, mem-i, below-i, below-e}
+use Rattle.model.proofs.ByNodes.{NamedIn, Named}
+use Rattle.model.proofs.Chains.{chain-ends}
+use Rattle.model.proofs.ExactModels.{at-place, getD-in, getD-map, length-map, noEdge, stands, edge-of, condition-in}
+
+-- the edges of a text's pattern
+abbrev pub edgesIn : Asked → ℕ
+edgesIn a = length (patternOf (a .text) .edges)
+
+-- a statement of each text, of its number and of the edges before it
+abbrev pub Counted : {A : Type 0} → (A → Asked) → (ℕ → ℕ → A → Type 0) → ℕ → ℕ → List A → Type 0
+Counted of P k n [] = Unit {0}
+Counted of P k n (x ∷ xs) = P k n x × Counted of P (k + 1) (n + edgesIn (of x)) xs
+
+pub counted-map : {A : Type 0} (of : A → Asked) (P Q : ℕ → ℕ → A → Type 0) (k n : ℕ) (l : List A) → ((j i : ℕ) (x : A) → k ≤ j → n ≤ i → x ∈ l → P j i x → Q j i x) → Counted of P k n l → Counted of Q k n l
+counted-map of P Q k n [] f h = tt
+counted-map of P Q k n (x ∷ l) f h = (
+  f k n x (omega arith) (omega arith) (List·Memᴰ·head refl) (h .0),
+  counted-map of P Q (k + 1) (n + edgesIn (of x)) l (λ j i y p q m g. f j i y (omega arith) (omega arith) (List·Memᴰ·tail m) g) (h .1),
+)
+
+-- the map of a text's pattern within a map of the woven pattern
+abbrev pub within : List Bytes → Map → ℕ → ℕ → Asked → Map
+within vs m k n a = record { node = λ i. m .node (place (getD (map (wovenName k (a .actors)) (vertexNames (a .text))) i []) vs); rel = λ i. m .rel (n + i) }
+
+abbrev pub Part : Book → List Bytes → Map → ℕ → ℕ → Asked → Type 0
+Part b vs m k n a = Satisfies b (patternOf (a .text)) (within vs m k n a)
+
+-- the edges of a list hold, counted from n
+abbrev pub none : Edge
+none = record { name = []; label = []; from = 0; to = 0 }
+
+abbrev pub Holds : Book → Map → ℕ → Edge → Type 0
+Holds b m i e = EdgeHolds b (m .rel i) (e .label) (m .node (e .from)) (m .node (e .to))
+
+abbrev pub EdgesAt : Book → Map → ℕ → List Edge → Type 0
+EdgesAt b m n es = (i : ℕ) → i < length es → Holds b m (n + i) (getD es i none)
+
+-- counted from the first
+pub edges-e : (b : Book) (m : Map) (es : List Edge) → EdgesAt b m 0 es → (i : ℕ) → i < length es → Holds b m i (getD es i none)
+edges-e b m es h i l = let e : 0 + i ≡ i = omega arith in subst (λ z. Holds b m z (getD es i none)) e (h i l)
+
+pub edges-i : (b : Book) (m : Map) (es : List Edge) → ((i : ℕ) → i < length es → Holds b m i (getD es i none)) → EdgesAt b m 0 es
+edges-i b m es h i l = let e : i ≡ 0 + i = omega arith in subst (λ z. Holds b m z (getD es i none)) e (h i l)
+
+edges-left : (b : Book) (m : Map) (n : ℕ) (xs ys : List Edge) → EdgesAt b m n (xs ++ ys) → EdgesAt b m n xs
+edges-left b m n xs ys h i l = subst (Holds b m (n + i)) (List·getD-append xs ys none i l) (h i (omega (arith, length-append xs ys)))
+
+edges-right : (b : Book) (m : Map) (n : ℕ) (xs ys : List Edge) → EdgesAt b m n (xs ++ ys) → EdgesAt b m (n + length xs) ys
+edges-right b m n xs ys h i l =
+    let e : n + (length xs + i) ≡ n + length xs + i = omega arith in
+    subst₂ (Holds b m) e (getD-append-add xs ys i none) (h (length xs + i) (omega (arith, length-append xs ys)))
+
+edges-both : (b : Book) (m : Map) (n : ℕ) (xs ys : List Edge) → EdgesAt b m n xs → EdgesAt b m (n + length xs) ys → EdgesAt b m n (xs ++ ys)
+edges-both b m n xs ys f g i l = ⊎-elim
+    (λ t. let c = ltb→lt i (length xs) t in subst (Holds b m (n + i)) (sym (List·getD-append xs ys none i c)) (f i c))
+    (λ t. let c : length xs ≤ i = lt-not i (length xs) t in
+    let j : ℕ = i - length xs in
+    let e : i ≡ length xs + j = omega arith in
+    let s : n + length xs + j ≡ n + i = omega arith in
+    subst (λ z. Holds b m (n + i) (getD (xs ++ ys) z none)) (sym e) (subst₂ (Holds b m) s (sym (getD-append-add xs ys j none)) (g j (omega (arith, length-append xs ys)))))
+    (test (ltb i (length xs)))
+  where
+    lt-not : (i n : ℕ) → (T (ltb i n) → ⊥) → n ≤ i
+    lt-not i n t = let d : i < n → ⊥ = λ h. t (lt→ltb i n h) in omega arith
+
+each-left : {A : Type 0} (P : A → Type 0) (xs ys : List A) → Each P (xs ++ ys) → Each P xs
+each-left P xs ys h = each-i P xs (λ x m. each-e P (xs ++ ys) h x (Memᴰ·append-left ys m))
+
+each-right : {A : Type 0} (P : A → Type 0) (xs ys : List A) → Each P (xs ++ ys) → Each P ys
+each-right P xs ys h = each-i P ys (λ x m. each-e P (xs ++ ys) h x (Memᴰ·append-right xs m))
+
+each-both : {A : Type 0} (P : A → Type 0) (xs ys : List A) → Each P xs → Each P ys → Each P (xs ++ ys)
+each-both P xs ys f g = each-i P (xs ++ ys) (λ x m. ⊎-elim (each-e P xs f x) (each-e P ys g x) (append-cases xs m))
+
+-- the pattern of a text under woven names
+abbrev namedOne : ℕ → Asked → Pattern
+namedOne k a = record { vertices = map (wovenName k (a .actors)) (vertexNames (a .text)); edges = patternOf (a .text) .edges; clauses = patternOf (a .text) .clauses; returns = patternOf (a .text) .returns }
+
+-- the woven vertices and edges of texts
+abbrev pub verticesOf : ℕ → List Asked → List Bytes
+verticesOf k asked = joined (λ p. p .vertices) (named k asked)
+
+abbrev pub wovenEdges : List Bytes → ℕ → List Asked → List Edge
+wovenEdges vs k asked = joined (λ p. map (movedEdge vs p) (p .edges)) (named k asked)
+
+module _ (b : Book) (vs : List Bytes) (m : Map) where
+  clause-iff : (k n : ℕ) (a : Asked) (c : Clause) → ClauseHolds b m (movedClause vs (namedOne k a) n c) ≡ ClauseHolds b (within vs m k n a) c
+  unfolding movedClause moved
+  clause-iff k n a (excluded u v) = refl
+  clause-iff k n a (vertexHas v c r x) = refl
+  clause-iff k n a (edgeHas e c r x) = refl
+
+  part-i : (k n : ℕ) (a : Asked) → ((w : Bytes) → w ∈ map (wovenName k (a .actors)) (vertexNames (a .text)) → w ∈ vs) → ((i : ℕ) → i < length vs → IsNode b (m .node i))
+      → EdgesAt b m n (map (movedEdge vs (namedOne k a)) (patternOf (a .text) .edges)) → Each (ClauseHolds b m) (map (movedClause vs (namedOne k a) n) (patternOf (a .text) .clauses)) → Part b vs m k n a
+  unfolding patternOf edgeAt movedEdge moved
+  part-i k n a f g h c =
+      let p = patternOf (a .text) in
+      let ws = map (wovenName k (a .actors)) (vertexNames (a .text)) in
+      record {
+        vertices = each-i (λ v. IsNode b (within vs m k n a .node v)) (below (length (vertexNames (a .text)))) (λ i l. let t = subst (λ z. i < z) (sym (length-map (wovenName k (a .actors)) (vertexNames (a .text)))) (below-e _ i l) in
+            g _ (at-place vs (getD ws i []) (f (getD ws i []) (getD-in ws i [] t)) .0));
+        edges = each-i (NumberedEdgeHolds b p (within vs m k n a)) (below (length (p .edges))) (λ i l. let t = below-e _ i l in
+            subst (Holds b m (n + i)) (getD-map (movedEdge vs (namedOne k a)) (p .edges) i none none t) (h i (subst (λ z. i < z) (sym (length-map (movedEdge vs (namedOne k a)) (p .edges))) t)));
+        clauses = each-i (ClauseHolds b (within vs m k n a)) (p .clauses) (λ d l. subst (λ z. z) (clause-iff k n a d) (each-e (ClauseHolds b m) (map (movedClause vs (namedOne k a) n) (p .clauses)) c _ (map-i (movedClause vs (namedOne k a) n) (p .clauses) d l)));
+      }
+
+  part-e : (k n : ℕ) (a : Asked) → Part b vs m k n a
+      → EdgesAt b m n (map (movedEdge vs (namedOne k a)) (patternOf (a .text) .edges)) × Each (ClauseHolds b m) (map (movedClause vs (namedOne k a) n) (patternOf (a .text) .clauses))
+  unfolding edgeAt movedEdge moved
+  part-e k n a h =
+      let p = patternOf (a .text) in (
+        λ i l. let t : i < length (p .edges) = subst (λ z. i < z) (length-map (movedEdge vs (namedOne k a)) (p .edges)) l in
+            subst (Holds b m (n + i)) (sym (getD-map (movedEdge vs (namedOne k a)) (p .edges) i none none t)) (each-e (NumberedEdgeHolds b p (within vs m k n a)) (below (length (p .edges))) (h .edges) i (below-i _ i t)),
+        each-i (ClauseHolds b m) (map (movedClause vs (namedOne k a) n) (p .clauses)) (λ d l. let r = map-e (movedClause vs (namedOne k a) n) (p .clauses) d l in
+            subst (ClauseHolds b m) (sym (r .2)) (subst (λ z. z) (sym (clause-iff k n a (r .0))) (each-e (ClauseHolds b (within vs m k n a)) (p .clauses) (h .clauses) (r .0) (r .1)))),
+      )
+
+  -- from the woven pattern to the texts
+  pub parts-i : (k n : ℕ) (asked : List Asked) → ((w : Bytes) → w ∈ verticesOf k asked → w ∈ vs) → ((i : ℕ) → i < length vs → IsNode b (m .node i))
+      → EdgesAt b m n (wovenEdges vs k asked) → Each (ClauseHolds b m) (movedClauses vs n (named k asked)) → Counted (λ a. a) (Part b vs m) k n asked
+  unfolding named joined movedClauses patternOf
+  parts-i k n [] f g h c = tt
+  parts-i k n (a ∷ others) f g h c =
+      let p = patternOf (a .text) in
+      let ws = map (wovenName k (a .actors)) (vertexNames (a .text)) in
+      let xs = map (movedEdge vs (namedOne k a)) (p .edges) in
+      let ys = wovenEdges vs (k + 1) others in
+      let cs = map (movedClause vs (namedOne k a) n) (p .clauses) in
+      let ds = movedClauses vs (n + length (p .edges)) (named (k + 1) others) in (
+        part-i k n a (λ w l. f w (Memᴰ·append-left (verticesOf (k + 1) others) l)) g (edges-left b m n xs ys h) (each-left (ClauseHolds b m) cs ds c),
+        parts-i (k + 1) (n + edgesIn a) others (λ w l. f w (Memᴰ·append-right ws l)) g
+            (subst (λ z. EdgesAt b m (n + z) ys) (length-map (movedEdge vs (namedOne k a)) (p .edges)) (edges-right b m n xs ys h)) (each-right (ClauseHolds b m) cs ds c),
+      )
+
+  -- and back
+  pub parts-e : (k n : ℕ) (asked : List Asked) → Counted (λ a. a) (Part b vs m) k n asked → EdgesAt b m n (wovenEdges vs k asked) × Each (ClauseHolds b m) (movedClauses vs n (named k asked))
+  unfolding named joined movedClauses patternOf
+  parts-e k n [] h = (λ i l. absurd (omega arith), tt)
+  parts-e k n (a ∷ others) h =
+      let p = patternOf (a .text) in
+      let xs = map (movedEdge vs (namedOne k a)) (p .edges) in
+      let ys = wovenEdges vs (k + 1) others in
+      let cs = map (movedClause vs (namedOne k a) n) (p .clauses) in
+      let ds = movedClauses vs (n + length (p .edges)) (named (k + 1) others) in
+      let r = part-e k n a (h .0) in
+      let s = parts-e (k + 1) (n + edgesIn a) others (h .1) in (
+        edges-both b m n xs ys (r .0) (subst (λ z. EdgesAt b m (n + z) ys) (sym (length-map (movedEdge vs (namedOne k a)) (p .edges))) (s .0)),
+        each-both (ClauseHolds b m) cs ds (r .1) (s .1),
+      )
+
+-- what holds of the woven names of every text's vertices holds of every woven vertex
+pub vertices-e : {A : Type 0} (of : A → Asked) (C : Bytes → Type 0) (k n : ℕ) (l : List A) → Counted of (λ j i x. (v : Bytes) → v ∈ vertexNames (of x .text) → C (wovenName j (of x .actors) v)) k n l
+    → (w : Bytes) → w ∈ verticesOf k (map of l) → C w
+unfolding named joined patternOf
+vertices-e of C k n [] h w i = elim i [ ]
+vertices-e of C k n (x ∷ l) h w i =
+    let f = wovenName k (of x .actors) in
+    ⊎-elim (λ j. let r = map-e f (vertexNames (of x .text)) w j in subst C (sym (r .2)) (h .0 (r .0) (r .1)))
+    (λ j. vertices-e of C (k + 1) (n + edgesIn (of x)) l (h .1) w j) (append-cases (map f (vertexNames (of x .text))) i)
+
+-- every woven name of a text's vertices is a woven vertex
+pub vertices-i : {A : Type 0} (of : A → Asked) (vs : List Bytes) (k n : ℕ) (l : List A) → ((w : Bytes) → w ∈ verticesOf k (map of l) → w ∈ vs)
+    → Counted of (λ j i x. (v : Bytes) → v ∈ vertexNames (of x .text) → wovenName j (of x .actors) v ∈ vs) k n l
+unfolding named joined patternOf
+vertices-i of vs k n [] f = tt
+vertices-i of vs k n (x ∷ l) f =
+    let g = wovenName k (of x .actors) in (
+      λ v i. f (g v) (Memᴰ·append-left (verticesOf (k + 1) (map of l)) (map-i g (vertexNames (of x .text)) v i)),
+      vertices-i of vs (k + 1) (n + edgesIn (of x)) l (λ w i. f w (Memᴰ·append-right (map g (vertexNames (of x .text))) i)),
+    )
+
+-- a pattern's satisfaction looks only at the pattern's own vertices and edges
+module _ (b : Book) (q : QueryText) (d : Named q) (apart : (x : Bytes) → x ∈ vertexNames q → x ∈ edgeNames q → ⊥) (m p : Map)
+    (vertices : (i : ℕ) → i < length (vertexNames q) → m .node i ≡ p .node i)
+    (rels : (i : ℕ) → i < length (patternOf q .edges) → m .rel i ≡ p .rel i) where
+  nodes : (v : Bytes) → v ∈ vertexNames q → m .node (place v (vertexNames q)) ≡ p .node (place v (vertexNames q))
+  nodes v n = vertices (place v (vertexNames q)) (at-place (vertexNames q) v n .0)
+
+  edge-names : length (edgeNames q) ≡ length (patternOf q .edges)
+  unfolding edgeNames patternOf
+  edge-names = length-map (λ (e : ChainEdge). e .name) (edgesOf q) ∙ sym (length-map (edgeOf (vertexNames q)) (edgesOf q))
+
+  clause-cong : (c : Condition) → NamedIn q c → ClauseHolds b m (clauseOf (vertexNames q) (edgeNames q) c) → ClauseHolds b p (clauseOf (vertexNames q) (edgeNames q) c)
+  unfolding clauseOf
+  clause-cong (differ v u) w h = subst₂ (λ x y. x ≢ y) (nodes v (w .0)) (nodes u (w .1)) h
+  clause-cong (demand x a r v) w h = go (mem x (vertexNames q)) refl h
+    where
+      go : (t : Bool) → mem x (vertexNames q) ≡ t → ClauseHolds b m (pick t (vertexHas (place x (vertexNames q)) a r v) (edgeHas (place x (edgeNames q)) a r v)) → ClauseHolds b p (pick t (vertexHas (place x (vertexNames q)) a r v) (edgeHas (place x (edgeNames q)) a r v))
+      go true e h = subst (λ z. T (meets (valueIn (nodeEntries b z) a) r v)) (nodes x (mem-e x (vertexNames q) (subst T (sym e) tt))) h
+      go false e h =
+          let j : x ∈ edgeNames q = ⊎-elim (λ k. k) (λ k. absurd (subst T e (mem-i x (vertexNames q) k))) w in
+          subst (λ z. T (meets (valueIn (relEntries b z) a) r v)) (rels (place x (edgeNames q)) (subst (λ z. place x (edgeNames q) < z) edge-names (at-place (edgeNames q) x j .0))) h
+
+  pub satisfies-cong : Satisfies b (patternOf q) m → Satisfies b (patternOf q) p
+  unfolding patternOf edgeAt edgeOf
+  satisfies-cong h = record {
+    vertices = each-i (λ v. IsNode b (p .node v)) (below (length (vertexNames q))) (λ i k. subst (IsNode b) (vertices i (below-e _ i k)) (each-e (λ v. IsNode b (m .node v)) (below (length (vertexNames q))) (h .vertices) i k));
+    edges = each-i (NumberedEdgeHolds b (patternOf q) p) (below (length (map (edgeOf (vertexNames q)) (edgesOf q)))) (λ i k. edge-cong i (below-e _ i k) (each-e (NumberedEdgeHolds b (patternOf q) m) (below (length (map (edgeOf (vertexNames q)) (edgesOf q)))) (h .edges) i k));
+    clauses = each-i (ClauseHolds b p) (map (clauseOf (vertexNames q) (edgeNames q)) (conditionsOf q)) (λ c k.
+        let r = map-e (clauseOf (vertexNames q) (edgeNames q)) (conditionsOf q) c k in
+        let s = condition-in b q d apart (r .0) (r .1) in
+        subst (ClauseHolds b p) (sym (r .2)) (clause-cong (r .0) (d .conditions (s .0) (s .1) (r .0) (s .2))
+        (subst (ClauseHolds b m) (r .2) (each-e (ClauseHolds b m) (map (clauseOf (vertexNames q) (edgeNames q)) (conditionsOf q)) (h .clauses) c k))));
+  }
+    where
+      edge-cong : (i : ℕ) → i < length (patternOf q .edges) → NumberedEdgeHolds b (patternOf q) m i → NumberedEdgeHolds b (patternOf q) p i
+      edge-cong i l g =
+          let l′ : i < length (edgesOf q) = subst (λ z. i < z) (length-map (edgeOf (vertexNames q)) (edgesOf q)) l in
+          let e : ChainEdge = getD (edgesOf q) i noEdge in
+          let r = edge-of b q d apart e (getD-in (edgesOf q) i noEdge l′) in
+          let n = chain-ends (r .0 .chain) e (r .2) in
+          let E = getD-map (edgeOf (vertexNames q)) (edgesOf q) i noEdge none l′ in
+          subst (Holds b p i) (sym E) (subst₃ (λ t x y. EdgeHolds b t (e .label) x y) (rels i l) (nodes (e .from) (stands b q d apart (r .0) (r .1) (e .from) (n .0))) (nodes (e .to) (stands b q d apart (r .0) (r .1) (e .to) (n .1)))
+          (subst (Holds b m i) E g))

@@ -1,0 +1,37 @@
+-- What the list program prints.
+use Prim.Native.Nat.{ℕ}
+use mathlib.Core.List.{List, [], _++_, map}
+use lib.ListN.{length, getD}
+use Rattle.model.specs.Bytes.{Bytes, bytesOf}
+use Rattle.model.specs.Lists.{joined}
+use Rattle.model.specs.Refusal.{Outcome, accepted, refused, Refusal}
+use Rattle.model.specs.Book.{Book, nodeNames}
+use Rattle.model.specs.ReadBook.{readBook}
+use Rattle.model.specs.Writing.{digits, eachBehind}
+use Rattle.model.specs.Service.{listRows}
+
+-- a row as the list program prints it: its node names
+unfoldable pub rowText : List Bytes → List ℕ → Bytes
+rowText names row = bytesOf "(row" ++ eachBehind (bytesOf " ") (map (λ n. getD names n []) row) ++ bytesOf ")\n"
+
+-- a refusal as the list program prints it
+unfoldable pub refusalText : Refusal → Bytes
+refusalText r = bytesOf "(refused " ++ digits 5 (r .number) ++ bytesOf " text " ++ digits 5 (r .text) ++ bytesOf " line " ++ digits 5 (r .line) ++ bytesOf ")\n"
+
+-- the header with the row count, then the rows
+unfoldable pub rowsText : List Bytes → List (List ℕ) → Bytes
+rowsText names rows = bytesOf "(rows " ++ digits 5 (length rows) ++ bytesOf ")\n" ++ joined (rowText names) rows
+
+-- the rows, or the refusal alone
+unfoldable pub outcomeText : List Bytes → Outcome (List (List ℕ)) → Bytes
+outcomeText names (accepted rows) = rowsText names rows
+outcomeText names (refused r) = refusalText r
+
+-- the names of the nodes of a book that is accepted
+unfoldable pub namesOf : Outcome Book → List Bytes
+namesOf (accepted b) = nodeNames b
+namesOf (refused r) = []
+
+-- what the list program prints; it lends 16,384 row words
+unfoldable pub printed : Bytes → Bytes → Bytes → Bytes → Bytes
+printed book rules query request = outcomeText (namesOf (readBook book)) (listRows 16384 16384 book rules query request)

@@ -1,0 +1,81 @@
+-- A book line by line: the faults of a line after the lines before, and the book with it.
+use Prim.Native.Nat.{ℕ, _+_}
+use mathlib.Core.List.{List, [], _∷_, _++_, map}
+use mathlib.Core.Bool.{Bool, not, _&&_, _||_}
+use lib.ListN.{length}
+use lib.Dec.{leb, ltb, eqb}
+use Rattle.model.specs.Bytes.{Bytes, same}
+use Rattle.model.specs.Choice.{Maybe, andThen}
+use Rattle.model.specs.Lists.{any, all}
+use Rattle.model.specs.Names.{mem, twice, place}
+use Rattle.model.specs.Refusal.{Outcome, lowest, _if_}
+use Rattle.model.specs.Lines.{Line, Step, faultOr, formStep, readLines, linesOf, bytesFirst}
+use Rattle.model.specs.Values.{Entry, ofKind}
+use Rattle.model.specs.Forms.{formOf}
+use Rattle.model.specs.Book.{Attr, Book, emptyBook, attrNames, nodeNames, entryCount}
+use Rattle.model.specs.BookLines.{label, BookLine, vattr, eattr, node, rel, bookLine}
+
+-- an attribute of this name is declared with the type of this value
+unfoldable pub suits : List Attr → Entry → Bool
+suits ds e = any (λ d. same (d .name) (e .attr) && ofKind (d .kind) (e .value)) ds
+
+-- an entry's attribute is not declared
+unfoldable pub undeclared : List Attr → List Entry → Bool
+undeclared ds es = any (λ e. not (mem (e .attr) (attrNames ds))) es
+
+-- a label runs from one node to another already
+unfoldable pub related : Book → Bytes → ℕ → ℕ → Bool
+related b l x y = any (λ r. same (r .label) l && eqb (r .from) x && eqb (r .to) y) (b .rels)
+
+-- the faults of a declared name: among names declared already
+unfoldable pub nameFault : Bytes → List Bytes → Maybe ℕ
+nameFault n ns = lowest ((5 if mem n ns) ∷ (7 if leb 32 (length ns)) ∷ [])
+
+-- the faults of a node line
+unfoldable pub nodeFault : Book → Bytes → List Entry → Maybe ℕ
+nodeFault b n es = lowest
+    ((4 if undeclared (b .vattrs) es)
+    ∷ (5 if mem n (nodeNames b) || twice (map (λ e. e .attr) es))
+    ∷ (6 if not (all (suits (b .vattrs)) es))
+    ∷ (7 if leb 256 (length (b .nodes)) || ltb 2048 (entryCount b + length es))
+    ∷ [])
+
+-- the faults of a rel line
+unfoldable pub relFault : Book → Bytes → Bytes → Bytes → List Entry → Maybe ℕ
+relFault b l x y es = lowest
+    ((4 if not (mem l (b .labels)) || not (mem x (nodeNames b)) || not (mem y (nodeNames b)) || undeclared (b .eattrs) es)
+    ∷ (5 if related b l (place x (nodeNames b)) (place y (nodeNames b)) || twice (map (λ e. e .attr) es))
+    ∷ (6 if not (all (suits (b .eattrs)) es))
+    ∷ (7 if leb 1024 (length (b .rels)) || ltb 2048 (entryCount b + length es))
+    ∷ [])
+
+-- the lowest fault of a line after the lines before
+unfoldable pub lineFault : Book → BookLine → Maybe ℕ
+lineFault b (vattr n k) = nameFault n (attrNames (b .vattrs))
+lineFault b (eattr n k) = nameFault n (attrNames (b .eattrs))
+lineFault b (label n) = nameFault n (b .labels)
+lineFault b (node n es) = nodeFault b n es
+lineFault b (rel l x y es) = relFault b l x y es
+
+-- the book with a line more
+unfoldable pub addLine : Book → BookLine → Book
+addLine b (vattr n k) = record { vattrs = b .vattrs ++ (record { name = n; kind = k } ∷ []); eattrs = b .eattrs; labels = b .labels; nodes = b .nodes; rels = b .rels }
+addLine b (eattr n k) = record { vattrs = b .vattrs; eattrs = b .eattrs ++ (record { name = n; kind = k } ∷ []); labels = b .labels; nodes = b .nodes; rels = b .rels }
+addLine b (label n) = record { vattrs = b .vattrs; eattrs = b .eattrs; labels = b .labels ++ (n ∷ []); nodes = b .nodes; rels = b .rels }
+addLine b (node n es) = record { vattrs = b .vattrs; eattrs = b .eattrs; labels = b .labels; nodes = b .nodes ++ (record { name = n; entries = es } ∷ []); rels = b .rels }
+addLine b (rel l x y es) =
+    record {
+      vattrs = b .vattrs;
+      eattrs = b .eattrs;
+      labels = b .labels;
+      nodes = b .nodes;
+      rels = b .rels ++ (record { label = l; from = place x (nodeNames b); to = place y (nodeNames b); entries = es } ∷ []);
+    }
+
+-- one line of the book
+unfoldable pub bookStep : Book → Line → Step Book
+bookStep b l = formStep (andThen (formOf l) bookLine) (λ x. faultOr (lineFault b x) (addLine b x))
+
+-- text 1: 65,536 bytes
+unfoldable pub readBook : Bytes → Outcome Book
+readBook s = let book = readLines 1 bookStep 1 emptyBook (linesOf s) in bytesFirst 1 65536 (λ l. l) s book

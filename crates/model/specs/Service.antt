@@ -1,0 +1,137 @@
+-- The services: from the texts and the lent buffers to the answer and to what each buffer then holds.
+use Prim.Native.Nat.{ℕ, _-_, _^_, _*_}
+use mathlib.Core.List.{List, _∷_, _++_}
+use mathlib.Core.Bool.{_||_}
+use lib.ListN.{length, drop, replicate}
+use lib.Dec.{ltb}
+use Rattle.model.specs.Bytes.{Bytes}
+use Rattle.model.specs.Choice.{pick}
+use Rattle.model.specs.Lists.{joined}
+use Rattle.model.specs.Names.{place}
+use Rattle.model.specs.Refusal.{Outcome, accepted, refused, onAccept, refusal, refusedIf}
+use Rattle.model.specs.Book.{entryCount}
+use Rattle.model.specs.ReadBook.{readBook}
+use Rattle.model.specs.ReadQuery.{readQuery}
+use Rattle.model.specs.Pattern.{Pattern, patternOf}
+use Rattle.model.specs.Writing.{writtenQuery}
+use Rattle.model.specs.Rules.{categoryNames}
+use Rattle.model.specs.ReadRules.{readRules}
+use Rattle.model.specs.Request.{Identity, readRequest}
+use Rattle.model.specs.Weave.{askedQuery, askedPolicies, weave, wovenFault}
+use Rattle.model.specs.Rows.{rowsOf}
+
+-- n words of all ones
+unfoldable pub ones : ℕ → List ℕ
+ones n = replicate n (2 ^ 32 - 1)
+
+-- 15 comes first: under 16,384 words of working memory
+unfoldable pub withWork : {A : Type 0} → ℕ → Outcome A → Outcome A
+withWork work o = pick (ltb work 16384) (refusal 15 0 0) o
+
+-- what the book reader answers: counts
+pub record BookAnswer : Type 0 where
+  pub nodes : ℕ
+  pub rels : ℕ
+  pub entries : ℕ
+
+-- what the rules reader answers: counts
+pub record RulesAnswer : Type 0 where
+  pub categories : ℕ
+  pub policies : ℕ
+
+-- what the request reader answers: the category's number, and the identities
+pub record RequestAnswer : Type 0 where
+  pub category : ℕ
+  pub identities : List Identity
+
+-- an answer, and the working memory, which ends all ones
+pub record Read (A : Type 0) : Type 0 where
+  pub answer : Outcome A
+  pub work : List ℕ
+
+-- each reader gives 15, then the refusals of the texts it needs, then its own; the book reader needs no other text
+unfoldable pub bookService : ℕ → Bytes → Read BookAnswer
+bookService work book = record {
+  answer = withWork work (onAccept (readBook book) (λ b. accepted (record { nodes = length (b .nodes); rels = length (b .rels); entries = entryCount b })));
+  work = ones work;
+}
+
+-- the rules reader needs the book
+unfoldable pub rulesService : ℕ → Bytes → Bytes → Read RulesAnswer
+rulesService work book rules = record {
+  answer = withWork work (onAccept (readBook book) (λ b. onAccept (readRules b rules) (λ r. accepted (record { categories = length (r .categories); policies = length (r .policies) }))));
+  work = ones work;
+}
+
+-- the query reader needs the book
+unfoldable pub queryService : ℕ → Bytes → Bytes → Read Pattern
+queryService work book query = record {
+  answer = withWork work (onAccept (readBook book) (λ b. onAccept (readQuery b query) (λ q. accepted (patternOf q))));
+  work = ones work;
+}
+
+-- the request reader needs book and rules
+unfoldable pub requestService : ℕ → Bytes → Bytes → Bytes → Read RequestAnswer
+requestService work book rules request = record {
+  answer = withWork work (
+      onAccept (readBook book) (λ b.
+      onAccept (readRules b rules) (λ r.
+      onAccept (readRequest b r request) (λ x. accepted (record { category = place (x .category) (categoryNames r); identities = x .identities })))));
+  work = ones work;
+}
+
+-- the written query, if it fits its buffer and 2,048 bytes
+unfoldable pub writerText : ℕ → ℕ → Bytes → Bytes → Bytes → Outcome Bytes
+writerText work room book rules query =
+    withWork work (
+    onAccept (readBook book) (λ b.
+    onAccept (readRules b rules) (λ r.
+    onAccept (readQuery b query) (λ q.
+    let t = writtenQuery (patternOf q) in
+    pick (ltb room (length t) || ltb 2048 (length t)) (refusal 14 3 1) (accepted t)))))
+
+-- what the query writer leaves
+pub record Written : Type 0 where
+  pub answer : Outcome ℕ
+  pub text : Bytes
+  pub work : List ℕ
+
+-- a text in front of a buffer; a refusal leaves the buffer unchanged
+unfoldable pub onto : Outcome Bytes → Bytes → Bytes
+onto (accepted t) buffer = t ++ drop (length t) buffer
+onto (refused r) buffer = buffer
+
+-- the query writer answers the length in bytes
+unfoldable pub writerService : ℕ → Bytes → Bytes → Bytes → Bytes → Written
+writerService work buffer book rules query =
+    let t = writerText work (length buffer) book rules query in
+    record { answer = onAccept t (λ x. accepted (length x)); text = onto t buffer; work = ones work }
+
+-- the rows, if rows times Return names fit the row buffer's words
+unfoldable pub listRows : ℕ → ℕ → Bytes → Bytes → Bytes → Bytes → Outcome (List (List ℕ))
+listRows work words book rules query request =
+    withWork work (
+    onAccept (readBook book) (λ b.
+    onAccept (readRules b rules) (λ r.
+    onAccept (readQuery b query) (λ q.
+    onAccept (readRequest b r request) (λ x.
+    let rows = rowsOf b (x .identities) (askedQuery r x q) (askedPolicies r x) in
+    let answer = pick (ltb words (length rows * length (q .returns))) (refusal 14 5 0) (accepted rows) in
+    refusedIf (wovenFault (weave (askedQuery r x q ∷ askedPolicies r x)) (x .identities)) 5 0 answer)))))
+
+-- what the list leaves
+pub record Listed : Type 0 where
+  pub answer : Outcome ℕ
+  pub rows : List ℕ
+  pub work : List ℕ
+
+-- the rows one after another, then all ones
+unfoldable pub rowWords : ℕ → Outcome (List (List ℕ)) → List ℕ
+rowWords words (accepted rows) = let flat = joined (λ row. row) rows in flat ++ ones (words - length flat)
+rowWords words (refused r) = ones words
+
+-- the list answers the row count
+unfoldable pub listService : ℕ → ℕ → Bytes → Bytes → Bytes → Bytes → Listed
+listService work words book rules query request =
+    let found = listRows work words book rules query request in
+    record { answer = onAccept found (λ rows. accepted (length rows)); rows = rowWords words found; work = ones work }
