@@ -1,0 +1,4 @@
+-- Stretches of words.
+pub mod Filled
+pub mod FilledLaws
+pub mod Examples
