@@ -7,12 +7,7 @@ use Rattle.model.specs.Bytes.{bytesOf}
 use Rattle.model.specs.Refusal.{Outcome, accepted, refused}
 use Rattle.model.specs.Service.{listRows}
 use Rattle.model.specs.Computing.{computing}
-
-abbrev book : String
-book = "(vattr kind str)\n(vattr rate int)\n(label runs)\n(label feeds)\n(node ana)\n(node hub (kind 'hub'))\n(node S5 (rate 40))\n(node S6)\n(rel runs ana hub)\n(rel feeds S5 hub)\n(rel feeds S6 hub)\n"
-
-abbrev rules : String
-rules = "(category view (actors requestor) (over))\n(policy view \"Match (requestor)-[r:runs]->(h) Return h\")\n"
+use Rattle.model.proofs.Example.{book, rules, request}
 
 -- a query, the requestor, the words of the row buffer, and what the list gives
 record Case : Type 0 where
@@ -30,24 +25,21 @@ rows rs = accepted rs
 abbrev refusal′ : ℕ → ℕ → ℕ → Outcome (List (List ℕ))
 refusal′ n t l = refused (record { number = n; text = t; line = l })
 
-abbrev ana : String
-ana = "(request view (id requestor ana))\n"
-
 -- ana, hub, S5, S6 are the nodes 0, 1, 2, 3
 abbrev cases : List Case
 cases =
-    record { query = "Match (requestor)-[a:runs]->(h)<-[b:feeds]-(s) Where s.rate < 50 Return s"; request = ana; words = 16384; gives = rows ((2 ∷ []) ∷ []) }
-    ∷ record { query = "Match (requestor)-[a:runs]->(h)<-[b:feeds]-(s) Return s"; request = ana; words = 16384; gives = rows ((2 ∷ []) ∷ (3 ∷ []) ∷ []) }
-    ∷ record { query = "Match (requestor)-[a:runs]->(h)<-[b:feeds]-(s) Where s.rate <> 50 Return s"; request = ana; words = 16384; gives = rows ((2 ∷ []) ∷ []) }
-    ∷ record { query = "Match (requestor)-[a:runs]->(h)<-[b:feeds]-(s) Where s.rate < 40 Return s"; request = ana; words = 16384; gives = rows [] }
-    ∷ record { query = "Match (requestor)-[a:runs]->(h)<-[b:feeds]-(s) Where s.rate <= 40 Return s"; request = ana; words = 16384; gives = rows ((2 ∷ []) ∷ []) }
+    record { query = "Match (requestor)-[a:runs]->(h)<-[b:feeds]-(s) Where s.rate < 50 Return s"; request = request; words = 16384; gives = rows ((2 ∷ []) ∷ []) }
+    ∷ record { query = "Match (requestor)-[a:runs]->(h)<-[b:feeds]-(s) Return s"; request = request; words = 16384; gives = rows ((2 ∷ []) ∷ (3 ∷ []) ∷ []) }
+    ∷ record { query = "Match (requestor)-[a:runs]->(h)<-[b:feeds]-(s) Where s.rate <> 50 Return s"; request = request; words = 16384; gives = rows ((2 ∷ []) ∷ []) }
+    ∷ record { query = "Match (requestor)-[a:runs]->(h)<-[b:feeds]-(s) Where s.rate < 40 Return s"; request = request; words = 16384; gives = rows [] }
+    ∷ record { query = "Match (requestor)-[a:runs]->(h)<-[b:feeds]-(s) Where s.rate <= 40 Return s"; request = request; words = 16384; gives = rows ((2 ∷ []) ∷ []) }
     ∷ record { query = "Match (requestor)-[a:runs]->(h)<-[b:feeds]-(s) Where s.rate < 50 Return s"; request = "(request view (id requestor S5))\n"; words = 16384; gives = rows [] }
-    ∷ record { query = "Match (requestor)-[a:runs]->(h)<-[b:feeds]-(s) Where s.rate < 50 Match (t) Return s"; request = ana; words = 16384; gives = refusal′ 13 5 0 }
-    ∷ record { query = "Match (requestor)-[a:runs]->(h)<-[b:feeds]-(s) Where h <> h Return s"; request = ana; words = 16384; gives = refusal′ 8 3 1 }
-    ∷ record { query = "Match (requestor)-[a:runs]->(h)<-[b:feeds]-(s) Where s.rate < 50 Return s"; request = ana; words = 0; gives = refusal′ 14 5 0 }
-    ∷ record { query = "Match (requestor)-[a:runs]->(h)<-[b:feeds]-(s) Where s.rate < 40 Return s"; request = ana; words = 0; gives = rows [] }
-    ∷ record { query = "Match (requestor)-[a:runs]->(h)<-[b:feeds]-(s) Where s.rate = 'x' Return s"; request = ana; words = 16384; gives = refusal′ 6 3 1 }
-    ∷ record { query = "Match (requestor)-[a:runs]->(h)<-[b:feeds]-(s) Where s.rate < 50 Return s, s"; request = ana; words = 16384; gives = refusal′ 5 3 1 }
+    ∷ record { query = "Match (requestor)-[a:runs]->(h)<-[b:feeds]-(s) Where s.rate < 50 Match (t) Return s"; request = request; words = 16384; gives = refusal′ 13 5 0 }
+    ∷ record { query = "Match (requestor)-[a:runs]->(h)<-[b:feeds]-(s) Where h <> h Return s"; request = request; words = 16384; gives = refusal′ 8 3 1 }
+    ∷ record { query = "Match (requestor)-[a:runs]->(h)<-[b:feeds]-(s) Where s.rate < 50 Return s"; request = request; words = 0; gives = refusal′ 14 5 0 }
+    ∷ record { query = "Match (requestor)-[a:runs]->(h)<-[b:feeds]-(s) Where s.rate < 40 Return s"; request = request; words = 0; gives = rows [] }
+    ∷ record { query = "Match (requestor)-[a:runs]->(h)<-[b:feeds]-(s) Where s.rate = 'x' Return s"; request = request; words = 16384; gives = refusal′ 6 3 1 }
+    ∷ record { query = "Match (requestor)-[a:runs]->(h)<-[b:feeds]-(s) Where s.rate < 50 Return s, s"; request = request; words = 16384; gives = refusal′ 5 3 1 }
     ∷ []
 
 table : map run cases ≡ map (λ c. c .gives) cases

@@ -1,19 +1,64 @@
+-- The laws of the model: its theorems first, then what they rest on.
+
+-- the paper's example, and its cases computed
+pub mod Example
 pub mod Cases
+-- the theorems, a file each
+pub mod ExactModels
+pub mod EdgesMet
+pub mod RoundTrip
+pub mod Weaving
+pub mod RowsHad
+pub mod Accepted
+-- tests, lists and outcomes
 pub mod Decides
 pub mod Members
+pub mod Places
+pub mod FirstNames
+pub mod Outcomes
+pub mod AllowedBytes
+pub mod Skips
+-- models of a text, by nodes and by number
 pub mod Chains
 pub mod ByNodes
 pub mod Choices
-pub mod RowsHad
-pub mod ExactModels
-pub mod Accepted
-pub mod Skips
+pub mod NumberedMappings
+-- what accepted texts hold
+pub mod Scopes
+pub mod LineItems
+pub mod AcceptedQuery
+pub mod AcceptedRules
+pub mod AcceptedRequest
+-- the woven pattern
+pub mod WovenNames
+pub mod Families
 pub mod WovenParts
-pub mod WovenRows
-pub mod PlainNames
-pub mod Weaving
+pub mod WovenMapping
+pub mod WovenFamily
+-- the written query
 pub mod WrittenSigns
+pub mod WrittenConditions
+pub mod WrittenText
 pub mod WrittenPieces
-pub mod WrittenPattern
+pub mod WritableSigns
+pub mod WritablePieces
 pub mod WellFormed
-pub mod RoundTrip
+pub mod ReadBack
+pub mod ReadBackFaults
+pub mod WrittenForm
+pub mod WrittenBytes
+pub mod WrittenReads
+-- the rows in order; categories below one and vertices tied to an identity as closures
+pub mod Pairwise
+pub mod Ascending
+pub mod Closures
+pub mod Enforced
+pub mod Tied
+-- refusals: exclusive, complete, in the paper's order
+pub mod Faults
+pub mod TextRefusals
+pub mod Refusals
+pub mod ListRefusals
+-- computed: two faults at once, the limits of a full book, the traps
+pub mod RefusalCases
+pub mod Traps

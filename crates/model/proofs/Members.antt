@@ -1,19 +1,19 @@
--- Membership in the lists of the model.
+-- Membership in the lists of the model. A law in -i says how it comes about, the same name in -e what it gives.
 use Prim.Native.Nat.{ℕ, zero, suc, _<_}
-use mathlib.Core.Path.{_≡_, refl, sym, ap, subst, _∙_}
+use mathlib.Core.Path.{_≡_, refl, sym, ap, subst}
 use mathlib.Core.Logic.{_⊎_, inl, inr, ⊎-elim, _≢_}
-use mathlib.Core.List.{List, [], _∷_, _++_, map, List·Memᴰ, List·Memᴰ·head, List·Memᴰ·tail, List·Memᴰ·cases-cons as cases-cons, List·Memᴰ·append-cases as append-cases, Memᴰ·append-left, Memᴰ·append-right}
-use mathlib.Core.Bool.{Bool, true, false, not, _&&_, _||_}
+use mathlib.Core.List.{List, [], _∷_, map, List·Memᴰ, List·Memᴰ·head, List·Memᴰ·tail, List·Memᴰ·cases-cons as cases-cons, List·Memᴰ·append-cases as append-cases, Memᴰ·append-left, Memᴰ·append-right}
+use mathlib.Core.Bool.{Bool, true, false}
 use native.Mathlib.Omega.{arith}
-use lib.ListN.{length, getD}
+use lib.ListN.{getD}
 use lib.Dec.{T, eqb, eqb→eq, eqb-refl}
 use Rattle.model.specs.Bytes.{Bytes, same}
-use Rattle.model.specs.Choice.{pick}
 use Rattle.model.specs.Lists.{any, all, keep, joined, upTo, below, placeWhere}
 use Rattle.model.specs.Names.{mem, place, addNew, firsts}
 use Rattle.model.specs.Graph.{Each}
-use Rattle.model.proofs.Decides.{same→eq, same-refl, pick-iff}
+use Rattle.model.proofs.Decides.{each-all, same→eq, same-refl}
 
+-- an element of a list
 infix 40 _∈_
 abbrev pub _∈_ : {A : Type 0} → A → List A → Type 0
 a ∈ l = List·Memᴰ a l
@@ -23,35 +23,50 @@ pub test : (b : Bool) → T b ⊎ (T b → ⊥)
 test true = inl tt
 test false = inr (λ t. t)
 
+-- a test that holds is true
 pub is-true : (b : Bool) → T b → b ≡ true
 is-true true t = refl
 is-true false t = absurd t
 
+-- a test that does not hold is false
 pub is-false : (b : Bool) → (T b → ⊥) → b ≡ false
 is-false true t = absurd (t tt)
 is-false false t = refl
 
 module _ {A : Type 0} where
+  -- what holds of every element holds of each
   pub each-e : (P : A → Type 0) (l : List A) → Each P l → (x : A) → x ∈ l → P x
   each-e P [] u x m = elim m [ ]
   each-e P (y ∷ l) u x m = ⊎-elim (λ e. subst P (sym e) (u .0)) (λ t. each-e P l (u .1) x t) (cases-cons m)
 
+  -- what holds of each element holds of every element
   pub each-i : (P : A → Type 0) (l : List A) → ((x : A) → x ∈ l → P x) → Each P l
   each-i P [] h = tt
   each-i P (y ∷ l) h = (h y (List·Memᴰ·head refl), each-i P l (λ x m. h x (List·Memᴰ·tail m)))
 
+  -- a test that holds somewhere holds of an element
   pub any-e : (p : A → Bool) (l : List A) → T (any p l) → (x : A) × (x ∈ l) × T (p x)
   unfolding any
   any-e p [] t = absurd t
   any-e p (y ∷ l) t = ⊎-elim (λ h. (y, List·Memᴰ·head refl, h))
       (λ h. let r = any-e p l (rw (is-false (p y) h) at t) in (r .0, List·Memᴰ·tail (r .1), r .2)) (test (p y))
 
+  -- a test that holds of an element holds somewhere
   pub any-i : (p : A → Bool) (l : List A) (x : A) → x ∈ l → T (p x) → T (any p l)
   unfolding any
   any-i p [] x m t = elim m [ ]
   any-i p (y ∷ l) x m t = ⊎-elim (λ h. rw (is-true (p y) h) tt)
       (λ h. ⊎-elim (λ e. absurd (h (subst (λ z. T (p z)) e t))) (λ n. rw (is-false (p y) h) (any-i p l x n t)) (cases-cons m)) (test (p y))
 
+  -- a test that holds everywhere holds of each element
+  pub all-e : (p : A → Bool) (l : List A) → T (all p l) → (x : A) → x ∈ l → T (p x)
+  all-e p l t = each-e (λ x. T (p x)) l (each-all (λ x. T (p x)) p (λ x. (λ u. u, λ u. u)) l .1 t)
+
+  -- a test that holds of each element holds everywhere
+  pub all-i : (p : A → Bool) (l : List A) → ((x : A) → x ∈ l → T (p x)) → T (all p l)
+  all-i p l h = each-all (λ x. T (p x)) p (λ x. (λ u. u, λ u. u)) l .0 (each-i (λ x. T (p x)) l h)
+
+  -- what is kept is of the list and passes the test
   pub keep-e : (p : A → Bool) (l : List A) (x : A) → x ∈ keep p l → (x ∈ l) × T (p x)
   unfolding keep
   keep-e p [] x m = elim m [ ]
@@ -60,6 +75,7 @@ module _ {A : Type 0} where
       (cases-cons (rw (is-true (p y) h) at m)))
       (λ h. let r = keep-e p l x (rw (is-false (p y) h) at m) in (List·Memᴰ·tail (r .0), r .1)) (test (p y))
 
+  -- what is of the list and passes the test is kept
   pub keep-i : (p : A → Bool) (l : List A) (x : A) → x ∈ l → T (p x) → x ∈ keep p l
   unfolding keep
   keep-i p [] x m t = elim m [ ]
@@ -67,46 +83,55 @@ module _ {A : Type 0} where
       (λ h. rw (is-true (p y) h) (⊎-elim (λ e. List·Memᴰ·head e) (λ n. List·Memᴰ·tail (keep-i p l x n t)) (cases-cons m)))
       (λ h. ⊎-elim (λ e. absurd (h (subst (λ z. T (p z)) e t))) (λ n. rw (is-false (p y) h) (keep-i p l x n t)) (cases-cons m)) (test (p y))
 
+  -- f of an element is among f of the elements
   pub map-i : {B : Type 0} (f : B → A) (l : List B) (x : B) → x ∈ l → f x ∈ map f l
   map-i f [] x m = elim m [ ]
   map-i f (y ∷ l) x m = ⊎-elim (λ e. List·Memᴰ·head (ap f e)) (λ n. List·Memᴰ·tail (map-i f l x n)) (cases-cons m)
 
+  -- what is among them is f of an element
   pub map-e : {B : Type 0} (f : B → A) (l : List B) (y : A) → y ∈ map f l → (x : B) × (x ∈ l) × (y ≡ f x)
   map-e f [] y m = elim m [ ]
   map-e f (z ∷ l) y m = ⊎-elim (λ e. (z, List·Memᴰ·head refl, e)) (λ n. let r = map-e f l y n in (r .0, List·Memᴰ·tail (r .1), r .2)) (cases-cons m)
 
+  -- an element of one of the lists is of the lists joined
   pub joined-i : {B : Type 0} (f : B → List A) (l : List B) (y : B) → y ∈ l → (x : A) → x ∈ f y → x ∈ joined f l
   unfolding joined
   joined-i f [] y m x n = elim m [ ]
   joined-i f (z ∷ l) y m x n = ⊎-elim (λ e. Memᴰ·append-left (joined f l) (subst (λ w. x ∈ f w) e n)) (λ k. Memᴰ·append-right (f z) (joined-i f l y k x n)) (cases-cons m)
 
+  -- and an element of the lists joined is of one of them
   pub joined-e : {B : Type 0} (f : B → List A) (l : List B) (x : A) → x ∈ joined f l → (y : B) × (y ∈ l) × (x ∈ f y)
   unfolding joined
   joined-e f [] x m = elim m [ ]
   joined-e f (z ∷ l) x m = ⊎-elim (λ n. (z, List·Memᴰ·head refl, n)) (λ n. let r = joined-e f l x n in (r .0, List·Memᴰ·tail (r .1), r .2)) (append-cases (f z) m)
 
--- names
+-- a name that is found stands in the list
 pub mem-e : (w : Bytes) (ws : List Bytes) → T (mem w ws) → w ∈ ws
 unfolding mem
 mem-e w ws t = let r = any-e (same w) ws t in mathlib.Core.List.Memᴰ·cast (same→eq w (r .0) (r .2)) (r .1)
 
+-- and a name that stands in a list is found
 pub mem-i : (w : Bytes) (ws : List Bytes) → w ∈ ws → T (mem w ws)
 unfolding mem
 mem-i w ws m = any-i (same w) ws w m (same-refl w)
 
+-- a name that is there stays
 pub addNew-old : (ws : List Bytes) (w x : Bytes) → x ∈ ws → x ∈ addNew ws w
 unfolding addNew
 addNew-old ws w x m = ⊎-elim (λ h. rw (is-true (mem w ws) h) m) (λ h. rw (is-false (mem w ws) h) (Memᴰ·append-left (w ∷ []) m)) (test (mem w ws))
 
+-- a name that is added is there
 pub addNew-new : (ws : List Bytes) (w : Bytes) → w ∈ addNew ws w
 unfolding addNew
 addNew-new ws w = ⊎-elim (λ h. rw (is-true (mem w ws) h) (mem-e w ws h)) (λ h. rw (is-false (mem w ws) h) (Memᴰ·append-right ws (List·Memᴰ·head refl))) (test (mem w ws))
 
+-- a name that was seen stays
 pub firsts-old : (seen ws : List Bytes) (x : Bytes) → x ∈ seen → x ∈ firsts seen ws
 unfolding firsts
 firsts-old seen [] x m = m
 firsts-old seen (w ∷ ws) x m = firsts-old (addNew seen w) ws x (addNew-old seen w x m)
 
+-- a name of the list is among the first appearances
 pub firsts-i : (seen ws : List Bytes) (x : Bytes) → x ∈ ws → x ∈ firsts seen ws
 unfolding firsts
 firsts-i seen [] x m = elim m [ ]
@@ -117,6 +142,7 @@ unfolding addNew
 addNew-e ws w x m = ⊎-elim (λ h. inr (rw (is-true (mem w ws) h) at m))
     (λ h. ⊎-elim inr (λ n. inl (mathlib.Core.List.List·Memᴰ·eq-of-singleton n)) (append-cases ws (rw (is-false (mem w ws) h) at m))) (test (mem w ws))
 
+-- a first appearance was seen or is of the list
 pub firsts-e : (seen ws : List Bytes) (x : Bytes) → x ∈ firsts seen ws → (x ∈ seen) ⊎ (x ∈ ws)
 unfolding firsts
 firsts-e seen [] x m = inl m
@@ -134,6 +160,7 @@ upTo-i zero ns x h = absurd (omega arith)
 upTo-i (suc n) ns x h = ⊎-elim (λ t. upTo-old n (n ∷ ns) x (List·Memᴰ·head (eqb→eq x n t)))
     (λ t. let d : x ≢ n = λ e. t (subst (λ z. T (eqb x z)) e (eqb-refl x)) in upTo-i n (n ∷ ns) x (omega arith)) (test (eqb x n))
 
+-- a number below n is one of them
 pub below-i : (n x : ℕ) → x < n → x ∈ below n
 below-i n x h = upTo-i n [] x h
 
@@ -142,6 +169,7 @@ unfolding upTo
 upTo-e zero ns x m = inr m
 upTo-e (suc n) ns x m = ⊎-elim (λ h. inl (omega arith)) (λ k. ⊎-elim (λ e. inl (omega arith)) inr (cases-cons k)) (upTo-e n (n ∷ ns) x m)
 
+-- and one of them is below n
 pub below-e : (n x : ℕ) → x ∈ below n → x < n
 below-e n x m = ⊎-elim (λ h. h) (λ k. elim k [ ]) (upTo-e n [] x m)
 

@@ -1,173 +1,181 @@
--- Accepted texts are sound, so the rows of an accepted list are exactly the rows of the woven pattern.
+-- Weaving: the mappings of the woven pattern that keep the identities are the families of mappings of the query and of each enforced policy.
+-- The mappings of a family agree on actors of one name and on the identities, and the row is the same.
 use Prim.Native.Nat.{ℕ}
+use Prim.Native.String.{String}
 use mathlib.Core.Path.{_≡_, refl, sym, ap, subst, _∙_}
-use mathlib.Core.Logic.{_⊎_, ⊎-elim, _↔_}
-use mathlib.Core.List.{List, [], _∷_, List·Memᴰ·cases-cons as cases-cons, List·Memᴰ·append-cases as append-cases, List·Memᴰ·eq-of-singleton as eq-of-singleton}
-use mathlib.Core.Bool.{Bool, true, false, not, _&&_, _||_}
-use native.Mathlib.Omega.{arith}
+use mathlib.Core.Logic.{⊎-elim, _↔_, _≢_}
+use mathlib.Core.List.{List, [], _∷_, map, List·Memᴰ·cases-cons as cases-cons, List·Memᴰ·head}
 use lib.Dec.{T}
-use Rattle.model.specs.Bytes.{Bytes, same}
-use Rattle.model.specs.Choice.{pick, Maybe, nothing, just, andThen}
-use Rattle.model.specs.Lists.{isNil, any, keep}
-use Rattle.model.specs.Names.{mem, twice, place}
-use Rattle.model.specs.Refusal.{accepted, refusal, onAccept}
-use Rattle.model.specs.Lines.{Line, linesOf, Step, fault, known, stepThen, readLines, faultOr, formStep}
-use Rattle.model.specs.Forms.{formOf}
-use Rattle.model.specs.Book.{Book, nodeNames}
-use Rattle.model.specs.ReadBook.{readBook}
+use Rattle.model.specs.Bytes.{Bytes, bytesOf}
+use Rattle.model.specs.Names.{mem, place}
+use Rattle.model.specs.Refusal.{Outcome, accepted, onAccept}
+use Rattle.model.specs.Book.{Book}
 use Rattle.model.specs.QueryText.{QueryText}
-use Rattle.model.specs.Query.{vertexNames, edgeNames}
-use Rattle.model.specs.ReadQuery.{hasUndeclared, hasTwice, readQuery}
-use Rattle.model.specs.Rules.{Category, Policy, Rules, categoryNames, actorsOf, downFrom, enforced}
-use Rattle.model.specs.ReadRules.{RulesLine, category, policy, rulesLine, hasPolicy, rulesFault, addRule, rulesStep, covered, readRules}
-use Rattle.model.specs.Request.{Claim, Identity, Request, RequestLine, requestLine, requestFault, requestOf, requestStep, oneLine, readRequest}
-use Rattle.model.specs.Weave.{Asked, askedQuery, askedPolicies}
-use Rattle.model.specs.Rows.{MayHave}
+use Rattle.model.specs.Query.{vertexNames}
+use Rattle.model.specs.ReadQuery.{readQuery}
+use Rattle.model.specs.Pattern.{Pattern}
+use Rattle.model.specs.Rules.{Rules}
+use Rattle.model.specs.ReadRules.{readRules}
+use Rattle.model.specs.Request.{Identity, Request, readRequest}
+use Rattle.model.specs.Satisfies.{Map}
+use Rattle.model.specs.Weave.{Asked, askedQuery, askedPolicies, wovenName, weave}
+use Rattle.model.specs.MayHave.{Mapped, MayHave}
+use Rattle.model.specs.Rows.{rowsOf}
 use Rattle.model.specs.Service.{listRows}
-use Rattle.model.proofs.Members.{_∈_, each-e, any-i, keep-e, map-e, joined-e, mem-e, mem-i}
-use Rattle.model.proofs.ByNodes.{Named}
-use Rattle.model.proofs.Accepted.{not-e, or-l, or-r, never, bytes-e, accept-e, lowest-e, lowest-2, query-named, query-once, lines-inv, rules-named, list-right}
-use Rattle.model.proofs.WovenRows.{Plain, Sound, WovenRow, weaving}
-use Rattle.model.proofs.PlainNames.{PlainLine, rule-plain}
+use Rattle.model.specs.Computing.{computing}
+use Rattle.model.proofs.Members.{_∈_, map-i}
+use Rattle.model.proofs.Places.{place-injective}
+use Rattle.model.proofs.RowsHad.{rows-may-be-had}
+use Rattle.model.proofs.AllowedBytes.{BeginsWithByte}
+use Rattle.model.proofs.AcceptedQuery.{query-clear, query-named}
+use Rattle.model.proofs.AcceptedRules.{policy-clear, actors-begin, asked-policy}
+use Rattle.model.proofs.AcceptedRequest.{identity-of-actor}
+use Rattle.model.proofs.Accepted.{list-is-exact, policies-named}
+use Rattle.model.proofs.NumberedMappings.{SameOnNumbers}
+use Rattle.model.proofs.WovenNames.{joined-exactly, never-joined-within}
+use Rattle.model.proofs.Families.{askedOf, Family, familyRow, WovenModel, wovenRow, WovenRow, Weavable, had-by-family}
+use Rattle.model.proofs.WovenParts.{Counted}
+use Rattle.model.proofs.WovenMapping.{wovenOf, woven-model, woven-row}
+use Rattle.model.proofs.WovenFamily.{vertices-woven, familyOf, SameFamily, family-of-woven, family-row, family-again, woven-again}
+use Rattle.model.proofs.Example.{book, rules, query, request, theBook, theRules, theQuery, theRequest, rules-read, query-read, request-read}
 
-sound-of : (a : Asked) → Named (a .text) → (T (hasTwice (a .text)) → ⊥) → ((v : Bytes) → v ∈ a .actors → Plain v) → Sound a
-unfolding hasTwice
-sound-of a d h p =
-    let q = a .text in
-    let A = twice (edgeNames q) in
-    let B = any (λ x. mem x (vertexNames q)) (edgeNames q) in
-    let C = twice (q .returns) in
-    record {
-      declared = d;
-      apart = λ x v w. h (or-l (A || B) C (or-r A B (any-i (λ z. mem z (vertexNames q)) (edgeNames q) x w (mem-i x (vertexNames q) v))));
-      once = λ t. h (or-l (A || B) C (or-l A B t));
-      plain = p;
-    }
+-- families and woven mappings correspond: each gives the other, with the same row, and either way back it is the same
+pub record ExactWeaving (b : Book) (ids : List Identity) (asked : List Asked) : Type 0 where
+  pub to-woven : (hs : List Mapped) → Family b ids asked hs → WovenModel b ids asked (wovenOf hs) × (wovenRow asked (wovenOf hs) ≡ familyRow hs)
+  pub to-family : (m : Map) → WovenModel b ids asked m → Family b ids asked (familyOf asked m) × (familyRow (familyOf asked m) ≡ wovenRow asked m)
+  pub family-back : (hs : List Mapped) → Family b ids asked hs → SameFamily (familyOf asked (wovenOf hs)) hs
+  pub woven-back : (m : Map) → WovenModel b ids asked m → SameOnNumbers (weave asked) (wovenOf (familyOf asked m)) m
 
--- what a step knows
-form-e : {S L : Type 0} (m : Maybe L) (f : L → Step S) (y : S) → formStep m f ≡ known y → (l : L) × (m ≡ just l) × (f l ≡ known y)
-unfolding formStep
-form-e nothing f y e = let w : _≡_ {A = ℕ} 0 1 = cc in absurd (omega arith)
-form-e (just l) f y e = (l, refl, e)
-
-fault-e : {S : Type 0} (m : Maybe ℕ) (z y : S) → faultOr m z ≡ known y → (m ≡ nothing) × (z ≡ y)
-unfolding faultOr
-fault-e nothing z y e = (refl, cc)
-fault-e (just n) z y e = let w : _≡_ {A = ℕ} 0 1 = cc in absurd (omega arith)
-
--- no name twice in a policy, and actors that begin with a byte
-abbrev Fine : Rules → Type 0
-Fine r = ((p : Policy) → p ∈ r .policies → T (hasTwice (p .text)) → ⊥) × ((c : Category) → c ∈ r .categories → (v : Bytes) → v ∈ c .actors → Plain v)
-
-fine-step : (b : Book) (r : Rules) (x : RulesLine) (y : Rules) → PlainLine x → faultOr (rulesFault b r x) (addRule r x) ≡ known y → Fine r → Fine y
-unfolding rulesFault addRule
-fine-step b r x y l e h = go x l (fault-e (rulesFault b r x) (addRule r x) y e)
+-- texts whose names are clear and whose actors begin with a byte are woven exactly
+weavable-exact : (b : Book) (ids : List Identity) (asked : List Asked) → ((a : Asked) → a ∈ asked → Weavable a) → ((d : Identity) → d ∈ ids → BeginsWithByte (d .actor)) → ExactWeaving b ids asked
+weavable-exact b ids asked weavable begin = record {
+  to-woven = λ hs f. by hs f (λ z. WovenModel b ids z (wovenOf hs) × (wovenRow z (wovenOf hs) ≡ familyRow hs)) (λ g w. (woven-model b ids hs g w begin, woven-row b ids hs g w begin));
+  to-family = λ m w. (family-of-woven b ids asked m w weavable, family-row asked m weavable);
+  family-back = λ hs f. by hs f (λ z. SameFamily (familyOf z (wovenOf hs)) hs) (λ g w. family-again b ids hs g w begin);
+  woven-back = λ m w. woven-again b ids asked m w weavable;
+}
   where
-    go : (x : RulesLine) → PlainLine x → (rulesFault b r x ≡ nothing) × (addRule r x ≡ y) → Fine y
-    go (category n actors over) l (f, d) = subst Fine d (h .0, λ c k. ⊎-elim (h .1 c) (λ j. subst (λ (z : Category). (v : Bytes) → v ∈ z .actors → Plain v) (sym (eq-of-singleton j)) (λ v i. each-e Plain actors l v i)) (append-cases (r .categories) k))
-    go (policy c bytes q) l (f, d) = subst Fine d (
-      λ p k. ⊎-elim (h .0 p) (λ j. subst (λ (z : Policy). T (hasTwice (z .text)) → ⊥) (sym (eq-of-singleton j))
-          (λ t. lowest-2 4 5 (not (mem c (categoryNames r)) || hasUndeclared b q) (hasPolicy r c || hasTwice q) _ f (or-r (hasPolicy r c) (hasTwice q) t))) (append-cases (r .policies) k),
-      h .1,
+    by : (hs : List Mapped) → Family b ids asked hs → (C : List Asked → Type 0) → (Family b ids (map askedOf hs) hs → ((h : Mapped) → h ∈ hs → Weavable (h .asked)) → C (map askedOf hs)) → C asked
+    by hs f C k = subst C (f .one-each) (k (subst (λ z. Family b ids z hs) (sym (f .one-each)) f) (λ h i. weavable (h .asked) (subst (λ z. h .asked ∈ z) (f .one-each) (map-i askedOf hs h i))))
+
+-- the query and the enforced policies
+abbrev pub askedAll : Rules → Request → QueryText → List Asked
+askedAll r x q = askedQuery r x q ∷ askedPolicies r x
+
+-- accepted texts can be woven: their names are clear, and their actors begin with a byte
+pub accepted-weavable : (b : Book) (rules query : Bytes) (r : Rules) (q : QueryText) (x : Request) → readRules b rules ≡ accepted r → readQuery b query ≡ accepted q → (a : Asked)
+    → a ∈ askedAll r x q → Weavable a
+unfolding askedQuery
+accepted-weavable b rules query r q x e f a k = ⊎-elim
+    (λ p. subst Weavable (sym p) (record { names = query-clear b query q f; actors = actors-begin b rules r e (x .category) }))
+    (λ i. let p = asked-policy r x a i in subst Weavable (sym (p .2)) (record { names = policy-clear b rules r e (p .0) (p .1); actors = actors-begin b rules r e (p .0 .category) }))
+    (cases-cons k)
+
+-- the theorem: accepted texts are woven exactly
+pub exact-weaving : (b : Book) (rules query request : Bytes) (r : Rules) (q : QueryText) (x : Request) → readRules b rules ≡ accepted r → readQuery b query ≡ accepted q
+    → readRequest b r request ≡ accepted x
+    → ExactWeaving b (x .identities) (askedAll r x q)
+exact-weaving b rules query request r q x e f g = weavable-exact b (x .identities) (askedAll r x q) (accepted-weavable b rules query r q x e f)
+    (λ d k. actors-begin b rules r e (x .category) (d .actor) (identity-of-actor b r request x g d k))
+
+-- so the rows of the woven pattern are exactly the rows that may be had
+pub rows-of-woven : (b : Book) (rules query request : Bytes) (r : Rules) (q : QueryText) (x : Request) → readRules b rules ≡ accepted r → readQuery b query ≡ accepted q
+    → readRequest b r request ≡ accepted x
+    → (row : List ℕ) → MayHave b (x .identities) (askedQuery r x q) (askedPolicies r x) row ↔ WovenRow b (x .identities) (askedAll r x q) row
+rows-of-woven b rules query request r q x e f g row =
+    let w = exact-weaving b rules query request r q x e f g in
+    let had = had-by-family b (x .identities) (askedQuery r x q) (askedPolicies r x) row in (
+      λ h. let z = had .0 h in let t = w .to-woven (z .0) (z .1) in record { woven = wovenOf (z .0); model = t .0; gives = sym (t .1 ∙ z .2) },
+      λ h. let t = w .to-family (h .woven) (h .model) in had .1 (familyOf (askedAll r x q) (h .woven), t .0, t .1 ∙ sym (h .gives)),
     )
 
-rules-fine : (b : Book) (s : Bytes) (r : Rules) → readRules b s ≡ accepted r → Fine r
-unfolding readRules rulesStep covered refusal
-rules-fine b s r e =
-    let start : Rules = record { categories = []; policies = [] } in
-    let o = readLines 2 (rulesStep b) 1 start (linesOf s) in
-    let a = accept-e o covered r (bytes-e 2 16384 (λ l. l) s (onAccept o covered) r e) in
-    lines-inv Fine 2 (rulesStep b) (λ x l y d h. let f = form-e (andThen (formOf l) rulesLine) (λ z. faultOr (rulesFault b x z) (addRule x z)) y d in fine-step b x (f .0) y (rule-plain l (f .0) (f .1)) (f .2) h)
-    1 start (linesOf s) r (a .1 ∙ kept (a .0) (any (λ (c : Category). isNil (c .over) && not (hasPolicy (a .0) (c .name))) (a .0 .categories)) (a .2)) (λ p k. elim k [ ], λ c k. elim k [ ])
-  where
-    kept : (z : Rules) (c : Bool) → pick c (refusal 10 2 0) (accepted z) ≡ accepted r → accepted z ≡ accepted r
-    kept z true e = never _ r e
-    kept z false e = e
+-- and exactly the rows of an accepted list
+pub list-of-woven : (work words : ℕ) (book rules query request : Bytes) (rows : List (List ℕ)) (e : listRows work words book rules query request ≡ accepted rows)
+    → let R = list-is-exact work words book rules query request rows e in (row : List ℕ) → (row ∈ rows) ↔ WovenRow (R .b) (R .x .identities) (askedAll (R .r) (R .x) (R .q)) row
+list-of-woven work words book rules query request rows e row =
+    let R = list-is-exact work words book rules query request rows e in
+    let w = rows-of-woven (R .b) rules query request (R .r) (R .q) (R .x) (R .rules-read) (R .query-read) (R .request-read) row in
+    (λ k. w .0 (R .may-be-had row .0 k), λ k. R .may-be-had row .1 (w .1 k))
 
-actors-plain : (r : Rules) → Fine r → (c v : Bytes) → v ∈ actorsOf r c → Plain v
-unfolding actorsOf
-actors-plain r h c v i = let j = joined-e (λ (x : Category). pick (same (x .name) c) (x .actors) []) (r .categories) v i in h .1 (j .0) (j .1) v (some (same (j .0 .name) c) (j .2))
-  where
-    some : {l : List Bytes} (t : Bool) → v ∈ pick t l [] → v ∈ l
-    some true k = k
-    some false k = elim k [ ]
+-- the woven vertex of vertex v of the kth text, a, the texts being counted from 0, the query first
+abbrev pub wovenVertex : List Asked → ℕ → Asked → Bytes → ℕ
+wovenVertex asked k a v = place (wovenName k (a .actors) v) (weave asked .vertices)
 
-policies-e : (r : Rules) (x : Request) (a : Asked) → a ∈ askedPolicies r x → (p : Policy) × (p ∈ r .policies) × (a ≡ record { text = p .text; actors = actorsOf r (p .category) })
-unfolding askedPolicies enforced
-policies-e r x a k =
-    let p = map-e (λ (p : Policy). let z : Asked = record { text = p .text; actors = actorsOf r (p .category) } in z) (enforced r (x .category)) a k in
-    let j = joined-e (λ (d : Bytes). keep (λ (p : Policy). same (p .category) d) (r .policies)) (downFrom r (x .category)) (p .0) (p .1) in
-    (p .0, keep-e (λ (z : Policy). same (z .category) (j .0)) (r .policies) (p .0) (j .2) .0, p .2)
+-- it is there
+abbrev pub IsWoven : List Asked → ℕ → Asked → Bytes → Type 0
+IsWoven asked k a v = wovenName k (a .actors) v ∈ weave asked .vertices
 
--- an identity is of an actor of the request's category
-request-ids : (b : Book) (r : Rules) (s : Bytes) (x : Request) → readRequest b r s ≡ accepted x → (d : Identity) → d ∈ x .identities → d .actor ∈ actorsOf r (x .category)
-unfolding readRequest oneLine requestStep requestFault requestOf refusal stepThen
-request-ids b r s x e = lines (linesOf s) (bytes-e 4 2048 (λ l. l) s (oneLine b r (linesOf s)) x e)
-  where
-    Ids : Request → Type 0
-    Ids y = (d : Identity) → d ∈ y .identities → d .actor ∈ actorsOf r (y .category)
+-- for every vertex of every text it is there
+pub vertices-are-woven : (asked : List Asked) → Counted (λ a. a) (λ k n a. (v : Bytes) → v ∈ vertexNames (a .text) → IsWoven asked k a v) 0 0 asked
+unfolding weave
+vertices-are-woven asked = vertices-woven asked
 
-    one : (z : RequestLine) → requestFault b r z ≡ nothing → Ids (requestOf b z)
-    one z f d k =
-        let B : Claim → Bool = λ c. not (mem (c .actor) (actorsOf r (z .category))) || not (mem (c .node) (nodeNames b)) in
-        let m = map-e (λ (c : Claim). let i : Identity = record { actor = c .actor; node = place (c .node) (nodeNames b) } in i) (z .claims) d k in
-        let C = not (mem (z .category) (categoryNames r)) in
-        let g = lowest-e 4 (C || any B (z .claims)) _ f in
-        let c : Claim = m .0 in
-        let n = mem-e (c .actor) (actorsOf r (z .category)) (not-e (mem (c .actor) (actorsOf r (z .category))) (λ t. g (or-r C (any B (z .claims)) (any-i B (z .claims) c (m .1) (or-l (not (mem (c .actor) (actorsOf r (z .category)))) (not (mem (c .node) (nodeNames b))) t))))) in
-        subst (λ w. w ∈ actorsOf r (z .category)) (sym (ap (λ i. i .actor) (m .2))) n
+-- joined are actor vertices of one name only, each an actor of its own text's category
+pub joined-are-actors : (asked : List Asked) (j k : ℕ) (a c : Asked) → Weavable a → Weavable c → j ≢ k → (v u : Bytes) → IsWoven asked j a v → IsWoven asked k c u
+    → (wovenVertex asked j a v ≡ wovenVertex asked k c u) ↔ ((v ≡ u) × T (mem v (a .actors)) × T (mem u (c .actors)))
+joined-are-actors asked j k a c f g d v u n m =
+    let w = joined-exactly j k (a .actors) (c .actors) v u d (f .actors) (g .actors) in
+    (λ e. w .0 (place-injective (weave asked .vertices) _ _ n m e), λ h. ap (λ z. place z (weave asked .vertices)) (w .1 h))
 
-    step : (y : Step Request) (ls : List Line) → stepThen y 4 1 (λ x. pick (isNil ls) (accepted x) (refusal 3 4 2)) ≡ accepted x → y ≡ known x
-    step (fault n) ls e = never _ x e
-    step (known y) ls e = last (isNil ls) e
-      where
-        last : (t : Bool) → pick t (accepted y) (refusal 3 4 2) ≡ accepted x → known y ≡ known x
-        last true e = let d : y ≡ x = cc in ap known d
-        last false e = never _ x e
+-- and no two vertices of one text are joined
+pub apart-within-a-text : (asked : List Asked) (k : ℕ) (a : Asked) → Weavable a → (v u : Bytes) → IsWoven asked k a v → IsWoven asked k a u → wovenVertex asked k a v ≡ wovenVertex asked k a u → v ≡ u
+apart-within-a-text asked k a f v u n m e = never-joined-within k (a .actors) v u (f .actors) (place-injective (weave asked .vertices) _ _ n m e)
 
-    lines : (ls : List Line) → oneLine b r ls ≡ accepted x → Ids x
-    lines [] e = never _ x e
-    lines (l ∷ ls) e =
-        let f = form-e (andThen (formOf l) requestLine) (λ z. faultOr (requestFault b r z) (requestOf b z)) x (step (requestStep b r l) ls e) in
-        let g = fault-e (requestFault b r (f .0)) (requestOf b (f .0)) x (f .2) in
-        subst Ids (g .1) (one (f .0) (g .0))
+-- Not vacuous: the paper's rules, query and request are accepted,
+weaving-example : ExactWeaving theBook (theRequest .identities) (askedAll theRules theRequest theQuery)
+weaving-example = exact-weaving theBook (bytesOf rules) (bytesOf query) (bytesOf request) theRules theQuery theRequest rules-read query-read request-read
 
--- for accepted texts, the rows of the woven pattern are exactly the rows that may be had
-pub accepted-weaving : (b : Book) (rules query request : Bytes) (r : Rules) (q : QueryText) (x : Request) → readRules b rules ≡ accepted r → readQuery b query ≡ accepted q → readRequest b r request ≡ accepted x
-    → (row : List ℕ) → MayHave b (x .identities) (askedQuery r x q) (askedPolicies r x) row ↔ WovenRow b (x .identities) (askedQuery r x q ∷ askedPolicies r x) row
+-- the two requestors are joined and the two h, of the query and of the policy, are not,
+vertices-example : weave (askedAll theRules theRequest theQuery) .vertices ≡ bytesOf "requestor" ∷ (256 ∷ bytesOf "h") ∷ (256 ∷ bytesOf "s") ∷ (257 ∷ bytesOf "h") ∷ []
+unfolding computing
+vertices-example = refl
+
+-- the woven Return is the query's alone,
+returns-example : weave (askedAll theRules theRequest theQuery) .returns ≡ 2 ∷ []
+unfolding computing
+returns-example = refl
+
+-- and the row of S5 is had, by a family and so by a woven mapping
+rows-example : rowsOf theBook (theRequest .identities) (askedQuery theRules theRequest theQuery) (askedPolicies theRules theRequest) ≡ (2 ∷ []) ∷ []
+unfolding computing
+rows-example = refl
+
+row-example : WovenRow theBook (theRequest .identities) (askedAll theRules theRequest theQuery) (2 ∷ [])
 unfolding askedQuery
-accepted-weaving b rules query request r q x e f g =
-    let h = rules-fine b rules r e in
-    weaving b (x .identities) (askedQuery r x q) (askedPolicies r x)
-    (λ a k. ⊎-elim (λ p. subst Sound (sym p) (sound-of (askedQuery r x q) (query-named b query q f) (query-once b query q f) (actors-plain r h (x .category))))
-    (λ i. let p = policies-e r x a i in subst Sound (sym (p .2)) (sound-of _ (rules-named b rules r e (p .0) (p .1)) (h .0 (p .0) (p .1)) (actors-plain r h (p .0 .category)))) (cases-cons k))
-    (λ d k. actors-plain r h (x .category) (d .actor) (request-ids b r request x g d k))
+row-example = rows-of-woven theBook (bytesOf rules) (bytesOf query) (bytesOf request) theRules theQuery theRequest rules-read query-read request-read (2 ∷ []) .0
+    (rows-may-be-had theBook (theRequest .identities) (askedQuery theRules theRequest theQuery) (askedPolicies theRules theRequest)
+    (query-named theBook (bytesOf query) theQuery query-read) (policies-named theBook (bytesOf rules) theRules rules-read theRequest) (2 ∷ []) .0
+    (subst (λ rows. 2 ∷ [] ∈ rows) (sym rows-example) (List·Memᴰ·head refl)))
 
--- the rows of an accepted list are exactly the rows of the woven pattern
-pub record RightWoven (book rules query request : Bytes) (rows : List (List ℕ)) : Type 0 where
-  pub b : Book
-  pub r : Rules
-  pub q : QueryText
-  pub x : Request
-  pub book-read : readBook book ≡ accepted b
-  pub rules-read : readRules b rules ≡ accepted r
-  pub query-read : readQuery b query ≡ accepted q
-  pub request-read : readRequest b r request ≡ accepted x
-  pub of-woven : (row : List ℕ) → (row ∈ rows) ↔ WovenRow b (x .identities) (askedQuery r x q ∷ askedPolicies r x) row
+-- Two categories, one over the other: boss is an actor of audit, and of the query's category, audit, but not of view.
+abbrev more-rules : String
+more-rules = "(category view (actors requestor) (over))\n(category audit (actors requestor boss) (over view))\n(policy audit \"Match (boss)-[f:feeds]->(h) Return h\")\n(policy view \"Match (requestor)-[r:runs]->(boss) Return boss\")\n"
 
-pub list-woven : (work words : ℕ) (book rules query request : Bytes) (rows : List (List ℕ)) → listRows work words book rules query request ≡ accepted rows → RightWoven book rules query request rows
-list-woven work words book rules query request rows e =
-    let R = list-right work words book rules query request rows e in
-    record {
-      b = R .b;
-      r = R .r;
-      q = R .q;
-      x = R .x;
-      book-read = R .book-read;
-      rules-read = R .rules-read;
-      query-read = R .query-read;
-      request-read = R .request-read;
-      of-woven = λ row.
-          let w = accepted-weaving (R .b) rules query request (R .r) (R .q) (R .x) (R .rules-read) (R .query-read) (R .request-read) row in
-          (λ k. w .0 (R .may-be-had row .0 k), λ k. R .may-be-had row .1 (w .1 k));
-    }
+abbrev more-query : String
+more-query = "Match (requestor)-[a:runs]->(h)<-[b:feeds]-(boss) Return h, boss"
+
+abbrev more-request : String
+more-request = "(request audit (id requestor ana))\n"
+
+-- what the rules and the query are woven to, against the paper's book
+abbrev more-woven : Outcome Pattern
+more-woven =
+    onAccept (readRules theBook (bytesOf more-rules)) (λ r.
+    onAccept (readQuery theBook (bytesOf more-query)) (λ q.
+    onAccept (readRequest theBook r (bytesOf more-request)) (λ x. accepted (weave (askedAll r x q)))))
+
+-- both policies are enforced, view's first; the query's boss is joined to audit's, and view's boss is a vertex of its own
+more-example : more-woven ≡ accepted (record {
+  vertices = bytesOf "requestor" ∷ (256 ∷ bytesOf "h") ∷ bytesOf "boss" ∷ (257 ∷ bytesOf "boss") ∷ (258 ∷ bytesOf "h") ∷ [];
+  edges = record { name = bytesOf "a"; label = bytesOf "runs"; from = 0; to = 1 } ∷ record { name = bytesOf "b"; label = bytesOf "feeds"; from = 2; to = 1 }
+      ∷ record { name = bytesOf "r"; label = bytesOf "runs"; from = 0; to = 3 } ∷ record { name = bytesOf "f"; label = bytesOf "feeds"; from = 2; to = 4 } ∷ [];
+  clauses = [];
+  returns = 1 ∷ 2 ∷ [];
+})
+unfolding computing
+more-example = refl
+
+-- so S5 and S6 are had, each as boss
+more-rows-example : listRows 16384 16384 (bytesOf book) (bytesOf more-rules) (bytesOf more-query) (bytesOf more-request) ≡ accepted ((1 ∷ 2 ∷ []) ∷ (1 ∷ 3 ∷ []) ∷ [])
+unfolding computing
+more-rows-example = refl

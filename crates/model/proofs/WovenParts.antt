@@ -1,29 +1,26 @@
 -- Satisfaction of the woven pattern, part by part: one statement for each text.
 use Prim.Native.Nat.{ℕ, _+_, _-_, _<_, _≤_}
-use mathlib.Core.Path.{_≡_, refl, sym, subst, subst₂, subst₃, _∙_}
-use mathlib.Core.Logic.{_⊎_, ⊎-elim, _≢_}
+use mathlib.Core.Path.{_≡_, refl, sym, subst, subst₂, _∙_, ap}
+use mathlib.Core.Logic.{⊎-elim}
 use mathlib.Core.List.{List, [], _∷_, _++_, map, List·Memᴰ·head, List·Memᴰ·tail, List·Memᴰ·append-cases as append-cases, Memᴰ·append-left, Memᴰ·append-right}
-use mathlib.Core.Bool.{Bool, true, false}
 use native.Mathlib.Omega.{arith}
 use lib.ListN.{length, getD, length-append, List·getD-append}
 use lib.Seq.{getD-append-add}
 use lib.Dec.{T, ltb, ltb→lt, lt→ltb}
 use Rattle.model.specs.Bytes.{Bytes}
-use Rattle.model.specs.Choice.{pick}
 use Rattle.model.specs.Lists.{joined, below}
-use Rattle.model.specs.Names.{mem, place}
+use Rattle.model.specs.Names.{place, firsts}
 use Rattle.model.specs.Book.{Book}
-use Rattle.model.specs.QueryText.{Condition, differ, demand, QueryText}
-use Rattle.model.specs.Query.{ChainEdge, vertexNames, edgesOf, edgeNames, conditionsOf}
-use Rattle.model.specs.Pattern.{Pattern, Edge, Clause, excluded, vertexHas, edgeHas, clauseOf, edgeOf, patternOf}
-use Rattle.model.specs.Graph.{Each, IsNode, relEntries, nodeEntries, valueIn, meets}
+use Rattle.model.specs.Query.{vertexNames}
+use Rattle.model.specs.Pattern.{Pattern, Edge, Clause, excluded, vertexHas, edgeHas, patternOf}
+use Rattle.model.specs.Graph.{Each, IsNode}
 use Rattle.model.specs.Models.{EdgeHolds}
 use Rattle.model.specs.Satisfies.{Map, edgeAt, NumberedEdgeHolds, ClauseHolds, Satisfies}
-use Rattle.model.specs.Weave.{Asked, wovenName, named, moved, movedEdge, movedClause, movedClauses}
-use Rattle.model.proofs.Members.{_∈_, test, each-e, each-i, map-i, map-e, mem-e, mem-i, below-i, below-e}
-use Rattle.model.proofs.ByNodes.{NamedIn, Named}
-use Rattle.model.proofs.Chains.{chain-ends}
-use Rattle.model.proofs.ExactModels.{at-place, getD-in, getD-map, length-map, noEdge, stands, edge-of, condition-in}
+use Rattle.model.specs.Weave.{Asked, wovenName, named, moved, movedEdge, movedClause, movedClauses, returnsOf}
+use Rattle.model.specs.MayHave.{Mapped}
+use Rattle.model.proofs.Members.{_∈_, test, each-e, each-i, map-i, map-e, below-i, below-e, place-map}
+use Rattle.model.proofs.Places.{at-place, getD-in, getD-map, length-map}
+use Rattle.model.proofs.ByNodes.{Named}
 
 -- the edges of a text's pattern
 abbrev pub edgesIn : Asked → ℕ
@@ -34,27 +31,42 @@ abbrev pub Counted : {A : Type 0} → (A → Asked) → (ℕ → ℕ → A → T
 Counted of P k n [] = Unit {0}
 Counted of P k n (x ∷ xs) = P k n x × Counted of P (k + 1) (n + edgesIn (of x)) xs
 
-pub counted-map : {A : Type 0} (of : A → Asked) (P Q : ℕ → ℕ → A → Type 0) (k n : ℕ) (l : List A) → ((j i : ℕ) (x : A) → k ≤ j → n ≤ i → x ∈ l → P j i x → Q j i x) → Counted of P k n l → Counted of Q k n l
+-- a statement that follows, text by text
+pub counted-map : {A : Type 0} (of : A → Asked) (P Q : ℕ → ℕ → A → Type 0) (k n : ℕ) (l : List A) → ((j i : ℕ) (x : A) → k ≤ j → n ≤ i → x ∈ l → P j i x → Q j i x) → Counted of P k n l
+    → Counted of Q k n l
 counted-map of P Q k n [] f h = tt
 counted-map of P Q k n (x ∷ l) f h = (
   f k n x (omega arith) (omega arith) (List·Memᴰ·head refl) (h .0),
   counted-map of P Q (k + 1) (n + edgesIn (of x)) l (λ j i y p q m g. f j i y (omega arith) (omega arith) (List·Memᴰ·tail m) g) (h .1),
 )
 
+-- two such statements
+pub counted-both : {A : Type 0} (of : A → Asked) (P Q : ℕ → ℕ → A → Type 0) (k n : ℕ) (l : List A) → Counted of P k n l → Counted of Q k n l → Counted of (λ j i x. P j i x × Q j i x) k n l
+counted-both of P Q k n [] f g = tt
+counted-both of P Q k n (x ∷ l) f g = ((f .0, g .0), counted-both of P Q (k + 1) (n + edgesIn (of x)) l (f .1) (g .1))
+
+-- of mappings and of their texts
+pub counted-asked : (P : ℕ → ℕ → Asked → Type 0) (k n : ℕ) (hs : List Mapped) → Counted (λ h. h .asked) (λ j i h. P j i (h .asked)) k n hs → Counted (λ a. a) P k n (map (λ h. h .asked) hs)
+counted-asked P k n [] f = tt
+counted-asked P k n (h ∷ hs) f = (f .0, counted-asked P (k + 1) (n + edgesIn (h .asked)) hs (f .1))
+
 -- the map of a text's pattern within a map of the woven pattern
 abbrev pub within : List Bytes → Map → ℕ → ℕ → Asked → Map
 within vs m k n a = record { node = λ i. m .node (place (getD (map (wovenName k (a .actors)) (vertexNames (a .text))) i []) vs); rel = λ i. m .rel (n + i) }
 
+-- a text's pattern is satisfied within a map of the woven pattern
 abbrev pub Part : Book → List Bytes → Map → ℕ → ℕ → Asked → Type 0
 Part b vs m k n a = Satisfies b (patternOf (a .text)) (within vs m k n a)
 
--- the edges of a list hold, counted from n
-abbrev pub none : Edge
+-- the edge where there is none
+abbrev none : Edge
 none = record { name = []; label = []; from = 0; to = 0 }
 
+-- an edge has its relationship, which is that of number i
 abbrev pub Holds : Book → Map → ℕ → Edge → Type 0
 Holds b m i e = EdgeHolds b (m .rel i) (e .label) (m .node (e .from)) (m .node (e .to))
 
+-- the edges of a list have theirs, counted from n
 abbrev pub EdgesAt : Book → Map → ℕ → List Edge → Type 0
 EdgesAt b m n es = (i : ℕ) → i < length es → Holds b m (n + i) (getD es i none)
 
@@ -62,6 +74,7 @@ EdgesAt b m n es = (i : ℕ) → i < length es → Holds b m (n + i) (getD es i 
 pub edges-e : (b : Book) (m : Map) (es : List Edge) → EdgesAt b m 0 es → (i : ℕ) → i < length es → Holds b m i (getD es i none)
 edges-e b m es h i l = let e : 0 + i ≡ i = omega arith in subst (λ z. Holds b m z (getD es i none)) e (h i l)
 
+-- and from the first
 pub edges-i : (b : Book) (m : Map) (es : List Edge) → ((i : ℕ) → i < length es → Holds b m i (getD es i none)) → EdgesAt b m 0 es
 edges-i b m es h i l = let e : i ≡ 0 + i = omega arith in subst (λ z. Holds b m z (getD es i none)) e (h i l)
 
@@ -96,13 +109,18 @@ each-both : {A : Type 0} (P : A → Type 0) (xs ys : List A) → Each P xs → E
 each-both P xs ys f g = each-i P (xs ++ ys) (λ x m. ⊎-elim (each-e P xs f x) (each-e P ys g x) (append-cases xs m))
 
 -- the pattern of a text under woven names
-abbrev namedOne : ℕ → Asked → Pattern
+abbrev pub namedOne : ℕ → Asked → Pattern
 namedOne k a = record { vertices = map (wovenName k (a .actors)) (vertexNames (a .text)); edges = patternOf (a .text) .edges; clauses = patternOf (a .text) .clauses; returns = patternOf (a .text) .returns }
 
--- the woven vertices and edges of texts
+-- the vertices of texts under woven names, one text after another
 abbrev pub verticesOf : ℕ → List Asked → List Bytes
 verticesOf k asked = joined (λ p. p .vertices) (named k asked)
 
+-- the woven vertices
+abbrev pub wovenVertices : List Asked → List Bytes
+wovenVertices asked = firsts [] (verticesOf 0 asked)
+
+-- the woven edges of texts
 abbrev pub wovenEdges : List Bytes → ℕ → List Asked → List Edge
 wovenEdges vs k asked = joined (λ p. map (movedEdge vs p) (p .edges)) (named k asked)
 
@@ -124,7 +142,8 @@ module _ (b : Book) (vs : List Bytes) (m : Map) where
             g _ (at-place vs (getD ws i []) (f (getD ws i []) (getD-in ws i [] t)) .0));
         edges = each-i (NumberedEdgeHolds b p (within vs m k n a)) (below (length (p .edges))) (λ i l. let t = below-e _ i l in
             subst (Holds b m (n + i)) (getD-map (movedEdge vs (namedOne k a)) (p .edges) i none none t) (h i (subst (λ z. i < z) (sym (length-map (movedEdge vs (namedOne k a)) (p .edges))) t)));
-        clauses = each-i (ClauseHolds b (within vs m k n a)) (p .clauses) (λ d l. subst (λ z. z) (clause-iff k n a d) (each-e (ClauseHolds b m) (map (movedClause vs (namedOne k a) n) (p .clauses)) c _ (map-i (movedClause vs (namedOne k a) n) (p .clauses) d l)));
+        clauses = each-i (ClauseHolds b (within vs m k n a)) (p .clauses) (λ d l. subst (λ z. z) (clause-iff k n a d)
+            (each-e (ClauseHolds b m) (map (movedClause vs (namedOne k a) n) (p .clauses)) c _ (map-i (movedClause vs (namedOne k a) n) (p .clauses) d l)));
       }
 
   part-e : (k n : ℕ) (a : Asked) → Part b vs m k n a
@@ -192,46 +211,19 @@ vertices-i of vs k n (x ∷ l) f =
       vertices-i of vs (k + 1) (n + edgesIn (of x)) l (λ w i. f w (Memᴰ·append-right (map g (vertexNames (of x .text))) i)),
     )
 
--- a pattern's satisfaction looks only at the pattern's own vertices and edges
-module _ (b : Book) (q : QueryText) (d : Named q) (apart : (x : Bytes) → x ∈ vertexNames q → x ∈ edgeNames q → ⊥) (m p : Map)
-    (vertices : (i : ℕ) → i < length (vertexNames q) → m .node i ≡ p .node i)
-    (rels : (i : ℕ) → i < length (patternOf q .edges) → m .rel i ≡ p .rel i) where
-  nodes : (v : Bytes) → v ∈ vertexNames q → m .node (place v (vertexNames q)) ≡ p .node (place v (vertexNames q))
-  nodes v n = vertices (place v (vertexNames q)) (at-place (vertexNames q) v n .0)
+-- the nodes of the woven Return vertices are those of the first text's Return names
+pub woven-returns : (vs : List Bytes) (m : Map) (f : Bytes → ℕ) (a : Asked) (others : List Asked) → Named (a .text)
+    → ((v : Bytes) → v ∈ vertexNames (a .text) → m .node (place (wovenName 0 (a .actors) v) vs) ≡ f v)
+    → map (m .node) (returnsOf vs (named 0 (a ∷ others))) ≡ map f (a .text .returns)
+unfolding returnsOf named patternOf moved
+woven-returns vs m f a others d h = go (a .text .returns) (d .returns)
+  where
+    g : ℕ → ℕ
+    g i = place (getD (map (wovenName 0 (a .actors)) (vertexNames (a .text))) i []) vs
 
-  edge-names : length (edgeNames q) ≡ length (patternOf q .edges)
-  unfolding edgeNames patternOf
-  edge-names = length-map (λ (e : ChainEdge). e .name) (edgesOf q) ∙ sym (length-map (edgeOf (vertexNames q)) (edgesOf q))
-
-  clause-cong : (c : Condition) → NamedIn q c → ClauseHolds b m (clauseOf (vertexNames q) (edgeNames q) c) → ClauseHolds b p (clauseOf (vertexNames q) (edgeNames q) c)
-  unfolding clauseOf
-  clause-cong (differ v u) w h = subst₂ (λ x y. x ≢ y) (nodes v (w .0)) (nodes u (w .1)) h
-  clause-cong (demand x a r v) w h = go (mem x (vertexNames q)) refl h
-    where
-      go : (t : Bool) → mem x (vertexNames q) ≡ t → ClauseHolds b m (pick t (vertexHas (place x (vertexNames q)) a r v) (edgeHas (place x (edgeNames q)) a r v)) → ClauseHolds b p (pick t (vertexHas (place x (vertexNames q)) a r v) (edgeHas (place x (edgeNames q)) a r v))
-      go true e h = subst (λ z. T (meets (valueIn (nodeEntries b z) a) r v)) (nodes x (mem-e x (vertexNames q) (subst T (sym e) tt))) h
-      go false e h =
-          let j : x ∈ edgeNames q = ⊎-elim (λ k. k) (λ k. absurd (subst T e (mem-i x (vertexNames q) k))) w in
-          subst (λ z. T (meets (valueIn (relEntries b z) a) r v)) (rels (place x (edgeNames q)) (subst (λ z. place x (edgeNames q) < z) edge-names (at-place (edgeNames q) x j .0))) h
-
-  pub satisfies-cong : Satisfies b (patternOf q) m → Satisfies b (patternOf q) p
-  unfolding patternOf edgeAt edgeOf
-  satisfies-cong h = record {
-    vertices = each-i (λ v. IsNode b (p .node v)) (below (length (vertexNames q))) (λ i k. subst (IsNode b) (vertices i (below-e _ i k)) (each-e (λ v. IsNode b (m .node v)) (below (length (vertexNames q))) (h .vertices) i k));
-    edges = each-i (NumberedEdgeHolds b (patternOf q) p) (below (length (map (edgeOf (vertexNames q)) (edgesOf q)))) (λ i k. edge-cong i (below-e _ i k) (each-e (NumberedEdgeHolds b (patternOf q) m) (below (length (map (edgeOf (vertexNames q)) (edgesOf q)))) (h .edges) i k));
-    clauses = each-i (ClauseHolds b p) (map (clauseOf (vertexNames q) (edgeNames q)) (conditionsOf q)) (λ c k.
-        let r = map-e (clauseOf (vertexNames q) (edgeNames q)) (conditionsOf q) c k in
-        let s = condition-in b q d apart (r .0) (r .1) in
-        subst (ClauseHolds b p) (sym (r .2)) (clause-cong (r .0) (d .conditions (s .0) (s .1) (r .0) (s .2))
-        (subst (ClauseHolds b m) (r .2) (each-e (ClauseHolds b m) (map (clauseOf (vertexNames q) (edgeNames q)) (conditionsOf q)) (h .clauses) c k))));
-  }
-    where
-      edge-cong : (i : ℕ) → i < length (patternOf q .edges) → NumberedEdgeHolds b (patternOf q) m i → NumberedEdgeHolds b (patternOf q) p i
-      edge-cong i l g =
-          let l′ : i < length (edgesOf q) = subst (λ z. i < z) (length-map (edgeOf (vertexNames q)) (edgesOf q)) l in
-          let e : ChainEdge = getD (edgesOf q) i noEdge in
-          let r = edge-of b q d apart e (getD-in (edgesOf q) i noEdge l′) in
-          let n = chain-ends (r .0 .chain) e (r .2) in
-          let E = getD-map (edgeOf (vertexNames q)) (edgesOf q) i noEdge none l′ in
-          subst (Holds b p i) (sym E) (subst₃ (λ t x y. EdgeHolds b t (e .label) x y) (rels i l) (nodes (e .from) (stands b q d apart (r .0) (r .1) (e .from) (n .0))) (nodes (e .to) (stands b q d apart (r .0) (r .1) (e .to) (n .1)))
-          (subst (Holds b m i) E g))
+    go : (rs : List Bytes) → ((v : Bytes) → v ∈ rs → v ∈ vertexNames (a .text)) → map (m .node) (map g (map (λ v. place v (vertexNames (a .text))) rs)) ≡ map f rs
+    go [] p = refl
+    go (r ∷ rs) p =
+        let n = p r (List·Memᴰ·head refl) in
+        let e : m .node (g (place r (vertexNames (a .text)))) ≡ f r = ap (λ z. m .node (place z vs)) (place-map (wovenName 0 (a .actors)) [] (vertexNames (a .text)) r n) ∙ h r n in
+        let ih = go rs (λ v k. p v (List·Memᴰ·tail k)) in cc

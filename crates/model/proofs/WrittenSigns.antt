@@ -4,8 +4,8 @@ use mathlib.Core.Path.{_≡_, refl, ap, _∙_}
 use mathlib.Core.Logic.{⊎-elim, _≢_}
 use mathlib.Core.List.{[], _∷_, _++_}
 use mathlib.Core.Bool.{Bool, true, false, not, _&&_, _||_}
-use native.Mathlib.Omega.{arith}
 use native.Mathlib.Nat.{div-add-mod', mod-lt}
+use native.Mathlib.Omega.{arith}
 use lib.ListN.{length, drop}
 use lib.Seq.{drop-append-seam, drop-append-add}
 use lib.Dec.{T, leb, ltb, eqb, eqb→eq, leb→le, le→leb, ltb→lt, nltb→le, T-not, not-T, nleb→lt}
@@ -18,18 +18,11 @@ use Rattle.model.specs.Writing.{digits, wholeText}
 use Rattle.model.proofs.Decides.{and-iff, pick-iff}
 use Rattle.model.proofs.Members.{test, is-true, is-false}
 use Rattle.model.proofs.Skips.{signs-skip}
-use Rattle.model.proofs.Accepted.{or-cases}
+use Rattle.model.proofs.AllowedBytes.{all-more, all-append, between-i, letter-e, digit-e}
 
+-- numbers that differ are not equal by test
 pub eqb-no : (a b : ℕ) → a ≢ b → eqb a b ≡ false
 eqb-no a b h = is-false (eqb a b) (λ t. h (eqb→eq a b t))
-
-pub between-e : (l h b : ℕ) → T (between l h b) → (l ≤ b) × (b ≤ h)
-unfolding between
-between-e l h b t = let u = and-iff (leb l b) (leb b h) .1 t in (leb→le l b (u .0), leb→le b h (u .1))
-
-pub between-i : (l h b : ℕ) → l ≤ b → b ≤ h → T (between l h b)
-unfolding between
-between-i l h b p q = and-iff (leb l b) (leb b h) .0 (le→leb l b p, le→leb b h q)
 
 -- one sign of size n + 1
 pub signs-step : (c k : Bool) (b : ℕ) (s : Bytes) (g : Sign) (n : ℕ) → (eqb b 32 || eqb b 10) ≡ false → signAt c b s ≡ record { got = g; size = suc n } → (k && wordy g) ≡ false
@@ -39,6 +32,7 @@ signs-step c k b s g n e f d =
     let m : suc n - 1 ≡ n = omega arith in
     rw (e, f, d, m) (ap (λ r. g ∷ r) (signs-skip (inChain c g) (wordy g) n s))
 
+-- a run of bytes that pass ends where the next does not
 pub run-all : (p : ℕ → Bool) (w s : Bytes) → T (all p w) → run p s ≡ [] → run p (w ++ s) ≡ w
 unfolding run all
 run-all p [] s t e = e
@@ -49,10 +43,7 @@ abbrev pub Word : Bytes → Type 0
 Word [] = ⊥
 Word (b ∷ w) = T (isLetter b) × T (all isWordByte (b ∷ w)) × (length w ≤ 23)
 
-pub letter-e : (b : ℕ) → T (isLetter b) → (65 ≤ b) × (b ≤ 122)
-unfolding isLetter
-letter-e b t = ⊎-elim (λ u. let r = between-e 65 90 b u in (r .0, omega arith)) (λ u. let r = between-e 97 122 b u in (omega arith, r .1)) (or-cases (between 65 90 b) (between 97 122 b) t)
-
+-- a byte that is no space and no line feed
 pub no-blank : (b : ℕ) → b ≢ 32 → b ≢ 10 → (eqb b 32 || eqb b 10) ≡ false
 no-blank b p q = rw (eqb-no b 32 p, eqb-no b 10 q)
 
@@ -61,6 +52,7 @@ unfolding signAt wordAt orBroken
 word-sign c b w s h e =
     rw (is-true (isLetter b) (h .0), run-all isWordByte (b ∷ w) s (h .1) e, is-true (leb (suc (length w)) 24) (le→leb (suc (length w)) 24 (omega arith))) refl
 
+-- the sign of a word
 pub lex-word : (c : Bool) (w s : Bytes) → Word w → run isWordByte s ≡ [] → signs c false 0 (w ++ s) ≡ word w ∷ signs (inChain c (word w)) true 0 s
 unfolding wordy
 lex-word c [] s h e = absurd h
@@ -82,6 +74,7 @@ text-sign : (t s : Bytes) → T (isText t) → T (all (λ b. not (eqb b 39)) t) 
 unfolding signAt textAt orBroken isLetter isDigit between andThen
 text-sign t s h a = rw (before-all 39 t s a refl, is-true (isText t) h) refl
 
+-- the sign of a text value
 pub lex-text : (t s : Bytes) → T (isText t) → T (all (λ b. not (eqb b 39)) t) → signs false false 0 (39 ∷ t ++ 39 ∷ s) ≡ text t ∷ signs false false 0 s
 unfolding wordy inChain isWord
 lex-text t s h a =
@@ -89,38 +82,30 @@ lex-text t s h a =
     signs-step false false 39 (t ++ 39 ∷ s) (text t) (length t + 1) refl (text-sign t s h a ∙ (λ i. record { got = text t; size = e i })) refl
     ∙ ap (λ r. text t ∷ signs false false 0 r) (drop-append-add t (39 ∷ s) 1)
 
--- numbers: at most k digits write every number below bound k
-bound : ℕ → ℕ
-bound zero = 1
-bound (suc k) = 10 * bound k
+-- powers of ten: k digits write every number below the kth
+tenTo : ℕ → ℕ
+tenTo zero = 1
+tenTo (suc k) = 10 * tenTo k
 
-abbrev leads : Bytes → Bool
-leads [] = false
-leads (d ∷ ds) = not (eqb d 48)
+-- the first digit is no zero
+abbrev noZeroFirst : Bytes → Bool
+noZeroFirst [] = false
+noZeroFirst (d ∷ ds) = not (eqb d 48)
 
+-- digits that write n
 record Digits (n : ℕ) (ds : Bytes) : Type 0 where
   every : T (all isDigit ds)
   reads : decimal 0 ds ≡ n
-  first : 0 < n → T (leads ds)
-
-pub all-more : (p r : ℕ → Bool) → ((b : ℕ) → T (p b) → T (r b)) → (l : Bytes) → T (all p l) → T (all r l)
-unfolding all
-all-more p r h [] t = tt
-all-more p r h (b ∷ l) t = let u = pick-iff (p b) (all p l) .1 t in pick-iff (r b) (all r l) .0 (h b (u .0), all-more p r h l (u .1))
-
-pub all-append : (p : ℕ → Bool) (a b : Bytes) → T (all p a) → T (all p b) → T (all p (a ++ b))
-unfolding all
-all-append p [] b t u = u
-all-append p (x ∷ a) b t u = let r = pick-iff (p x) (all p a) .1 t in pick-iff (p x) (all p (a ++ b)) .0 (r .0, all-append p a b (r .1) u)
+  first : 0 < n → T (noZeroFirst ds)
 
 decimal-end : (n : ℕ) (ds : Bytes) (d : ℕ) → decimal n (ds ++ (d ∷ [])) ≡ decimal n ds * 10 + (d - 48)
 unfolding decimal
 decimal-end n [] d = refl
 decimal-end n (x ∷ ds) d = decimal-end (n * 10 + (x - 48)) ds d
 
-leads-append : (a b : Bytes) → T (leads a) → T (leads (a ++ b))
-leads-append [] b t = absurd t
-leads-append (x ∷ a) b t = t
+noZeroFirst-append : (a b : Bytes) → T (noZeroFirst a) → T (noZeroFirst (a ++ b))
+noZeroFirst-append [] b t = absurd t
+noZeroFirst-append (x ∷ a) b t = t
 
 digit-i : (n : ℕ) → n < 10 → T (isDigit (48 + n))
 unfolding isDigit
@@ -134,14 +119,14 @@ one-digit n h = record {
   first = λ p. let d : 48 + n ≢ 48 = λ z. omega arith in rw (eqb-no (48 + n) 48 d) tt;
 }
 
-digits-of : (k n : ℕ) → n < bound k → 0 < k → Digits n (digits k n)
-unfolding digits bound
+digits-of : (k n : ℕ) → n < tenTo k → 0 < k → Digits n (digits k n)
+unfolding digits tenTo
 digits-of zero n h p = absurd (omega arith)
 digits-of (suc k) n h p = ⊎-elim
     (λ t. let l = ltb→lt n 10 t in rw (is-true (ltb n 10) t) (one-digit n l))
     (λ t. let l : 10 ≤ n = nltb→le n 10 (not-T (ltb n 10) t) in rw (is-false (ltb n 10) t) (more k h l (digits-of k (n / 10)))) (test (ltb n 10))
   where
-    more : (k : ℕ) → n < 10 * bound k → 10 ≤ n → (n / 10 < bound k → 0 < k → Digits (n / 10) (digits k (n / 10))) → Digits n (digits k (n / 10) ++ ((48 + n % 10) ∷ []))
+    more : (k : ℕ) → n < 10 * tenTo k → 10 ≤ n → (n / 10 < tenTo k → 0 < k → Digits (n / 10) (digits k (n / 10))) → Digits n (digits k (n / 10) ++ ((48 + n % 10) ∷ []))
     more zero h l ih = absurd (omega arith)
     more (suc k) h l ih = last (digits (suc k) (n / 10)) (ih (omega (arith, div-add-mod' n 10)) (omega arith)) l
       where
@@ -149,7 +134,7 @@ digits-of (suc k) n h p = ⊎-elim
         last ds r l = record {
           every = all-append isDigit ds ((48 + n % 10) ∷ []) (r .every) (one-digit (n % 10) (mod-lt n (omega arith)) .every);
           reads = decimal-end 0 ds (48 + n % 10) ∙ omega (arith, div-add-mod' n 10, r .reads);
-          first = λ p. leads-append ds _ (r .first (omega (arith, div-add-mod' n 10, mod-lt n {m = 10} (omega arith))));
+          first = λ p. noZeroFirst-append ds _ (r .first (omega (arith, div-add-mod' n 10, mod-lt n {m = 10} (omega arith))));
         }
 
 -- the digits of a number below 2^64, with what follows them no digit
@@ -160,23 +145,19 @@ digits-at minus n ds s r p h e =
     let a = and-iff (plainDigits minus ds) (leb n (pick minus (2 ^ 63) (2 ^ 63 - 1))) .0 (p, le→leb n (pick minus (2 ^ 63) (2 ^ 63 - 1)) h) in
     rw (run-all isDigit ds s (r .every) e, r .reads, is-true (plainDigits minus ds && leb n (pick minus (2 ^ 63) (2 ^ 63 - 1))) a) refl
 
-leads-plain : (minus : Bool) (ds : Bytes) → T (leads ds) → T (plainDigits minus ds)
+noZeroFirst-plain : (minus : Bool) (ds : Bytes) → T (noZeroFirst ds) → T (plainDigits minus ds)
 unfolding plainDigits
-leads-plain minus [] t = absurd t
-leads-plain minus (d ∷ ds) t = rw (is-false (eqb d 48) (T-not (eqb d 48) t)) tt
+noZeroFirst-plain minus [] t = absurd t
+noZeroFirst-plain minus (d ∷ ds) t = rw (is-false (eqb d 48) (T-not (eqb d 48) t)) tt
 
 plain-digits : (n : ℕ) (ds : Bytes) → Digits n ds → (n ≡ 0 → ds ≡ 48 ∷ []) → T (plainDigits false ds)
 unfolding plainDigits isNil
 plain-digits zero ds r z = rw (z refl) tt
-plain-digits (suc n) ds r z = leads-plain false ds (r .first (omega arith))
+plain-digits (suc n) ds r z = noZeroFirst-plain false ds (r .first (omega arith))
 
 zero-digits : (n : ℕ) → n ≡ 0 → digits 20 n ≡ 48 ∷ []
 unfolding digits
 zero-digits n e = rw e
-
-pub digit-e : (b : ℕ) → T (isDigit b) → (48 ≤ b) × (b ≤ 57)
-unfolding isDigit
-digit-e b t = between-e 48 57 b t
 
 digit-no-letter : (b : ℕ) → T (isDigit b) → isLetter b ≡ false
 digit-no-letter b t = is-false (isLetter b) (λ u. let p = letter-e b u in let q = digit-e b t in omega arith)
@@ -213,12 +194,12 @@ lex-minus n (d ∷ ds) s r z h e =
     let t = pick-iff (isDigit d) (all isDigit ds) .1 (r .every) in
     let m : suc (length ds) + 1 ≡ suc (suc (length ds)) = omega arith in
     signs-step false false 45 (d ∷ ds ++ s) (whole (2 ^ 63 - n)) (suc (length ds)) refl
-    (minus-sign d (ds ++ s) (record { got = 2 ^ 63 - n; size = suc (length ds) + 1 }) (t .0) (digits-at true n (d ∷ ds) s r (leads-plain true (d ∷ ds) (r .first z)) h e) ∙ (λ i. record { got = whole (2 ^ 63 - n); size = m i })) refl
+    (minus-sign d (ds ++ s) (record { got = 2 ^ 63 - n; size = suc (length ds) + 1 }) (t .0) (digits-at true n (d ∷ ds) s r (noZeroFirst-plain true (d ∷ ds) (r .first z)) h e) ∙ (λ i. record { got = whole (2 ^ 63 - n); size = m i })) refl
     ∙ ap (λ x. whole (2 ^ 63 - n) ∷ signs false true 0 x) (drop-append-seam ds s)
 
 -- a number is read as it is written
 pub lex-whole : (n : ℕ) (s : Bytes) → n < 2 ^ 64 → run isDigit s ≡ [] → signs false false 0 (wholeText n ++ s) ≡ whole n ∷ signs false true 0 s
-unfolding wholeText bound
+unfolding wholeText tenTo
 lex-whole n s h e = ⊎-elim
     (λ t. let l = leb→le (2 ^ 63) n t in
     let z : 2 ^ 63 + (n - 2 ^ 63) ≡ n = omega arith in
@@ -230,7 +211,7 @@ lex-whole n s h e = ⊎-elim
 
 -- the bytes of a written number
 pub whole-bytes : (p : ℕ → Bool) → ((b : ℕ) → T (isDigit b) → T (p b)) → T (p 45) → (n : ℕ) → n < 2 ^ 64 → T (all p (wholeText n))
-unfolding wholeText bound all
+unfolding wholeText tenTo all
 whole-bytes p h m n k = ⊎-elim
     (λ t. rw (is-true (leb (2 ^ 63) n) t) (all-more isDigit p h (digits 20 (n - 2 ^ 63)) (digits-of 20 (n - 2 ^ 63) (omega arith) (omega arith) .every)))
     (λ t. let l : n < 2 ^ 63 = nleb→lt (2 ^ 63) n (not-T (leb (2 ^ 63) n) t) in

@@ -26,9 +26,10 @@ use Rattle.model.specs.Graph.{nodeEntries, relOf, relEntries, runs, valu
 use Rattle.model.specs.Models.{edgeHolds, chainHolds, entriesOf, conditionHolds, models, isOn, metBy, suitsEdge, relFor, mappingOf}
 use Rattle.model.specs.Satisfies.{edgeAt, numberedEdgeHolds, clauseHolds, satisfies}
 use Rattle.model.specs.Weave.{askedQuery, askedPolicies, wovenName, named, moved, movedEdge, movedClause, movedClauses, returnsOf, weave, isExcluded, wovenTooMany, withIdentity, stepAlong, stepsAlong, tied, wovenFault}
-use Rattle.model.specs.Rows.{isActor, nodesFor, someChoice, actorNodes, allHave, rowGiven, mayHave, tuples, rowsOf}
+use Rattle.model.specs.Rows.{nodesFor, someChoice, actorNodes, allHave, rowGiven, mayHave, tuples, rowsOf}
 use Rattle.model.specs.Service.{ones, withWork, bookService, rulesService, queryService, requestService, writerText, onto, writerService, listRows, rowWords, listService}
 use Rattle.model.specs.Printed.{rowText, refusalText, rowsText, outcomeText, namesOf, printed}
+use Rattle.model.specs.MayHave.{isActor}
 
 -- naming this one unfolds all of them
 unfoldable pub computing : ℕ

@@ -25,6 +25,7 @@ pub mod Graph
 pub mod Models
 pub mod Satisfies
 pub mod Weave
+pub mod MayHave
 pub mod Rows
 pub mod Service
 pub mod Printed
