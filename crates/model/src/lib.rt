@@ -1,4 +1,5 @@
 // Plain data that the services' answers are made of. What each means is set out in specs/Answers.antt.
+ghost use mathlib.Core.Path.{_≡_};
 
 // "A query or policy: 8 vertices, 16 edges, 16 exclusions, 16 requirements, 4 Return names."
 pub const MAX_VERTICES: usize = 8;
@@ -137,6 +138,8 @@ pub enum RowsListed {
 }
 
 // A refusal by its three numbers.
-pub fn refused(number: u32, text: u32, line: u32) -> Refusal {
+pub fn refused(number: u32, text: u32, line: u32) -> Refusal
+    ensures { λ r. ⌜ (r .number ≡ number) × (r .text ≡ text) × (r .line ≡ line) ⌝ }
+{
     Refusal { number, text, line }
 }
