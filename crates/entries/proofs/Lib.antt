@@ -1,0 +1,5 @@
+pub mod FaultLaws
+pub mod TwiceLaws
+pub mod SuitLaws
+pub mod PutLaws
+pub mod EntryLaws

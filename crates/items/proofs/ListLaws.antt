@@ -1,0 +1,265 @@
+-- Laws of the lists of a known form: entries, identities, and lists with a head.
+use Prim.Native.Nat.{ℕ, _-_}
+use mathlib.Core.Path.{_≡_, refl, ap, _∙_}
+use mathlib.Core.List.{List as ListOf, [], _∷_}
+use mathlib.Core.Bool.{Bool, true, false}
+use Rattle.model.specs.Bytes.{Bytes, bytesOf, same}
+use Rattle.model.specs.Choice.{pick, Maybe, nothing, just, andThen}
+use Rattle.model.specs.Lists.{each}
+use Rattle.model.specs.Items.{Item, itemsOf}
+use Rattle.model.specs.Values.{Value, Entry}
+use Rattle.model.specs.Request.{Claim, claimOf}
+use Rattle.model.specs.Forms.{asWord, asName, asValue, first, atEnd, entryOf}
+use Rattle.model.specs.Answers.{partOf, valueOf}
+use Rattle.model.specs.declared.Value.{Value as ValueData}
+use Rattle.text.specs.declared.End.{End}
+use Rattle.text.specs.declared.End.the-variants as end
+use Rattle.items.specs.declared.Next.{Next}
+use Rattle.items.specs.declared.Next.the-variants as next
+use Rattle.items.specs.declared.Piece.{Piece}
+use Rattle.items.specs.declared.Piece.the-variants as piece
+use Rattle.items.specs.declared.NameRead.{NameRead}
+use Rattle.items.specs.declared.NameRead.the-variants as name
+use Rattle.items.specs.declared.ValueRead.{ValueRead}
+use Rattle.items.specs.declared.ValueRead.the-variants as read
+use Rattle.items.specs.declared.ClaimRead.the-variants as claim
+use Rattle.items.specs.declared.EntryRead.the-variants as entry
+use Rattle.items.specs.Rest.{restAt, spacesFrom, formAt, onNext}
+use Rattle.items.specs.Pieces.{wordNext, nameNext, valueNext, openNext, closeNext, onPiece, onName, onValue, onPlace, itemPlace, afterEnd, namePlaces}
+use Rattle.items.specs.Forms.{claimNode, claimActor, claimRest, claimHead, claimAfter, claimNext, onClaim, headEnd, headedNext, entryValued, entryNamed, entryAfter, entryNext, onEntry}
+use Rattle.items.proofs.RestLaws.{rest-same, rest-nothing}
+use Rattle.items.proofs.FormLaws.{form-list, form-lists}
+use Rattle.items.proofs.PieceLaws.{first-word, first-name, first-value, end-next}
+
+-- (ATTR VALUE)...
+entryItems : ListOf Item → Maybe Entry
+entryItems is = first asName is (λ n is. first asValue is (λ v is. atEnd is (record { attr = n; value = v })))
+
+first-then : {A B C : Type 0} (reading : Item → Maybe A) (is : ListOf Item) (k : A → ListOf Item → Maybe B) (c : B → Maybe C)
+    → andThen (first reading is k) c ≡ first reading is (λ a is. andThen (k a is) c)
+unfolding first andThen
+first-then reading [] k c = refl
+first-then reading (i ∷ is) k c = go (reading i)
+  where
+    go : (o : Maybe _) → andThen (andThen o (λ a. k a is)) c ≡ andThen o (λ a. andThen (k a is) c)
+    go nothing = refl
+    go (just a) = refl
+
+module _ {B : Type 0} (s : Bytes) where
+  entry-shut : (d : ℕ) (a b : ℕ) (r : ValueRead) (k : Entry → ℕ → Maybe B) (g : ℕ → Maybe B)
+      → onValue s r (λ v q. restAt d false q s (λ e is. andThen (atEnd is (record { attr = partOf s a (b - a); value = v })) (λ x. k x e))) ≡ onEntry s (entryValued s a b r) k g
+  unfolding onValue entryValued onEntry onPlace afterEnd
+  entry-shut d a b read.None k g = refl
+  entry-shut d a b (read.Value v q) k g =
+      end-next d false s q (record { attr = partOf s a (b - a); value = valueOf s v }) (λ e x. k x e) ∙ go (closeNext s q)
+    where
+      go : (r : End) → onPlace r (λ e. k (record { attr = partOf s a (b - a); value = valueOf s v }) e) ≡ onEntry s (afterEnd r (λ e. entry.Entry a b v e) entry.None) k g
+      go (end.At e) = refl
+      go end.None = refl
+
+  entry-named : (d : ℕ) (n : NameRead) (k : Entry → ℕ → Maybe B) (g : ℕ → Maybe B)
+      → onName s n (λ w q. restAt d false q s (λ e is. first asValue is (λ v is. andThen (atEnd is (record { attr = w; value = v })) (λ x. k x e)))) (λ e. nothing) ≡ onEntry s (entryNamed d s (namePlaces n)) k g
+  unfolding onName entryNamed onEntry
+  entry-named d (name.Close e) k g = refl
+  entry-named d name.None k g = refl
+  entry-named d (name.Name a b) k g =
+      first-value d false s b (λ e v is. andThen (atEnd is (record { attr = partOf s a (b - a); value = v })) (λ x. k x e)) ∙ entry-shut d a b (valueNext d false s b) k g
+
+  -- the items of an entry, and what is made of it and of the place behind
+  entry-items : (d : ℕ) (p : ℕ) (k : Entry → ℕ → Maybe B) (g : ℕ → Maybe B)
+      → restAt d true p s (λ e is. andThen (entryItems is) (λ x. k x e)) ≡ onEntry s (entryNamed d s (namePlaces (nameNext d true s p))) k g
+  unfolding entryItems
+  entry-items d p k g =
+      rest-same d true p s _ _ (λ e is.
+      first-then asName is (λ n is. first asValue is (λ v is. atEnd is (record { attr = n; value = v }))) (λ x. k x e)
+      ∙ (λ t. first asName is (λ n is. first-then asValue is (λ v is. atEnd is (record { attr = n; value = v })) (λ x. k x e) t)))
+      ∙ first-name d true s p (λ e n is. first asValue is (λ v is. andThen (atEnd is (record { attr = n; value = v })) (λ x. k x e)))
+      ∙ entry-named d (nameNext d true s p) k g
+
+  after-entry : (d : ℕ) (n : Next) (k : Entry → ℕ → Maybe B) (g : ℕ → Maybe B)
+      → onNext n (λ p. onEntry s (entryNamed d s (namePlaces (nameNext d true s p))) k g) g ≡ onEntry s (entryAfter d s n) k g
+  unfolding onNext entryAfter onEntry
+  after-entry d (next.Item p) k g = refl
+  after-entry d (next.Close e) k g = refl
+  after-entry d next.None k g = refl
+
+  -- a form that is asked for entries goes on behind each, to its closing bracket
+  pub form-entries : (free : Bool) (i : ℕ) (k : ListOf Entry → Maybe B)
+      → formAt free i s (λ is. andThen (each entryOf is) k)
+      ≡ onEntry s (entryNext 2 s i) (λ x q. formAt true q s (λ is. andThen (each entryOf is) (λ l. k (x ∷ l)))) (λ e. pick (spacesFrom s e) (k []) nothing)
+  unfolding entryOf entryNext entryItems
+  form-entries free i k =
+      form-lists free i s entryItems k
+      ∙ (λ t. onNext (openNext s i) (λ p. entry-items 2 p (λ x q. formAt true q s (λ is. andThen (each entryOf is) (λ l. k (x ∷ l)))) (λ e. pick (spacesFrom s e) (k []) nothing) t) (λ e. pick (spacesFrom s e) (k []) nothing))
+      ∙ after-entry 2 (openNext s i) (λ x q. formAt true q s (λ is. andThen (each entryOf is) (λ l. k (x ∷ l)))) (λ e. pick (spacesFrom s e) (k []) nothing)
+
+-- (id ACTOR NODE)...
+claimItems : ListOf Item → Maybe Claim
+claimItems is = first asWord is (λ w is. first asName is (λ a is. first asName is (λ n is. pick (same w (bytesOf "id")) (atEnd is (record { actor = a; node = n })) nothing)))
+
+first-nothing : {A B : Type 0} (reading : Item → Maybe A) (is : ListOf Item) → first {B = B} reading is (λ a is. nothing) ≡ nothing
+unfolding first andThen
+first-nothing reading [] = refl
+first-nothing {A} {B} reading (i ∷ is) = go (reading i)
+  where
+    go : (o : Maybe A) → andThen {B = B} o (λ a. nothing) ≡ nothing
+    go nothing = refl
+    go (just a) = refl
+
+module _ {B : Type 0} (d : ℕ) (s : Bytes) (k : Claim → ℕ → Maybe B) (g : ℕ → Maybe B) where
+  claim-node : (a b : ℕ) (n : NameRead)
+      → onName s n (λ w q. restAt d false q s (λ e is. andThen (atEnd is (record { actor = partOf s a (b - a); node = w })) (λ x. k x e))) (λ e. nothing) ≡ onClaim s (claimNode s a b (namePlaces n)) k g
+  unfolding onName claimNode onClaim onPlace afterEnd
+  claim-node a b (name.Close e) = refl
+  claim-node a b name.None = refl
+  claim-node a b (name.Name x y) =
+      end-next d false s y (record { actor = partOf s a (b - a); node = partOf s x (y - x) }) (λ e x. k x e) ∙ go (closeNext s y)
+    where
+      go : (r : End) → onPlace r (λ e. k (record { actor = partOf s a (b - a); node = partOf s x (y - x) }) e) ≡ onClaim s (afterEnd r (λ e. claim.Claim a b x y e) claim.None) k g
+      go (end.At e) = refl
+      go end.None = refl
+
+  claim-actor : (n : NameRead)
+      → onName s n (λ w q. restAt d false q s (λ e is. first asName is (λ m is. andThen (atEnd is (record { actor = w; node = m })) (λ x. k x e)))) (λ e. nothing) ≡ onClaim s (claimActor d s (namePlaces n)) k g
+  unfolding onName claimActor onClaim
+  claim-actor (name.Close e) = refl
+  claim-actor name.None = refl
+  claim-actor (name.Name a b) =
+      first-name d false s b (λ e m is. andThen (atEnd is (record { actor = partOf s a (b - a); node = m })) (λ x. k x e)) ∙ claim-node a b (nameNext d false s b)
+
+  claim-rest : (i : ℕ) → restAt d false i s (λ e is. first asName is (λ a is. first asName is (λ n is. andThen (atEnd is (record { actor = a; node = n })) (λ x. k x e)))) ≡ onClaim s (claimRest d s i) k g
+  unfolding claimRest
+  claim-rest i = first-name d false s i (λ e a is. first asName is (λ n is. andThen (atEnd is (record { actor = a; node = n })) (λ x. k x e))) ∙ claim-actor (nameNext d false s i)
+
+  claim-head : (w : Piece)
+      → onPiece w (λ p q. restAt d false q s (λ e is. first asName is (λ a is. first asName is (λ n is. andThen (pick (same (partOf s p (q - p)) (bytesOf "id")) (atEnd is (record { actor = a; node = n })) nothing) (λ x. k x e)))))
+      ≡ onClaim s (claimHead d s w) k g
+  unfolding onPiece claimHead onClaim andThen
+  claim-head piece.None = refl
+  claim-head (piece.At p q) = go (same (partOf s p (q - p)) (bytesOf "id"))
+    where
+      go : (x : Bool) → restAt d false q s (λ e is. first asName is (λ a is. first asName is (λ n is. andThen (pick x (atEnd is (record { actor = a; node = n })) nothing) (λ x. k x e))))
+          ≡ onClaim s (pick x (claimRest d s q) claim.None) k g
+      go true = claim-rest q
+      go false =
+          rest-same d false q s _ _ (λ e is. (λ t. first asName is (λ a is. first-nothing asName is t)) ∙ first-nothing asName is)
+          ∙ rest-nothing d false q s
+
+  claim-items : (p : ℕ) → restAt d true p s (λ e is. andThen (claimItems is) (λ x. k x e)) ≡ onClaim s (claimHead d s (wordNext d true s p)) k g
+  unfolding claimItems
+  claim-items p =
+      rest-same d true p s _ _ (λ e is.
+      first-then asWord is (λ w is. first asName is (λ a is. first asName is (λ n is. named w a n is))) (λ x. k x e)
+      ∙ (λ t. first asWord is (λ w is. first-then asName is (λ a is. first asName is (λ n is. named w a n is)) (λ x. k x e) t))
+      ∙ (λ t. first asWord is (λ w is. first asName is (λ a is. first-then asName is (λ n is. named w a n is) (λ x. k x e) t))))
+      ∙ first-word d true s p (λ e w is. first asName is (λ a is. first asName is (λ n is. andThen (named w a n is) (λ x. k x e))))
+      ∙ claim-head (wordNext d true s p)
+    where
+      named : Bytes → Bytes → Bytes → ListOf Item → Maybe Claim
+      named w a n is = pick (same w (bytesOf "id")) (atEnd is (record { actor = a; node = n })) nothing
+
+  after-claim : (n : Next) → onNext n (λ p. onClaim s (claimHead d s (wordNext d true s p)) k g) g ≡ onClaim s (claimAfter d s n) k g
+  unfolding onNext claimAfter onClaim
+  after-claim (next.Item p) = refl
+  after-claim (next.Close e) = refl
+  after-claim next.None = refl
+
+-- a form that is asked for identities goes on behind each, to its closing bracket
+pub form-claims : {B : Type 0} (s : Bytes) (free : Bool) (i : ℕ) (k : ListOf Claim → Maybe B)
+    → formAt free i s (λ is. andThen (each claimOf is) k)
+    ≡ onClaim s (claimNext 2 s i) (λ x q. formAt true q s (λ is. andThen (each claimOf is) (λ l. k (x ∷ l)))) (λ e. pick (spacesFrom s e) (k []) nothing)
+unfolding claimOf claimNext claimItems
+form-claims s free i k =
+    form-lists free i s claimItems k
+    ∙ (λ t. onNext (openNext s i) (λ p. claim-items 2 s (λ x q. formAt true q s (λ is. andThen (each claimOf is) (λ l. k (x ∷ l)))) (λ e. pick (spacesFrom s e) (k []) nothing) p t) (λ e. pick (spacesFrom s e) (k []) nothing))
+    ∙ after-claim 2 s (λ x q. formAt true q s (λ is. andThen (each claimOf is) (λ l. k (x ∷ l)))) (λ e. pick (spacesFrom s e) (k []) nothing) (openNext s i)
+
+-- (HEAD ..)
+module _ {A B : Type 0} (h : ListOf Item → Maybe A) (d : ℕ) (s head : Bytes) (c : A → ℕ → Maybe B) where
+  headed-word : (w : Piece)
+      → onPiece w (λ p q. restAt d false q s (λ e is. andThen (pick (same (partOf s p (q - p)) head) (h is) nothing) (λ a. c a e)))
+      ≡ onPlace (headEnd s head w) (λ q. restAt d false q s (λ e is. andThen (h is) (λ a. c a e)))
+  unfolding onPiece headEnd onPlace andThen
+  headed-word piece.None = refl
+  headed-word (piece.At p q) = go (same (partOf s p (q - p)) head)
+    where
+      go : (x : Bool) → restAt d false q s (λ e is. andThen (pick x (h is) nothing) (λ a. c a e)) ≡ onPlace (pick x (end.At q) end.None) (λ q. restAt d false q s (λ e is. andThen (h is) (λ a. c a e)))
+      go true = refl
+      go false = rest-nothing d false q s
+
+  headed-items : (p : ℕ) → restAt d true p s (λ e is. andThen (first asWord is (λ w is. pick (same w head) (h is) nothing)) (λ a. c a e))
+      ≡ onPlace (headEnd s head (wordNext d true s p)) (λ q. restAt d false q s (λ e is. andThen (h is) (λ a. c a e)))
+  headed-items p =
+      rest-same d true p s _ _ (λ e is. first-then asWord is (λ w is. pick (same w head) (h is) nothing) (λ a. c a e))
+      ∙ first-word d true s p (λ e w is. andThen (pick (same w head) (h is) nothing) (λ a. c a e)) ∙ headed-word (wordNext d true s p)
+
+after-head : {B : Type 0} (n : Next) (f : ℕ → End) (g : ℕ → Maybe B) → onNext n (λ p. onPlace (f p) g) (λ e. nothing) ≡ onPlace (afterEnd (itemPlace n) f end.None) g
+unfolding onNext onPlace afterEnd
+after-head (next.Item p) f g = refl
+after-head (next.Close e) f g = refl
+after-head next.None f g = refl
+
+-- a form that is asked for a list with a head goes on in it behind the head, then behind the list
+pub form-headed : {A B : Type 0} (head : Bytes) (h : ListOf Item → Maybe A) (s : Bytes) (free : Bool) (i : ℕ) (k : A → ListOf Item → Maybe B)
+    → formAt free i s (λ is. first (λ x. andThen (itemsOf x) (λ is. first asWord is (λ w is. pick (same w head) (h is) nothing))) is k)
+    ≡ onPlace (headedNext 2 s i head) (λ q. restAt 2 false q s (λ e is. andThen (h is) (λ a. formAt true e s (k a))))
+unfolding headedNext
+form-headed head h s free i k =
+    form-list free i s (λ is. first asWord is (λ w is. pick (same w head) (h is) nothing)) k
+    ∙ (λ t. onNext (openNext s i) (λ p. headed-items h 2 s head (λ a q. formAt true q s (k a)) p t) (λ e. nothing))
+    ∙ after-head (openNext s i) (λ p. headEnd s head (wordNext 2 true s p)) (λ q. restAt 2 false q s (λ e is. andThen (h is) (λ a. formAt true e s (k a))))
+
+-- what the tests of `entry` say
+module _ (d : ℕ) (s : Bytes) (i p : ℕ) (e : next.Item p ≡ openNext s i) where
+  pub at-entry : (w : Piece) → w ≡ namePlaces (nameNext d true s p) → entryNamed d s w ≡ entryNext d s i
+  unfolding entryNext entryAfter
+  at-entry w h = ap (entryNamed d s) h ∙ ap (entryAfter d s) e
+
+  module _ (a b : ℕ) (n : piece.At a b ≡ namePlaces (nameNext d true s p)) where
+    pub entry-value : (r : ValueRead) → r ≡ valueNext d false s b → entryValued s a b r ≡ entryNext d s i
+    unfolding entryNamed
+    entry-value r h = ap (entryValued s a b) h ∙ at-entry (piece.At a b) n
+
+    pub entry-close : (v : ValueData) (q : ℕ) → read.Value v q ≡ valueNext d false s b → (x : End) → x ≡ closeNext s q → afterEnd x (λ e. entry.Entry a b v e) entry.None ≡ entryNext d s i
+    unfolding entryValued
+    entry-close v q h x k = ap (λ (x : End). afterEnd x (λ e. entry.Entry a b v e) entry.None) k ∙ entry-value (read.Value v q) h
+
+-- what the tests of `claim` and `claim_rest` say
+module _ (d : ℕ) (s : Bytes) (i a b : ℕ) (n : piece.At a b ≡ namePlaces (nameNext d false s i)) where
+  pub at-node : (w : Piece) → w ≡ namePlaces (nameNext d false s b) → claimNode s a b w ≡ claimRest d s i
+  unfolding claimRest claimActor
+  at-node w h = ap (claimNode s a b) h ∙ ap (claimActor d s) n
+
+  pub at-shut : (x y : ℕ) → piece.At x y ≡ namePlaces (nameNext d false s b) → (r : End) → r ≡ closeNext s y → afterEnd r (λ e. claim.Claim a b x y e) claim.None ≡ claimRest d s i
+  unfolding claimNode
+  at-shut x y h r k = ap (λ (r : End). afterEnd r (λ e. claim.Claim a b x y e) claim.None) k ∙ at-node (piece.At x y) h
+
+pub at-claim : (d : ℕ) (s : Bytes) (i p : ℕ) → next.Item p ≡ openNext s i → (w : Piece) → w ≡ wordNext d true s p → claimHead d s w ≡ claimNext d s i
+unfolding claimNext claimAfter
+at-claim d s i p e w h = ap (claimHead d s) h ∙ ap (claimAfter d s) e
+
+pub claim-yes : (d : ℕ) (s : Bytes) (p q : ℕ) → same (partOf s p (q - p)) (bytesOf "id") ≡ true → claimRest d s q ≡ claimHead d s (piece.At p q)
+unfolding claimHead
+claim-yes d s p q h = rw h
+
+pub claim-no : (d : ℕ) (s : Bytes) (p q : ℕ) → same (partOf s p (q - p)) (bytesOf "id") ≡ false → claim.None ≡ claimHead d s (piece.At p q)
+unfolding claimHead
+claim-no d s p q h = rw h
+
+-- what the tests of `open_headed` say
+module _ (d : ℕ) (s : Bytes) (i : ℕ) (head : Bytes) where
+  pub no-list : end.None ≡ itemPlace (openNext s i) → end.None ≡ headedNext d s i head
+  unfolding headedNext afterEnd
+  no-list e = ap (λ (x : End). afterEnd x (λ p. headEnd s head (wordNext d true s p)) end.None) e
+
+  pub at-head : (p : ℕ) → end.At p ≡ itemPlace (openNext s i) → (w : Piece) → w ≡ wordNext d true s p → headEnd s head w ≡ headedNext d s i head
+  unfolding headedNext afterEnd
+  at-head p e w h = ap (headEnd s head) h ∙ ap (λ (x : End). afterEnd x (λ p. headEnd s head (wordNext d true s p)) end.None) e
+
+pub head-yes : (s head : Bytes) (p q : ℕ) → same (partOf s p (q - p)) head ≡ true → end.At q ≡ headEnd s head (piece.At p q)
+unfolding headEnd
+head-yes s head p q h = rw h
+
+pub head-no : (s head : Bytes) (p q : ℕ) → same (partOf s p (q - p)) head ≡ false → end.None ≡ headEnd s head (piece.At p q)
+unfolding headEnd
+head-no s head p q h = rw h

@@ -1,0 +1,31 @@
+-- `items::forms::form_closes` meets its contract.
+use Rattle.items.specs.Forms.{formCloses, spacesBehind}
+use mathlib.Core.Path.{sym, ap, _∙_}
+use borrow.Author.Needs.{needs}
+use Rattle.items.proofs.forms.form_closes.Statement.{statement}
+use Rattle.items.proofs.forms.form_closes.Tie as tie
+
+close-list-requires : tie.Need-close-list-requires
+close-list-requires c κs = search needs
+
+enum-known-e : tie.Need-enum-known-e
+enum-known-e c = search needs
+
+enum-told : tie.Need-enum-told
+enum-told c = search needs
+
+returns : tie.Need-returns
+unfolding formCloses spacesBehind
+returns c = ap (spacesBehind (c .before .before .before .before .args .s .now)) (sym (c .enum-told .given .1) ∙ c .before .before .close-list .ensures)
+
+only-spaces-requires : tie.Need-only-spaces-requires
+only-spaces-requires c κs = search needs
+
+returns-2 : tie.Need-returns-2
+unfolding formCloses spacesBehind
+returns-2 c = c .only-spaces .ensures ∙ ap (spacesBehind (c .before .before .before .before .before .before .args .s .now)) (sym (c .before .before .e .given .1) ∙ c .before .before .before .before .close-list .ensures)
+
+pub form-closes-spec : {M : Type 1} → statement M
+form-closes-spec =
+    tie.close
+    (tie.spec close-list-requires enum-known-e enum-told returns only-spaces-requires returns-2)

@@ -1,0 +1,87 @@
+-- `items::pieces::next_name` meets its contract.
+use Rattle.items.proofs.PieceTests.{at-name, name-yes, name-no, word-within}
+use Rattle.items.specs.Pieces.{wordEnd, afterEnd, namePiece, nameNext, nameAfter}
+use Rattle.model.specs.Answers.{partOf}
+use native.Mathlib.Omega.{arith}
+use mathlib.Core.Path.{sym, ap, _∙_}
+use borrow.Author.Needs.{needs}
+use Rattle.items.proofs.pieces.next_name.Statement.{statement}
+use Rattle.items.proofs.pieces.next_name.Tie as tie
+
+next-requires : tie.Need-next-requires
+next-requires c κs = search needs
+
+enum-known-p : tie.Need-enum-known-p
+enum-known-p c = search needs
+
+item-requires : tie.Need-item-requires
+item-requires c κs = search needs
+
+word-end-requires : tie.Need-word-end-requires
+word-end-requires c κs = search needs
+
+enum-known-q : tie.Need-enum-known-q
+enum-known-q c = search needs
+
+enum-told : tie.Need-enum-told
+enum-told c = search needs
+
+returns : tie.Need-returns
+unfolding afterEnd namePiece
+returns c = at-name (c .before .before .before .before .before .before .before .before .before .args .depth) (c .before .before .before .before .before .before .before .before .before .args .free) (c .before .before .before .before .before .before .before .before .before .args .s .now) (c .before .before .before .before .before .before .before .before .before .args .from) (c .before .before .before .before .before .p .given .0 .0) (sym (c .before .before .before .before .before .p .given .1) ∙ c .before .before .before .before .before .before .before .next .ensures) _ (sym (c .enum-told .given .1) ∙ c .before .before .word-end .ensures ∙ ap wordEnd (c .before .before .before .item .ensures))
+
+sub-is-name : tie.Need-sub-is-name
+sub-is-name c = omega (arith, word-within (c .before .before .before .before .before .before .before .before .before .before .args .depth) (c .before .before .before .before .before .before .before .before .before .before .args .s .now) (c .before .before .before .before .before .before .p .given .0 .0) (c .before .q .given .0 .0) (sym (c .before .q .given .1) ∙ c .before .before .before .word-end .ensures ∙ ap wordEnd (c .before .before .before .before .item .ensures)))
+
+part-is-name-start : tie.Need-part-is-name-start
+part-is-name-start c = omega (arith, word-within (c .before .before .before .before .before .before .before .before .before .before .args .depth) (c .before .before .before .before .before .before .before .before .before .before .args .s .now) (c .before .before .before .before .before .before .p .given .0 .0) (c .before .q .given .0 .0) (sym (c .before .q .given .1) ∙ c .before .before .before .word-end .ensures ∙ ap wordEnd (c .before .before .before .before .item .ensures)))
+
+part-is-name-end : tie.Need-part-is-name-end
+part-is-name-end c = omega (arith, word-within (c .before .before .before .before .before .before .before .before .before .before .args .depth) (c .before .before .before .before .before .before .before .before .before .before .args .s .now) (c .before .before .before .before .before .before .p .given .0 .0) (c .before .q .given .0 .0) (sym (c .before .q .given .1) ∙ c .before .before .before .word-end .ensures ∙ ap wordEnd (c .before .before .before .before .item .ensures)))
+
+is-name-requires : tie.Need-is-name-requires
+is-name-requires c κs = search needs
+
+returns-2 : tie.Need-returns-2
+unfolding afterEnd partOf
+returns-2 c = name-yes (c .before .before .before .before .before .before .before .before .before .before .before .before .before .args .s .now) (c .before .before .before .before .before .before .before .before .before .p .given .0 .0) (c .before .before .before .before .q .given .0 .0) (sym (c .before .is-name .ensures) ∙ c .if1 .taken) ∙ at-name (c .before .before .before .before .before .before .before .before .before .before .before .before .before .args .depth) (c .before .before .before .before .before .before .before .before .before .before .before .before .before .args .free) (c .before .before .before .before .before .before .before .before .before .before .before .before .before .args .s .now) (c .before .before .before .before .before .before .before .before .before .before .before .before .before .args .from) (c .before .before .before .before .before .before .before .before .before .p .given .0 .0) (sym (c .before .before .before .before .before .before .before .before .before .p .given .1) ∙ c .before .before .before .before .before .before .before .before .before .before .before .next .ensures) _ (sym (c .before .before .before .before .q .given .1) ∙ c .before .before .before .before .before .before .word-end .ensures ∙ ap wordEnd (c .before .before .before .before .before .before .before .item .ensures))
+
+enum-known-e : tie.Need-enum-known-e
+enum-known-e c = search needs
+
+enum-told-2 : tie.Need-enum-told-2
+enum-told-2 c = search needs
+
+returns-3 : tie.Need-returns-3
+unfolding afterEnd partOf
+returns-3 c = name-no (c .before .before .before .before .before .before .before .before .before .before .before .before .before .args .s .now) (c .before .before .before .before .before .before .before .before .before .p .given .0 .0) (c .before .before .before .before .q .given .0 .0) (sym (c .before .is-name .ensures) ∙ c .if1 .left) ∙ at-name (c .before .before .before .before .before .before .before .before .before .before .before .before .before .args .depth) (c .before .before .before .before .before .before .before .before .before .before .before .before .before .args .free) (c .before .before .before .before .before .before .before .before .before .before .before .before .before .args .s .now) (c .before .before .before .before .before .before .before .before .before .before .before .before .before .args .from) (c .before .before .before .before .before .before .before .before .before .p .given .0 .0) (sym (c .before .before .before .before .before .before .before .before .before .p .given .1) ∙ c .before .before .before .before .before .before .before .before .before .before .before .next .ensures) _ (sym (c .before .before .before .before .q .given .1) ∙ c .before .before .before .before .before .before .word-end .ensures ∙ ap wordEnd (c .before .before .before .before .before .before .before .item .ensures))
+
+returns-4 : tie.Need-returns-4
+unfolding nameNext nameAfter
+returns-4 c = ap (nameAfter (c .before .before .before .before .before .args .depth) (c .before .before .before .before .before .args .s .now)) (sym (c .before .e .given .1) ∙ c .before .before .before .next .ensures)
+
+returns-5 : tie.Need-returns-5
+unfolding nameNext nameAfter
+returns-5 c = ap (nameAfter (c .before .before .before .before .args .depth) (c .before .before .before .before .args .s .now)) (sym (c .enum-told2 .given .1) ∙ c .before .before .next .ensures)
+
+pub next-name-spec : {M : Type 1} → statement M
+next-name-spec =
+    tie.close
+    (tie.spec
+    next-requires
+    enum-known-p
+    item-requires
+    word-end-requires
+    enum-known-q
+    enum-told
+    returns
+    sub-is-name
+    part-is-name-start
+    part-is-name-end
+    is-name-requires
+    returns-2
+    enum-known-e
+    enum-told-2
+    returns-3
+    returns-4
+    returns-5)

@@ -1,0 +1,58 @@
+-- `items::pieces::open_list` meets its contract.
+use Rattle.items.proofs.PieceTests.{open-yes, open-no}
+use Rattle.items.specs.Pieces.{openNext, openAfter}
+use Rattle.text.proofs.PlaceLaws.{peek-in}
+use native.Mathlib.Omega.{arith}
+use mathlib.Core.Path.{sym, ap, _∙_}
+use borrow.Author.Needs.{needs}
+use Rattle.items.proofs.pieces.open_list.Statement.{statement}
+use Rattle.items.proofs.pieces.open_list.Tie as tie
+
+next-requires : tie.Need-next-requires
+next-requires c κs = search needs
+
+enum-known-p : tie.Need-enum-known-p
+enum-known-p c = search needs
+
+peek-requires : tie.Need-peek-requires
+peek-requires c κs = search needs
+
+add-t9 : tie.Need-add-t9
+add-t9 c = omega (arith, peek-in (c .before .before .before .before .before .before .before .args .s .now) (c .before .before .before .p .given .0 .0) (omega (arith, c .before .peek .ensures, c .if1 .taken)))
+
+returns : tie.Need-returns
+unfolding openNext
+returns c = open-yes (c .before .before .before .before .before .before .before .args .s .now) (c .before .before .before .p .given .0 .0) (sym (c .before .peek .ensures) ∙ c .if1 .taken) ∙ ap (openAfter (c .before .before .before .before .before .before .before .args .s .now)) (sym (c .before .before .before .p .given .1) ∙ c .before .before .before .before .before .next .ensures)
+
+enum-known-e : tie.Need-enum-known-e
+enum-known-e c = search needs
+
+enum-told : tie.Need-enum-told
+enum-told c = search needs
+
+returns-2 : tie.Need-returns-2
+unfolding openNext
+returns-2 c = open-no (c .before .before .before .before .before .before .before .args .s .now) (c .before .before .before .p .given .0 .0) (λ h. c .if1 .left (c .before .peek .ensures ∙ h)) ∙ ap (openAfter (c .before .before .before .before .before .before .before .args .s .now)) (sym (c .before .before .before .p .given .1) ∙ c .before .before .before .before .before .next .ensures)
+
+returns-3 : tie.Need-returns-3
+unfolding openNext openAfter
+returns-3 c = ap (openAfter (c .before .before .before .before .before .args .s .now)) (sym (c .before .e .given .1) ∙ c .before .before .before .next .ensures)
+
+returns-4 : tie.Need-returns-4
+unfolding openNext openAfter
+returns-4 c = ap (openAfter (c .before .before .before .before .args .s .now)) (sym (c .enum-told .given .1) ∙ c .before .before .next .ensures)
+
+pub open-list-spec : {M : Type 1} → statement M
+open-list-spec =
+    tie.close
+    (tie.spec
+    next-requires
+    enum-known-p
+    peek-requires
+    add-t9
+    returns
+    enum-known-e
+    enum-told
+    returns-2
+    returns-3
+    returns-4)

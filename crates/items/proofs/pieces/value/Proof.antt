@@ -1,0 +1,135 @@
+-- `items::pieces::value` meets its contract.
+use Rattle.items.proofs.PieceTests.{truth-true, truth-false, truth-none}
+use Rattle.items.proofs.ReadLaws.{read-within, text-within}
+use Rattle.items.specs.Pieces.{valuePiece}
+use Rattle.model.specs.Answers.{partOf}
+use native.Mathlib.Omega.{arith}
+use mathlib.Core.Path.{refl, sym, ap, _∙_}
+use borrow.Author.Needs.{needs}
+use Rattle.items.proofs.pieces.value.Statement.{statement}
+use Rattle.items.proofs.pieces.value.Tie as tie
+
+item-requires : tie.Need-item-requires
+item-requires c κs = search needs
+
+enum-known-q : tie.Need-enum-known-q
+enum-known-q c = search needs
+
+sub-same-bytes : tie.Need-sub-same-bytes
+sub-same-bytes c = omega (arith, read-within (c .before .before .before .before .before .args .depth) (c .before .before .before .before .before .args .s .now) (c .before .before .before .before .before .args .at) (c .before .q .given .0 .0) _ (sym (c .before .q .given .1) ∙ c .before .before .before .item .ensures) refl)
+
+part-same-bytes-start : tie.Need-part-same-bytes-start
+part-same-bytes-start c = omega (arith, read-within (c .before .before .before .before .before .args .depth) (c .before .before .before .before .before .args .s .now) (c .before .before .before .before .before .args .at) (c .before .q .given .0 .0) _ (sym (c .before .q .given .1) ∙ c .before .before .before .item .ensures) refl)
+
+part-same-bytes-end : tie.Need-part-same-bytes-end
+part-same-bytes-end c = omega (arith, read-within (c .before .before .before .before .before .args .depth) (c .before .before .before .before .before .args .s .now) (c .before .before .before .before .before .args .at) (c .before .q .given .0 .0) _ (sym (c .before .q .given .1) ∙ c .before .before .before .item .ensures) refl)
+
+slice-aggregate-same-bytes : tie.Need-slice-aggregate-same-bytes
+slice-aggregate-same-bytes c = search needs
+
+same-bytes-requires : tie.Need-same-bytes-requires
+same-bytes-requires c κs = search needs
+
+returns : tie.Need-returns
+unfolding valuePiece partOf
+returns c = truth-true (c .before .before .before .before .before .before .before .before .before .args .s .now) (c .before .before .before .before .before .before .before .before .before .args .at) (c .before .before .before .before .before .q .given .0 .0) (sym (c .before .same-bytes .ensures) ∙ c .if1 .taken) ∙ ap (valuePiece (c .before .before .before .before .before .before .before .before .before .args .s .now) (c .before .before .before .before .before .before .before .before .before .args .at)) (sym (c .before .before .before .before .before .q .given .1) ∙ c .before .before .before .before .before .before .before .item .ensures)
+
+sub-same-bytes-2 : tie.Need-sub-same-bytes-2
+sub-same-bytes-2 c = omega (arith, read-within (c .before .before .before .before .before .before .before .before .before .args .depth) (c .before .before .before .before .before .before .before .before .before .args .s .now) (c .before .before .before .before .before .before .before .before .before .args .at) (c .before .before .before .before .before .q .given .0 .0) _ (sym (c .before .before .before .before .before .q .given .1) ∙ c .before .before .before .before .before .before .before .item .ensures) refl)
+
+part-same-bytes-start-2 : tie.Need-part-same-bytes-start-2
+part-same-bytes-start-2 c = omega (arith, read-within (c .before .before .before .before .before .before .before .before .before .args .depth) (c .before .before .before .before .before .before .before .before .before .args .s .now) (c .before .before .before .before .before .before .before .before .before .args .at) (c .before .before .before .before .before .q .given .0 .0) _ (sym (c .before .before .before .before .before .q .given .1) ∙ c .before .before .before .before .before .before .before .item .ensures) refl)
+
+part-same-bytes-end-2 : tie.Need-part-same-bytes-end-2
+part-same-bytes-end-2 c = omega (arith, read-within (c .before .before .before .before .before .before .before .before .before .args .depth) (c .before .before .before .before .before .before .before .before .before .args .s .now) (c .before .before .before .before .before .before .before .before .before .args .at) (c .before .before .before .before .before .q .given .0 .0) _ (sym (c .before .before .before .before .before .q .given .1) ∙ c .before .before .before .before .before .before .before .item .ensures) refl)
+
+slice-aggregate-same-bytes-2 : tie.Need-slice-aggregate-same-bytes-2
+slice-aggregate-same-bytes-2 c = search needs
+
+same-bytes-requires-2 : tie.Need-same-bytes-requires-2
+same-bytes-requires-2 c κs = search needs
+
+returns-2 : tie.Need-returns-2
+unfolding valuePiece partOf
+returns-2 c = truth-false (c .before .before .before .before .before .before .before .before .before .before .before .before .before .args .s .now) (c .before .before .before .before .before .before .before .before .before .before .before .before .before .args .at) (c .before .before .before .before .before .before .before .before .before .q .given .0 .0) (sym (c .before .before .before .before .before .same-bytes .ensures) ∙ c .before .before .before .before .if1 .left) (sym (c .before .same-bytes2 .ensures) ∙ c .if2 .taken) ∙ ap (valuePiece (c .before .before .before .before .before .before .before .before .before .before .before .before .before .args .s .now) (c .before .before .before .before .before .before .before .before .before .before .before .before .before .args .at)) (sym (c .before .before .before .before .before .before .before .before .before .q .given .1) ∙ c .before .before .before .before .before .before .before .before .before .before .before .item .ensures)
+
+enum-known-n : tie.Need-enum-known-n
+enum-known-n c = search needs
+
+enum-known-q-2 : tie.Need-enum-known-q-2
+enum-known-q-2 c = search needs
+
+add-t28 : tie.Need-add-t28
+add-t28 c = omega (arith, text-within (c .before .before .before .before .before .args .depth) (c .before .before .before .before .before .args .s .now) (c .before .before .before .before .before .args .at) (c .before .q2 .given .0 .0) (sym (c .before .q2 .given .1) ∙ c .before .before .before .item .ensures))
+
+sub-t29 : tie.Need-sub-t29
+sub-t29 c = omega (arith, text-within (c .before .before .before .before .before .args .depth) (c .before .before .before .before .before .args .s .now) (c .before .before .before .before .before .args .at) (c .before .q2 .given .0 .0) (sym (c .before .q2 .given .1) ∙ c .before .before .before .item .ensures))
+
+sub-t30 : tie.Need-sub-t30
+sub-t30 c = omega (arith, text-within (c .before .before .before .before .before .args .depth) (c .before .before .before .before .before .args .s .now) (c .before .before .before .before .before .args .at) (c .before .q2 .given .0 .0) (sym (c .before .q2 .given .1) ∙ c .before .before .before .item .ensures))
+
+enum-told : tie.Need-enum-told
+enum-told c = search needs
+
+enum-told-2 : tie.Need-enum-told-2
+enum-told-2 c = search needs
+
+enum-told-3 : tie.Need-enum-told-3
+enum-told-3 c = search needs
+
+returns-3 : tie.Need-returns-3
+unfolding valuePiece partOf
+returns-3 c = truth-none (c .before .before .before .before .before .before .before .before .before .before .before .before .before .args .s .now) (c .before .before .before .before .before .before .before .before .before .before .before .before .before .args .at) (c .before .before .before .before .before .before .before .before .before .q .given .0 .0) (sym (c .before .before .before .before .before .same-bytes .ensures) ∙ c .before .before .before .before .if1 .left) (sym (c .before .same-bytes2 .ensures) ∙ c .if2 .left) ∙ ap (valuePiece (c .before .before .before .before .before .before .before .before .before .before .before .before .before .args .s .now) (c .before .before .before .before .before .before .before .before .before .before .before .before .before .args .at)) (sym (c .before .before .before .before .before .before .before .before .before .q .given .1) ∙ c .before .before .before .before .before .before .before .before .before .before .before .item .ensures)
+
+returns-4 : tie.Need-returns-4
+unfolding valuePiece
+returns-4 c = ap (valuePiece (c .before .before .before .before .before .args .s .now) (c .before .before .before .before .before .args .at)) (sym (c .before .n .given .1) ∙ c .before .before .before .item .ensures)
+
+returns-5 : tie.Need-returns-5
+unfolding valuePiece
+returns-5 c = ap (valuePiece (c .before .before .before .before .before .args .s .now) (c .before .before .before .before .before .args .at)) (sym (c .before .q2 .given .1) ∙ c .before .before .before .item .ensures)
+
+returns-6 : tie.Need-returns-6
+unfolding valuePiece
+returns-6 c = ap (valuePiece (c .before .before .before .before .args .s .now) (c .before .before .before .before .args .at)) (sym (c .enum-told .given .1) ∙ c .before .before .item .ensures)
+
+returns-7 : tie.Need-returns-7
+unfolding valuePiece
+returns-7 c = ap (valuePiece (c .before .before .before .before .args .s .now) (c .before .before .before .before .args .at)) (sym (c .enum-told2 .given .1) ∙ c .before .before .item .ensures)
+
+returns-8 : tie.Need-returns-8
+unfolding valuePiece
+returns-8 c = ap (valuePiece (c .before .before .before .before .args .s .now) (c .before .before .before .before .args .at)) (sym (c .enum-told3 .given .1) ∙ c .before .before .item .ensures)
+
+pub value-spec : {M : Type 1} → statement M
+value-spec =
+    tie.close
+    (tie.spec
+    item-requires
+    enum-known-q
+    sub-same-bytes
+    part-same-bytes-start
+    part-same-bytes-end
+    slice-aggregate-same-bytes
+    same-bytes-requires
+    returns
+    sub-same-bytes-2
+    part-same-bytes-start-2
+    part-same-bytes-end-2
+    slice-aggregate-same-bytes-2
+    same-bytes-requires-2
+    returns-2
+    enum-known-n
+    enum-known-q-2
+    add-t28
+    sub-t29
+    sub-t30
+    enum-told
+    enum-told-2
+    enum-told-3
+    returns-3
+    returns-4
+    returns-5
+    returns-6
+    returns-7
+    returns-8)

@@ -1,0 +1,59 @@
+-- `items::pieces::word_end` meets its contract.
+use Rattle.items.specs.Pieces.{wordEnd}
+use mathlib.Core.Path.{sym, ap}
+use borrow.Author.Needs.{needs}
+use Rattle.items.proofs.pieces.word_end.Statement.{statement}
+use Rattle.items.proofs.pieces.word_end.Tie as tie
+
+enum-known-i : tie.Need-enum-known-i
+enum-known-i c = search needs
+
+enum-told : tie.Need-enum-told
+enum-told c = search needs
+
+enum-told-2 : tie.Need-enum-told-2
+enum-told-2 c = search needs
+
+enum-told-3 : tie.Need-enum-told-3
+enum-told-3 c = search needs
+
+enum-told-4 : tie.Need-enum-told-4
+enum-told-4 c = search needs
+
+enum-told-5 : tie.Need-enum-told-5
+enum-told-5 c = search needs
+
+returns : tie.Need-returns
+returns c = ap wordEnd (sym (c .before .i .given .1))
+
+returns-2 : tie.Need-returns-2
+returns-2 c = ap wordEnd (sym (c .enum-told .given .1))
+
+returns-3 : tie.Need-returns-3
+returns-3 c = ap wordEnd (sym (c .enum-told2 .given .1))
+
+returns-4 : tie.Need-returns-4
+returns-4 c = ap wordEnd (sym (c .enum-told3 .given .1))
+
+returns-5 : tie.Need-returns-5
+returns-5 c = ap wordEnd (sym (c .enum-told4 .given .1))
+
+returns-6 : tie.Need-returns-6
+returns-6 c = ap wordEnd (sym (c .enum-told5 .given .1))
+
+pub word-end-spec : {M : Type 1} → statement M
+word-end-spec =
+    tie.close
+    (tie.spec
+    enum-known-i
+    enum-told
+    enum-told-2
+    enum-told-3
+    enum-told-4
+    enum-told-5
+    returns
+    returns-2
+    returns-3
+    returns-4
+    returns-5
+    returns-6)

@@ -1,0 +1,100 @@
+-- Lists of a known form among the items of a line, and the one list that a line is.
+use Prim.Native.Nat.{ℕ, _+_, _-_}
+use mathlib.Core.Bool.{Bool, true, false}
+use lib.Dec.{eqb}
+use Rattle.model.specs.Bytes.{Bytes, bytesOf, same}
+use Rattle.model.specs.Choice.{pick, Maybe, nothing}
+use Rattle.model.specs.Values.{Entry}
+use Rattle.model.specs.Request.{Claim}
+use Rattle.model.specs.Answers.{partOf, valueOf}
+use Rattle.text.specs.declared.End.{End}
+use Rattle.text.specs.declared.End.the-variants as end
+use Rattle.text.specs.Places.{peekAt, past, isSpace}
+use Rattle.items.specs.declared.Next.{Next}
+use Rattle.items.specs.declared.Next.the-variants as next
+use Rattle.items.specs.declared.Piece.{Piece}
+use Rattle.items.specs.declared.Piece.the-variants as piece
+use Rattle.items.specs.declared.ValueRead.{ValueRead}
+use Rattle.items.specs.declared.ValueRead.the-variants as read
+use Rattle.items.specs.declared.EntryRead.{EntryRead}
+use Rattle.items.specs.declared.EntryRead.the-variants as entry
+use Rattle.items.specs.declared.ClaimRead.{ClaimRead}
+use Rattle.items.specs.declared.ClaimRead.the-variants as claim
+use Rattle.items.specs.Rest.{spacesFrom}
+use Rattle.items.specs.Pieces.{itemPlace, afterEnd, namePlaces, wordNext, nameNext, valueNext, openNext, closeNext}
+
+-- the next (ATTR VALUE), step by step
+unfoldable pub entryValued : Bytes → ℕ → ℕ → ValueRead → EntryRead
+entryValued s a b (read.Value v q) = afterEnd (closeNext s q) (λ e. entry.Entry a b v e) entry.None
+entryValued s a b read.None = entry.None
+
+unfoldable pub entryNamed : ℕ → Bytes → Piece → EntryRead
+entryNamed d s (piece.At a b) = entryValued s a b (valueNext d false s b)
+entryNamed d s piece.None = entry.None
+
+unfoldable pub entryAfter : ℕ → Bytes → Next → EntryRead
+entryAfter d s (next.Item p) = entryNamed d s (namePlaces (nameNext d true s p))
+entryAfter d s (next.Close e) = entry.Close e
+entryAfter d s next.None = entry.None
+
+unfoldable pub entryNext : ℕ → Bytes → ℕ → EntryRead
+entryNext d s i = entryAfter d s (openNext s i)
+
+-- go on with an entry, or with the closing bracket
+unfoldable pub onEntry : {B : Type 0} → Bytes → EntryRead → (Entry → ℕ → Maybe B) → (ℕ → Maybe B) → Maybe B
+onEntry s (entry.Entry a b v q) f g = f (record { attr = partOf s a (b - a); value = valueOf s v }) q
+onEntry s (entry.Close e) f g = g e
+onEntry s entry.None f g = nothing
+
+-- where the items of the one list of a line begin
+unfoldable pub formOpens : Bytes → End
+formOpens s = let p = past isSpace s 0 in pick (eqb (peekAt s p) 40) (end.At (p + 1)) end.None
+
+-- nothing but spaces stands behind an end
+unfoldable pub spacesBehind : Bytes → End → Bool
+spacesBehind s (end.At e) = spacesFrom s e
+spacesBehind s end.None = false
+
+-- the list of a line closes next, and nothing but spaces follows
+unfoldable pub formCloses : Bytes → ℕ → Bool
+formCloses s i = spacesBehind s (closeNext s i)
+
+-- the two names of an (id ACTOR NODE) behind its first word, step by step
+unfoldable pub claimNode : Bytes → ℕ → ℕ → Piece → ClaimRead
+claimNode s a b (piece.At x y) = afterEnd (closeNext s y) (λ e. claim.Claim a b x y e) claim.None
+claimNode s a b piece.None = claim.None
+
+unfoldable pub claimActor : ℕ → Bytes → Piece → ClaimRead
+claimActor d s (piece.At a b) = claimNode s a b (namePlaces (nameNext d false s b))
+claimActor d s piece.None = claim.None
+
+unfoldable pub claimRest : ℕ → Bytes → ℕ → ClaimRead
+claimRest d s i = claimActor d s (namePlaces (nameNext d false s i))
+
+-- the next (id ACTOR NODE), or the closing bracket
+unfoldable pub claimHead : ℕ → Bytes → Piece → ClaimRead
+claimHead d s (piece.At p q) = pick (same (partOf s p (q - p)) (bytesOf "id")) (claimRest d s q) claim.None
+claimHead d s piece.None = claim.None
+
+unfoldable pub claimAfter : ℕ → Bytes → Next → ClaimRead
+claimAfter d s (next.Item p) = claimHead d s (wordNext d true s p)
+claimAfter d s (next.Close e) = claim.Close e
+claimAfter d s next.None = claim.None
+
+unfoldable pub claimNext : ℕ → Bytes → ℕ → ClaimRead
+claimNext d s i = claimAfter d s (openNext s i)
+
+-- go on with an identity, or with the closing bracket
+unfoldable pub onClaim : {B : Type 0} → Bytes → ClaimRead → (Claim → ℕ → Maybe B) → (ℕ → Maybe B) → Maybe B
+onClaim s (claim.Claim a b x y q) f g = f (record { actor = partOf s a (b - a); node = partOf s x (y - x) }) q
+onClaim s (claim.Close e) f g = g e
+onClaim s claim.None f g = nothing
+
+-- the place behind a word, if it is this one
+unfoldable pub headEnd : Bytes → Bytes → Piece → End
+headEnd s head (piece.At p q) = pick (same (partOf s p (q - p)) head) (end.At q) end.None
+headEnd s head piece.None = end.None
+
+-- the place behind the first word of the next item, if that is a list and the word is this one
+unfoldable pub headedNext : ℕ → Bytes → ℕ → Bytes → End
+headedNext d s i head = afterEnd (itemPlace (openNext s i)) (λ p. headEnd s head (wordNext d true s p)) end.None

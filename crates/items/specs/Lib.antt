@@ -1,0 +1,5 @@
+-- What the readers of items give, by places.
+pub mod Reads
+pub mod Rest
+pub mod Pieces
+pub mod Forms

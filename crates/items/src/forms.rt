@@ -1,0 +1,137 @@
+// The one list of a line: where it opens, its pieces that are lists of a known form, and that nothing but spaces follows it.
+ghost use mathlib.Core.Path.{_≡_};
+ghost use Rattle.items.specs.Rest.{spacesFrom};
+ghost use Rattle.items.specs.Forms.{entryNext, claimRest, claimNext, headedNext, formOpens, formCloses};
+use crate::ClaimRead;
+use crate::EntryRead;
+use crate::Next;
+use crate::Piece;
+use crate::ValueRead;
+use crate::pieces;
+use text::End;
+use text::bytes;
+use text::compare;
+use text::words;
+
+// Where the items of the one list of a line begin.
+pub fn open_form(s: &[u8]) -> End
+    ensures { λ r. ⌜ r ≡ formOpens (now (s .entry)) ⌝ }
+{
+    let p = words::spaces_end(s, 0);
+    if bytes::peek(s, p) == bytes::OPENING_BRACKET {
+        return End::At(p + 1);
+    }
+    End::None
+}
+
+// Whether nothing but spaces stands from a place on.
+pub fn only_spaces(s: &[u8], from: usize) -> bool
+    ensures { λ r. ⌜ r ≡ spacesFrom (now (s .entry)) from ⌝ }
+{
+    s.len() <= words::spaces_end(s, from)
+}
+
+// Whether the list of a line closes next, and nothing but spaces follows.
+pub fn form_closes(s: &[u8], from: usize) -> bool
+    ensures { λ r. ⌜ r ≡ formCloses (now (s .entry)) from ⌝ }
+{
+    let End::At(e) = pieces::close_list(s, from) else {
+        return false;
+    };
+    only_spaces(s, e)
+}
+
+// The next (ATTR VALUE) of a form, or its closing bracket; in an entry `depth` lists may still be opened.
+pub fn entry(s: &[u8], from: usize, depth: usize) -> EntryRead
+    ensures { λ r. ⌜ r ≡ entryNext depth (now (s .entry)) from ⌝ }
+{
+    match pieces::open_list(s, from) {
+        Next::Item(i) => {
+            let Piece::At(start, end) = pieces::name_places(pieces::next_name(s, i, true, depth))
+            else {
+                return EntryRead::None;
+            };
+            let ValueRead::Value(value, q) = pieces::next_value(s, end, false, depth) else {
+                return EntryRead::None;
+            };
+            let End::At(next) = pieces::close_list(s, q) else {
+                return EntryRead::None;
+            };
+            EntryRead::Entry {
+                start,
+                end,
+                value,
+                next,
+            }
+        }
+        Next::Close(e) => EntryRead::Close(e),
+        Next::None => EntryRead::None,
+    }
+}
+
+// The two names of an (id ACTOR NODE) behind its first word, and its closing bracket.
+pub fn claim_rest(s: &[u8], from: usize, depth: usize) -> ClaimRead
+    ensures { λ r. ⌜ r ≡ claimRest depth (now (s .entry)) from ⌝ }
+{
+    let Piece::At(actor_start, actor_end) = pieces::name_places(pieces::next_name(
+        s,
+        from,
+        false,
+        depth,
+    )) else {
+        return ClaimRead::None;
+    };
+    let Piece::At(node_start, node_end) = pieces::name_places(pieces::next_name(
+        s,
+        actor_end,
+        false,
+        depth,
+    )) else {
+        return ClaimRead::None;
+    };
+    let End::At(next) = pieces::close_list(s, node_end) else {
+        return ClaimRead::None;
+    };
+    ClaimRead::Claim {
+        actor_start,
+        actor_end,
+        node_start,
+        node_end,
+        next,
+    }
+}
+
+// The next (id ACTOR NODE) of a form, or its closing bracket; in it `depth` lists may still be opened.
+pub fn claim(s: &[u8], from: usize, depth: usize) -> ClaimRead
+    ensures { λ r. ⌜ r ≡ claimNext depth (now (s .entry)) from ⌝ }
+{
+    match pieces::open_list(s, from) {
+        Next::Item(i) => {
+            let Piece::At(p, q) = pieces::next_word(s, i, true, depth) else {
+                return ClaimRead::None;
+            };
+            if compare::same_bytes(&s[p..q], b"id") {
+                return claim_rest(s, q, depth);
+            }
+            ClaimRead::None
+        }
+        Next::Close(e) => ClaimRead::Close(e),
+        Next::None => ClaimRead::None,
+    }
+}
+
+// The place behind the first word of the next item, if that is a list and the word is `head`.
+pub fn open_headed(s: &[u8], from: usize, depth: usize, head: &[u8]) -> End
+    ensures { λ r. ⌜ r ≡ headedNext depth (now (s .entry)) from (now (head .entry)) ⌝ }
+{
+    let End::At(i) = pieces::item_place(pieces::open_list(s, from)) else {
+        return End::None;
+    };
+    let Piece::At(p, q) = pieces::next_word(s, i, true, depth) else {
+        return End::None;
+    };
+    if compare::same_bytes(&s[p..q], head) {
+        return End::At(q);
+    }
+    End::None
+}

@@ -1,0 +1,171 @@
+// The next piece of a list: a word, a name, a value, a policy text, a list, or the closing bracket.
+ghost use mathlib.Core.Path.{_≡_};
+ghost use mathlib.Core.Bool.{true};
+ghost use lib.ListN.{drop};
+ghost use Rattle.model.specs.Items.{itemAt};
+ghost use Rattle.items.specs.Reads.{readOf};
+ghost use Rattle.items.specs.Pieces.{itemPlace, wordEnd, quotedEnd, namePlaces, wordNext, quotedNext, nameNext, valuePiece, valueNext, openNext, closeNext};
+use crate::ItemRead;
+use crate::NameRead;
+use crate::Next;
+use crate::Piece;
+use crate::ValueRead;
+use crate::read;
+use model::Value;
+use text::End;
+use text::bytes;
+use text::compare;
+
+// The place of an item that follows.
+pub fn item_place(n: Next) -> End
+    ensures { λ r. ⌜ r ≡ itemPlace n ⌝ }
+{
+    match n {
+        Next::Item(p) => End::At(p),
+        Next::Close(_) => End::None,
+        Next::None => End::None,
+    }
+}
+
+// The end of an item, if it is a word.
+pub fn word_end(i: ItemRead) -> End
+    ensures { λ r. ⌜ r ≡ wordEnd i ⌝ }
+{
+    match i {
+        ItemRead::Word(q) => End::At(q),
+        ItemRead::Number(_, _) => End::None,
+        ItemRead::Text(_) => End::None,
+        ItemRead::Quoted(_) => End::None,
+        ItemRead::List(_) => End::None,
+        ItemRead::None => End::None,
+    }
+}
+
+// The end of an item, if it is a policy text.
+pub fn quoted_end(i: ItemRead) -> End
+    ensures { λ r. ⌜ r ≡ quotedEnd i ⌝ }
+{
+    match i {
+        ItemRead::Word(_) => End::None,
+        ItemRead::Number(_, _) => End::None,
+        ItemRead::Text(_) => End::None,
+        ItemRead::Quoted(q) => End::At(q),
+        ItemRead::List(_) => End::None,
+        ItemRead::None => End::None,
+    }
+}
+
+// The next item, if it is a word.
+pub fn next_word(s: &[u8], from: usize, free: bool, depth: usize) -> Piece
+    ensures { λ r. ⌜ r ≡ wordNext depth free (now (s .entry)) from ⌝ }
+{
+    let End::At(p) = item_place(read::next(s, from, free)) else {
+        return Piece::None;
+    };
+    let End::At(q) = word_end(read::item(s, p, depth)) else {
+        return Piece::None;
+    };
+    Piece::At(p, q)
+}
+
+// The next item, if it is a policy text: what stands between its quotes.
+pub fn next_quoted(s: &[u8], from: usize, free: bool, depth: usize) -> Piece
+    ensures { λ r. ⌜ r ≡ quotedNext depth free (now (s .entry)) from ⌝ }
+{
+    let End::At(p) = item_place(read::next(s, from, free)) else {
+        return Piece::None;
+    };
+    let End::At(q) = quoted_end(read::item(s, p, depth)) else {
+        return Piece::None;
+    };
+    Piece::At(p + 1, q - 1)
+}
+
+// The next item, if it is a name; or the closing bracket.
+pub fn next_name(s: &[u8], from: usize, free: bool, depth: usize) -> NameRead
+    ensures { λ r. ⌜ r ≡ nameNext depth free (now (s .entry)) from ⌝ }
+{
+    match read::next(s, from, free) {
+        Next::Item(p) => {
+            let End::At(q) = word_end(read::item(s, p, depth)) else {
+                return NameRead::None;
+            };
+            if compare::is_name(&s[p..q]) {
+                return NameRead::Name(p, q);
+            }
+            NameRead::None
+        }
+        Next::Close(e) => NameRead::Close(e),
+        Next::None => NameRead::None,
+    }
+}
+
+// The start and end of a name that was read.
+pub fn name_places(n: NameRead) -> Piece
+    ensures { λ r. ⌜ r ≡ namePlaces n ⌝ }
+{
+    match n {
+        NameRead::Name(p, q) => Piece::At(p, q),
+        NameRead::Close(_) => Piece::None,
+        NameRead::None => Piece::None,
+    }
+}
+
+// The value at a place.
+pub fn value(s: &[u8], at: usize, depth: usize) -> ValueRead
+    ensures { λ r. ⌜ r ≡ valuePiece (now (s .entry)) at (readOf at (itemAt depth (drop at (now (s .entry))))) ⌝ }
+{
+    match read::item(s, at, depth) {
+        ItemRead::Word(q) => {
+            if compare::same_bytes(&s[at..q], b"true") {
+                return ValueRead::Value(Value::Truth(true), q);
+            }
+            if compare::same_bytes(&s[at..q], b"false") {
+                return ValueRead::Value(Value::Truth(false), q);
+            }
+            ValueRead::None
+        }
+        ItemRead::Number(n, q) => ValueRead::Value(Value::Number(n), q),
+        ItemRead::Text(q) => ValueRead::Value(Value::Text(at + 1, q - at - 2), q),
+        ItemRead::Quoted(_) => ValueRead::None,
+        ItemRead::List(_) => ValueRead::None,
+        ItemRead::None => ValueRead::None,
+    }
+}
+
+// The next item, if it is a value.
+pub fn next_value(s: &[u8], from: usize, free: bool, depth: usize) -> ValueRead
+    ensures { λ r. ⌜ r ≡ valueNext depth free (now (s .entry)) from ⌝ }
+{
+    let End::At(p) = item_place(read::next(s, from, free)) else {
+        return ValueRead::None;
+    };
+    value(s, p, depth)
+}
+
+// Where the items of the next item begin, if it is a list; or the closing bracket.
+pub fn open_list(s: &[u8], from: usize) -> Next
+    ensures { λ r. ⌜ r ≡ openNext (now (s .entry)) from ⌝ }
+{
+    match read::next(s, from, true) {
+        Next::Item(p) => {
+            if bytes::peek(s, p) == bytes::OPENING_BRACKET {
+                return Next::Item(p + 1);
+            }
+            Next::None
+        }
+        Next::Close(e) => Next::Close(e),
+        Next::None => Next::None,
+    }
+}
+
+// The place behind the closing bracket, if it comes next.
+pub fn close_list(s: &[u8], from: usize) -> End
+    ensures { λ r. ⌜ r ≡ closeNext (now (s .entry)) from ⌝ }
+{
+    match read::next(s, from, true) {
+        Next::Item(_) => End::None,
+        Next::Close(e) => End::At(e),
+        Next::None => End::None,
+    }
+}

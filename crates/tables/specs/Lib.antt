@@ -1,0 +1,7 @@
+pub mod Listed
+pub mod Layout
+pub mod View
+pub mod Fits
+pub mod Agree
+pub mod Stores
+pub mod ValueWords

@@ -1,0 +1,75 @@
+// The book in words: where each table stands in the working memory, and how much it holds.
+ghost use mathlib.Core.Path.{_≡_};
+ghost use Rattle.tables.specs.Stores.{noCounts};
+
+pub mod names;
+pub mod relationships;
+pub mod stores;
+pub mod values;
+
+// "32 names each of vattr, eattr and label", "256 nodes, 1,024 relationships, 2,048 attribute entries".
+pub const MAX_NAMES: usize = 32;
+
+pub const MAX_NODES: usize = 256;
+
+pub const MAX_RELATIONSHIPS: usize = 1024;
+
+pub const MAX_ENTRIES: usize = 2048;
+
+// The tables, one after another. The types of attributes stand behind their names.
+pub const VATTR_NAMES: usize = 0;
+
+pub const EATTR_NAMES: usize = 64;
+
+pub const LABEL_NAMES: usize = 128;
+
+pub const NODE_NAMES: usize = 160;
+
+pub const NODE_ENTRIES: usize = 416;
+
+pub const RELATIONSHIPS: usize = 672;
+
+pub const RELATIONSHIP_ENTRIES: usize = 1696;
+
+pub const ENTRIES: usize = 2720;
+
+// Room for an index: slots of node names, and the relationships of each node in a chain.
+pub const NODE_SLOTS: usize = 8864;
+
+pub const FIRST_FROM: usize = 9376;
+
+pub const NEXT_FROM: usize = 9632;
+
+// The words of all tables together.
+pub const BOOK_WORDS: usize = 10752;
+
+// How many of each the tables hold.
+pub struct BookCounts {
+    pub vattrs: usize,
+    pub eattrs: usize,
+    pub labels: usize,
+    pub nodes: usize,
+    pub relationships: usize,
+    pub entries: usize,
+}
+
+// A value's type, and the two words that say it: the halves of a number, start and length of a text, 0 and then 0 or 1 of a truth value.
+pub struct ValueWords {
+    pub kind: u32,
+    pub first: u32,
+    pub second: u32,
+}
+
+// The counts of a book of no lines.
+pub fn no_counts() -> BookCounts
+    ensures { λ r. ⌜ r ≡ noCounts ⌝ }
+{
+    BookCounts {
+        vattrs: 0,
+        eattrs: 0,
+        labels: 0,
+        nodes: 0,
+        relationships: 0,
+        entries: 0,
+    }
+}

@@ -1,0 +1,109 @@
+-- Laws of comparisons.
+use Prim.Native.Nat.{ℕ, suc, _+_, _≤_, _<_}
+use mathlib.Core.Path.{_≡_, refl, ap}
+use mathlib.Core.List.{[], _∷_}
+use mathlib.Core.Bool.{Bool, true, false, not}
+use native.Mathlib.Omega.{arith}
+use lib.ListN.{length, getD, drop}
+use lib.Dec.{ltb, eqb}
+use borrow.Author.Tests.{eq-eqb, ne-eqb, lt-ltb, le-ltb, ltb-false}
+use Rattle.model.specs.Bytes.{Bytes, same}
+use Rattle.model.specs.Choice.{pick, Maybe, nothing, just}
+use Rattle.model.specs.Names.{mem}
+use Rattle.model.specs.Forms.{neverNames, nameOf}
+use Rattle.text.specs.declared.Order.the-variants.{Less, Equal, Greater}
+use Rattle.text.specs.Compare.{compareBytes}
+use Rattle.text.proofs.PlaceLaws.{drop-at, drop-end}
+
+-- texts of different lengths differ
+pub same-lengths : (a b : Bytes) → (length a ≡ length b → ⊥) → same a b ≡ false
+unfolding same
+same-lengths [] [] h = absurd (h refl)
+same-lengths [] (y ∷ b) h = refl
+same-lengths (x ∷ a) [] h = refl
+same-lengths (x ∷ a) (y ∷ b) h = go (eqb x y) (same-lengths a b (λ e. h (ap suc e)))
+  where
+    go : (t : Bool) → same a b ≡ false → pick t (same a b) false ≡ false
+    go true r = r
+    go false r = refl
+
+module _ (a b : Bytes) (i : ℕ) where
+  pub same-end : length a ≤ i → length b ≤ i → same (drop i a) (drop i b) ≡ true
+  unfolding same
+  same-end l m = rw (drop-end a i l, drop-end b i m)
+
+  pub compare-end : length a ≤ i → length b ≤ i → compareBytes (drop i a) (drop i b) ≡ Equal
+  unfolding compareBytes
+  compare-end l m = rw (drop-end a i l, drop-end b i m)
+
+  pub compare-shorter : length a ≤ i → i < length b → compareBytes (drop i a) (drop i b) ≡ Less
+  unfolding compareBytes
+  compare-shorter l m = rw (drop-end a i l, drop-at b i m)
+
+  pub compare-longer : i < length a → length b ≤ i → compareBytes (drop i a) (drop i b) ≡ Greater
+  unfolding compareBytes
+  compare-longer l m = rw (drop-at a i l, drop-end b i m)
+
+  module _ (l : i < length a) (m : i < length b) where
+    pub same-step : getD a i 0 ≡ getD b i 0 → same (drop i a) (drop i b) ≡ same (drop (i + 1) a) (drop (i + 1) b)
+    unfolding same
+    same-step e = rw (drop-at a i l, drop-at b i m, eq-eqb (getD a i 0) (getD b i 0) e)
+
+    pub same-differs : (getD a i 0 ≡ getD b i 0 → ⊥) → same (drop i a) (drop i b) ≡ false
+    unfolding same
+    same-differs e = rw (drop-at a i l, drop-at b i m, ne-eqb (getD a i 0) (getD b i 0) e)
+
+    pub compare-less : getD a i 0 < getD b i 0 → compareBytes (drop i a) (drop i b) ≡ Less
+    unfolding compareBytes
+    compare-less h = rw (drop-at a i l, drop-at b i m, lt-ltb (getD a i 0) (getD b i 0) h)
+
+    pub compare-greater : getD b i 0 < getD a i 0 → compareBytes (drop i a) (drop i b) ≡ Greater
+    unfolding compareBytes
+    compare-greater h = rw (drop-at a i l, drop-at b i m, le-ltb (getD a i 0) (getD b i 0) (omega arith), lt-ltb (getD b i 0) (getD a i 0) h)
+
+    pub compare-step : getD b i 0 ≤ getD a i 0 → getD a i 0 ≤ getD b i 0 → compareBytes (drop i a) (drop i b) ≡ compareBytes (drop (i + 1) a) (drop (i + 1) b)
+    unfolding compareBytes
+    compare-step h k = rw (drop-at a i l, drop-at b i m, le-ltb (getD a i 0) (getD b i 0) h, le-ltb (getD b i 0) (getD a i 0) k)
+
+-- equal exactly if the same bytes
+pub compare-itself : (a : Bytes) → compareBytes a a ≡ Equal
+unfolding compareBytes
+compare-itself [] = refl
+compare-itself (x ∷ a) = rw (le-ltb x x (omega arith)) (compare-itself a)
+
+pub compare-equal : (a b : Bytes) → compareBytes a b ≡ Equal → a ≡ b
+unfolding compareBytes
+compare-equal [] [] e = refl
+compare-equal [] (y ∷ b) e = let z : _≡_ {A = ℕ} 0 1 = cc in absurd (omega arith)
+compare-equal (x ∷ a) [] e = let z : _≡_ {A = ℕ} 0 1 = cc in absurd (omega arith)
+compare-equal (x ∷ a) (y ∷ b) e = go (ltb x y) (ltb y x) refl refl e (compare-equal a b)
+  where
+    go : (t u : Bool) → ltb x y ≡ t → ltb y x ≡ u → pick t Less (pick u Greater (compareBytes a b)) ≡ Equal → (compareBytes a b ≡ Equal → a ≡ b) → x ∷ a ≡ y ∷ b
+    go true u p q e r = let z : _≡_ {A = ℕ} 0 1 = cc in absurd (omega arith)
+    go false true p q e r = let z : _≡_ {A = ℕ} 0 1 = cc in absurd (omega arith)
+    go false false p q e r = let w : x ≡ y = omega (arith, ltb-false x y p, ltb-false y x q) in let v : a ≡ b = r e in cc
+
+pub same-itself : (a : Bytes) → same a a ≡ true
+unfolding same
+same-itself [] = refl
+same-itself (x ∷ a) = rw (eq-eqb x x refl) (same-itself a)
+
+pub same-equal : (a b : Bytes) → same a b ≡ true → a ≡ b
+unfolding same
+same-equal [] [] e = refl
+same-equal [] (y ∷ b) e = let z : _≡_ {A = ℕ} 0 1 = cc in absurd (omega arith)
+same-equal (x ∷ a) [] e = let z : _≡_ {A = ℕ} 0 1 = cc in absurd (omega arith)
+same-equal (x ∷ a) (y ∷ b) e = go (eqb x y) refl e (same-equal a b)
+  where
+    go : (t : Bool) → eqb x y ≡ t → pick t (same a b) false ≡ true → (same a b ≡ true → a ≡ b) → x ∷ a ≡ y ∷ b
+    go true p e r = let w : x ≡ y = borrow.Author.Tests.eqb-true x y p in let v : a ≡ b = r e in cc
+    go false p e r = let z : _≡_ {A = ℕ} 0 1 = cc in absurd (omega arith)
+
+-- a word is a name if it is none of the six
+pub name-of : (w : Bytes) → nameOf w ≡ pick (not (mem w neverNames)) (just w) nothing
+unfolding nameOf
+name-of w = go (mem w neverNames)
+  where
+    go : (x : Bool) → pick {A = Maybe Bytes} x nothing (just w) ≡ pick (not x) (just w) nothing
+    go true = refl
+    go false = refl

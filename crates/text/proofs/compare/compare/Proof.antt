@@ -1,0 +1,74 @@
+-- `text::compare::compare` meets its contract. The loop's invariant: what is left of the two texts stands as the whole texts do.
+use Rattle.text.proofs.CompareLaws.{compare-end, compare-shorter, compare-longer, compare-less, compare-greater, compare-step}
+use Rattle.text.specs.Compare.{compareBytes}
+use lib.ListN.{length, drop}
+use Prim.Native.Nat.{_-_}
+use mathlib.Core.Path.{_≡_, refl, sym, _∙_}
+use borrow.Author.Needs.{needs}
+use Rattle.text.proofs.compare.compare.Statement.{statement}
+use Rattle.text.proofs.compare.compare.Tie as tie
+
+abbrev Inv-loop : tie.InvT-loop
+Inv-loop a b i₀ i = compareBytes (drop i a) (drop i b) ≡ compareBytes a b
+
+abbrev μ-loop : tie.MeasureT-loop
+μ-loop a b i₀ i = length a - i
+
+loop-holds : tie.Need-loop-holds Inv-loop μ-loop
+loop-holds c = refl
+
+returns : tie.Need-returns Inv-loop μ-loop
+returns c = sym (compare-longer (c .before .before .before .args .a .now) (c .before .before .before .args .b .now) (c .before .before .loop .i) (c .before .loop-test .taken) (c .if1 .taken)) ∙ c .before .before .loop .inv
+
+shared-slice-read-if2 : tie.Need-shared-slice-read-if2 Inv-loop μ-loop
+shared-slice-read-if2 c = search needs
+
+shared-slice-read-if2-2 : tie.Need-shared-slice-read-if2-2 Inv-loop μ-loop
+shared-slice-read-if2-2 c = search needs
+
+returns-2 : tie.Need-returns-2 Inv-loop μ-loop
+returns-2 c = sym (compare-less (c .before .before .before .before .before .before .args .a .now) (c .before .before .before .before .before .before .args .b .now) (c .before .before .before .before .before .loop .i) (c .before .before .before .before .loop-test .taken) (c .before .before .before .if1 .left) (c .if2 .taken)) ∙ c .before .before .before .before .before .loop .inv
+
+shared-slice-read-if3 : tie.Need-shared-slice-read-if3 Inv-loop μ-loop
+shared-slice-read-if3 c = search needs
+
+shared-slice-read-if3-2 : tie.Need-shared-slice-read-if3-2 Inv-loop μ-loop
+shared-slice-read-if3-2 c = search needs
+
+returns-3 : tie.Need-returns-3 Inv-loop μ-loop
+returns-3 c = sym (compare-greater (c .before .before .before .before .before .before .before .before .before .args .a .now) (c .before .before .before .before .before .before .before .before .before .args .b .now) (c .before .before .before .before .before .before .before .before .loop .i) (c .before .before .before .before .before .before .before .loop-test .taken) (c .before .before .before .before .before .before .if1 .left) (c .if3 .taken)) ∙ c .before .before .before .before .before .before .before .before .loop .inv
+
+add-i : tie.Need-add-i Inv-loop μ-loop
+add-i c = search needs
+
+loop-less : tie.Need-loop-less Inv-loop μ-loop
+loop-less c = search needs
+
+loop-again : tie.Need-loop-again Inv-loop μ-loop
+loop-again c = sym (compare-step (c .before .before .before .before .before .before .before .before .before .args .a .now) (c .before .before .before .before .before .before .before .before .before .args .b .now) (c .before .before .before .before .before .before .before .before .loop .i) (c .before .before .before .before .before .before .before .loop-test .taken) (c .before .before .before .before .before .before .if1 .left) (c .before .before .before .if2 .left) (c .if3 .left)) ∙ c .before .before .before .before .before .before .before .before .loop .inv
+
+returns-4 : tie.Need-returns-4 Inv-loop μ-loop
+returns-4 c = sym (compare-shorter (c .before .before .before .args .a .now) (c .before .before .before .args .b .now) (c .before .before .loop .i) (c .before .loop-test .left) (c .if4 .taken)) ∙ c .before .before .loop .inv
+
+returns-5 : tie.Need-returns-5 Inv-loop μ-loop
+returns-5 c = sym (compare-end (c .before .before .before .args .a .now) (c .before .before .before .args .b .now) (c .before .before .loop .i) (c .before .loop-test .left) (c .if4 .left)) ∙ c .before .before .loop .inv
+
+pub compare-spec : {M : Type 1} → statement M
+compare-spec =
+    tie.close
+    (tie.spec
+    Inv-loop
+    μ-loop
+    loop-holds
+    returns
+    shared-slice-read-if2
+    shared-slice-read-if2-2
+    returns-2
+    shared-slice-read-if3
+    shared-slice-read-if3-2
+    returns-3
+    add-i
+    loop-less
+    loop-again
+    returns-4
+    returns-5)

@@ -1,0 +1,66 @@
+-- `text::lines::bad_line` meets its contract. The loop's invariant: the lines from i on, counted from `line`, give the line that all of them give; a line has at least one byte.
+use Rattle.text.proofs.LineLaws.{bad-here, bad-onward, bad-none, feed-count-small}
+use Rattle.text.specs.Lines.{onLine}
+use Rattle.model.specs.Lines.{badLine}
+use native.Mathlib.Omega.{arith}
+use lib.ListN.{length, drop, getD}
+use Prim.Native.Nat.{ℕ, _+_, _-_, _≤_}
+use mathlib.Core.Path.{_≡_, refl, sym, ap, _∙_}
+use borrow.Author.Needs.{needs}
+use Rattle.text.proofs.lines.bad_line.Statement.{statement}
+use Rattle.text.proofs.lines.bad_line.Tie as tie
+
+abbrev Inv-loop : tie.InvT-loop
+Inv-loop s line₀ i₀ line i = (badLine line (drop i s) ≡ badLine 1 s) × (line ≤ i + 1)
+
+abbrev μ-loop : tie.MeasureT-loop
+μ-loop s line₀ i₀ line i = length s - i
+
+loop-holds : tie.Need-loop-holds Inv-loop μ-loop
+loop-holds c = (refl, omega arith)
+
+shared-slice-read-b : tie.Need-shared-slice-read-b Inv-loop μ-loop
+shared-slice-read-b c = search needs
+
+is-bad-requires : tie.Need-is-bad-requires Inv-loop μ-loop
+is-bad-requires c κs = search needs
+
+returns : tie.Need-returns Inv-loop μ-loop
+unfolding onLine
+returns c = ap onLine (sym (bad-here (c .before .before .before .before .before .before .args .s .now) (c .before .before .before .before .loop .i) (c .before .before .before .loop-test .taken) (c .before .before .before .before .loop .line) (sym (c .before .is-bad .ensures) ∙ c .if1 .taken)) ∙ c .before .before .before .before .loop .inv .0)
+
+feed-count-requires : tie.Need-feed-count-requires Inv-loop μ-loop
+feed-count-requires c κs = search needs
+
+add-line : tie.Need-add-line Inv-loop μ-loop
+add-line c = omega (arith, c .feed-count .ensures, feed-count-small (getD (c .before .before .before .before .before .before .before .args .s .now) (c .before .before .before .before .before .loop .i) 0))
+
+add-i : tie.Need-add-i Inv-loop μ-loop
+add-i c = search needs
+
+loop-less : tie.Need-loop-less Inv-loop μ-loop
+loop-less c = search needs
+
+loop-again : tie.Need-loop-again Inv-loop μ-loop
+loop-again c = (ap (λ (n : ℕ). badLine (c .before .before .before .before .before .loop .line + n) (drop (c .before .before .before .before .before .loop .i + 1) (c .before .before .before .before .before .before .before .args .s .now))) (c .feed-count .ensures) ∙ sym (bad-onward (c .before .before .before .before .before .before .before .args .s .now) (c .before .before .before .before .before .loop .i) (c .before .before .before .before .loop-test .taken) (c .before .before .before .before .before .loop .line) (sym (c .before .before .is-bad .ensures) ∙ c .before .if1 .left)) ∙ c .before .before .before .before .before .loop .inv .0, omega (arith, c .feed-count .ensures, feed-count-small (getD (c .before .before .before .before .before .before .before .args .s .now) (c .before .before .before .before .before .loop .i) 0)))
+
+returns-2 : tie.Need-returns-2 Inv-loop μ-loop
+unfolding onLine
+returns-2 c = ap onLine (sym (bad-none (c .before .before .before .args .s .now) (c .before .loop .i) (c .loop-test .left) (c .before .loop .line)) ∙ c .before .loop .inv .0)
+
+pub bad-line-spec : {M : Type 1} → statement M
+bad-line-spec =
+    tie.close
+    (tie.spec
+    Inv-loop
+    μ-loop
+    loop-holds
+    shared-slice-read-b
+    is-bad-requires
+    returns
+    feed-count-requires
+    add-line
+    add-i
+    loop-less
+    loop-again
+    returns-2)

@@ -1,0 +1,35 @@
+-- `text::quotes::quoted` meets its contract.
+use Rattle.text.proofs.QuoteLaws.{quoted-past, quoted-open, quoted-shut}
+use Rattle.text.proofs.PlaceLaws.{past-within}
+use Rattle.text.specs.Places.{isInQuoted}
+use native.Mathlib.Omega.{arith}
+use Prim.Native.Nat.{_+_, _-_}
+use mathlib.Core.Path.{sym, _∙_}
+use borrow.Author.Needs.{needs}
+use Rattle.text.proofs.quotes.quoted.Statement.{statement}
+use Rattle.text.proofs.quotes.quoted.Tie as tie
+
+returns : tie.Need-returns
+returns c = quoted-past (c .before .before .args .s .now) (c .before .before .args .at) (c .if1 .taken)
+
+add-find : tie.Need-add-find
+add-find c = search needs
+
+find-requires : tie.Need-find-requires
+find-requires c κs = search needs
+
+peek-requires : tie.Need-peek-requires
+peek-requires c κs = search needs
+
+returns-2 : tie.Need-returns-2
+returns-2 c = quoted-open (c .before .before .before .before .before .args .s .now) (c .before .before .before .before .before .args .at) (c .before .before .find .result) (c .before .before .find .ensures) (λ h. c .if2 .taken (c .before .peek .ensures ∙ h))
+
+add-t4 : tie.Need-add-t4
+add-t4 c = omega (arith, c .before .before .find .ensures, past-within isInQuoted (c .before .before .before .before .before .args .s .now) (c .before .before .before .before .before .args .at + 1) (omega arith))
+
+returns-3 : tie.Need-returns-3
+returns-3 c = quoted-shut (c .before .before .before .before .before .args .s .now) (c .before .before .before .before .before .args .at) (c .before .before .find .result) (c .before .before .find .ensures) (sym (c .before .peek .ensures) ∙ c .if2 .left)
+
+pub quoted-spec : {M : Type 1} → statement M
+quoted-spec =
+    tie.close (tie.spec returns add-find find-requires peek-requires returns-2 add-t4 returns-3)

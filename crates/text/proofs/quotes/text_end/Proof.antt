@@ -1,0 +1,55 @@
+-- `text::quotes::text_end` meets its contract. The loop's invariant: the run from i on ends where the one from the start ends.
+use Rattle.text.proofs.PlaceLaws.{past-step-in, past-stop-in, past-end}
+use Rattle.text.specs.Places.{past, isInText}
+use borrow.Author.Tests.{not-true, not-false}
+use lib.ListN.{length}
+use Prim.Native.Nat.{_-_}
+use mathlib.Core.Path.{_≡_, refl, sym, _∙_}
+use borrow.Author.Needs.{needs}
+use Rattle.text.proofs.quotes.text_end.Statement.{statement}
+use Rattle.text.proofs.quotes.text_end.Tie as tie
+
+abbrev Inv-loop : tie.InvT-loop
+Inv-loop s from i₀ i = past isInText s i ≡ past isInText s from
+
+abbrev μ-loop : tie.MeasureT-loop
+μ-loop s from i₀ i = length s - i
+
+loop-holds : tie.Need-loop-holds Inv-loop μ-loop
+loop-holds c = refl
+
+shared-slice-read-in-text : tie.Need-shared-slice-read-in-text Inv-loop μ-loop
+shared-slice-read-in-text c = search needs
+
+in-text-requires : tie.Need-in-text-requires Inv-loop μ-loop
+in-text-requires c κs = search needs
+
+returns : tie.Need-returns Inv-loop μ-loop
+returns c = sym (past-stop-in isInText (c .before .before .before .before .before .before .args .s .now) (c .before .before .before .before .loop .i) (c .before .before .before .loop-test .taken) (sym (c .before .in-text .ensures) ∙ not-true _ (c .if1 .taken))) ∙ c .before .before .before .before .loop .inv
+
+add-i : tie.Need-add-i Inv-loop μ-loop
+add-i c = search needs
+
+loop-less : tie.Need-loop-less Inv-loop μ-loop
+loop-less c = search needs
+
+loop-again : tie.Need-loop-again Inv-loop μ-loop
+loop-again c = sym (past-step-in isInText (c .before .before .before .before .before .before .args .s .now) (c .before .before .before .before .loop .i) (c .before .before .before .loop-test .taken) (sym (c .before .in-text .ensures) ∙ not-false _ (c .if1 .left))) ∙ c .before .before .before .before .loop .inv
+
+returns-2 : tie.Need-returns-2 Inv-loop μ-loop
+returns-2 c = sym (past-end isInText (c .before .before .before .args .s .now) (c .before .loop .i) (c .loop-test .left)) ∙ c .before .loop .inv
+
+pub text-end-spec : {M : Type 1} → statement M
+text-end-spec =
+    tie.close
+    (tie.spec
+    Inv-loop
+    μ-loop
+    loop-holds
+    shared-slice-read-in-text
+    in-text-requires
+    returns
+    add-i
+    loop-less
+    loop-again
+    returns-2)

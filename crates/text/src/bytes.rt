@@ -1,0 +1,87 @@
+// The byte at a place, and the kinds of bytes.
+ghost use mathlib.Core.Path.{_≡_};
+ghost use Rattle.model.specs.Words.{isLetter, isDigit, isWordByte};
+ghost use Rattle.text.specs.Places.{peekAt, past, isOther};
+
+// What stands past the last byte of a text.
+pub const END: usize = 256;
+
+pub const LINE_FEED: usize = 10;
+
+pub const SPACE: usize = 32;
+
+pub const DOUBLE_QUOTE: usize = 34;
+
+pub const APOSTROPHE: usize = 39;
+
+pub const OPENING_BRACKET: usize = 40;
+
+pub const CLOSING_BRACKET: usize = 41;
+
+pub const MINUS: usize = 45;
+
+pub const ZERO: usize = 48;
+
+pub const NINE: usize = 57;
+
+pub const UNDERSCORE: usize = 95;
+
+// The byte at a place, or END past the last one.
+pub fn peek(s: &[u8], i: usize) -> usize
+    ensures { λ r. ⌜ r ≡ peekAt (now (s .entry)) i ⌝ }
+{
+    if i < s.len() { s[i] as usize } else { END }
+}
+
+// A to Z, a to z.
+pub fn is_letter(b: usize) -> bool
+    ensures { λ r. ⌜ r ≡ isLetter b ⌝ }
+{
+    if b < 65 {
+        return false;
+    }
+    if b <= 90 {
+        return true;
+    }
+    if b < 97 {
+        return false;
+    }
+    b <= 122
+}
+
+// 0 to 9.
+pub fn is_digit(b: usize) -> bool
+    ensures { λ r. ⌜ r ≡ isDigit b ⌝ }
+{
+    if b < ZERO {
+        return false;
+    }
+    b <= NINE
+}
+
+// A letter, a digit or an underscore.
+pub fn is_word_byte(b: usize) -> bool
+    ensures { λ r. ⌜ r ≡ isWordByte b ⌝ }
+{
+    if is_letter(b) {
+        return true;
+    }
+    if is_digit(b) {
+        return true;
+    }
+    b == UNDERSCORE
+}
+
+// The place of the first such byte from a place on, or behind the last byte.
+pub fn find(s: &[u8], from: usize, byte: u8) -> usize
+    ensures { λ r. ⌜ r ≡ past (isOther byte) (now (s .entry)) from ⌝ }
+{
+    let mut i = from;
+    while i < s.len() {
+        if s[i] == byte {
+            return i;
+        }
+        i += 1;
+    }
+    i
+}

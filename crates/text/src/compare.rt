@@ -1,0 +1,84 @@
+// Comparing texts by bytes, and the words that are never names.
+ghost use mathlib.Core.Path.{_≡_};
+ghost use mathlib.Core.Bool.{not};
+ghost use Prim.Native.Nat.{_+_, _≤_};
+ghost use lib.ListN.{length};
+ghost use Rattle.model.specs.Bytes.{same};
+ghost use Rattle.model.specs.Names.{mem};
+ghost use Rattle.model.specs.Forms.{neverNames};
+ghost use Rattle.model.specs.Answers.{partOf};
+ghost use Rattle.text.specs.Compare.{compareBytes};
+use crate::Order;
+
+// Whether two texts are the same bytes.
+pub fn same_bytes(a: &[u8], b: &[u8]) -> bool
+    ensures { λ r. ⌜ r ≡ same (now (a .entry)) (now (b .entry)) ⌝ }
+{
+    if a.len() != b.len() {
+        return false;
+    }
+    let mut i = 0;
+    while i < a.len() {
+        if a[i] != b[i] {
+            return false;
+        }
+        i += 1;
+    }
+    true
+}
+
+// Whether n bytes of s from a on and m bytes of t from b on are the same bytes.
+pub fn equal(s: &[u8], a: usize, n: usize, t: &[u8], b: usize, m: usize) -> bool
+    requires { ⌜ (a + n ≤ length (now s)) × (b + m ≤ length (now t)) ⌝ }
+    ensures { λ r. ⌜ r ≡ same (partOf (now (s .entry)) a n) (partOf (now (t .entry)) b m) ⌝ }
+{
+    same_bytes(&s[a..a + n], &t[b..b + m])
+}
+
+// How one text stands to another: by the first byte that differs; a proper beginning is less.
+pub fn compare(a: &[u8], b: &[u8]) -> Order
+    ensures { λ r. ⌜ r ≡ compareBytes (now (a .entry)) (now (b .entry)) ⌝ }
+{
+    let mut i = 0;
+    while i < a.len() {
+        if b.len() <= i {
+            return Order::Greater;
+        }
+        if a[i] < b[i] {
+            return Order::Less;
+        }
+        if b[i] < a[i] {
+            return Order::Greater;
+        }
+        i += 1;
+    }
+    if i < b.len() {
+        return Order::Less;
+    }
+    Order::Equal
+}
+
+// Whether a word is a name: none of the six words that are never names.
+pub fn is_name(w: &[u8]) -> bool
+    ensures { λ r. ⌜ r ≡ not (mem (now (w .entry)) neverNames) ⌝ }
+{
+    if same_bytes(w, b"Match") {
+        return false;
+    }
+    if same_bytes(w, b"Where") {
+        return false;
+    }
+    if same_bytes(w, b"AND") {
+        return false;
+    }
+    if same_bytes(w, b"Return") {
+        return false;
+    }
+    if same_bytes(w, b"true") {
+        return false;
+    }
+    if same_bytes(w, b"false") {
+        return false;
+    }
+    true
+}
