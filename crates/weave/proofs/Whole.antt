@@ -1,0 +1,111 @@
+-- For the caller: the words after each text hold the woven pattern of the texts so far, and after the last the answers are the model's. Assumes nothing.
+use Prim.Native.Nat.{ℕ, _+_, _≤_}
+use mathlib.Core.Path.{_≡_, refl, sym, ap, ap₂, subst, _∙_}
+use mathlib.Core.Logic.{_↔_}
+use mathlib.Core.List.{List, [], _∷_, _++_, map, append-assoc, List·Memᴰ·head, List·Memᴰ·tail}
+use mathlib.Core.Bool.{Bool, true, false}
+use native.Mathlib.Omega.{arith}
+use lib.ListN.{length, drop}
+use lib.Dec.{T}
+use Rattle.facts.specs.Tests.{passes→true}
+use Rattle.model.specs.Bytes.{Bytes, same}
+use Rattle.model.specs.Choice.{pick, Maybe, nothing, just}
+use Rattle.model.specs.Lists.{keep, joined}
+use Rattle.model.specs.Names.{mem, twice, firsts}
+use Rattle.model.specs.Book.{Book}
+use Rattle.model.specs.Refusal.{lowest, _if_}
+use Rattle.model.specs.Pattern.{patternOf}
+use Rattle.model.specs.Request.{Identity}
+use Rattle.model.specs.Graph.{Each}
+use Rattle.model.specs.Weave.{Asked, named, movedClauses, returnsOf, weave, wovenTooMany, wovenFault}
+use Rattle.model.specs.Answers.{patternIn}
+use Rattle.model.specs.declared.Pattern.{Pattern as PatternData}
+use Rattle.model.proofs.Members.{_∈_, mem-i, map-i}
+use Rattle.model.proofs.Places.{twice-i, twice-tail}
+use Rattle.model.proofs.Decides.{same→eq, same-refl}
+use Rattle.tables.specs.Listed.{listed}
+use Rattle.woven.specs.declared.WovenCounts.{WovenCounts}
+use Rattle.weave.specs.declared.Added.the-variants.{Woven, Passed}
+use Rattle.woven.specs.Tables.{textOf, verticesAt, edgesAt, clausesAt, returnsAt, wovenAt}
+use Rattle.weave.specs.OneMore.{oneMore, Ranged}
+use Rattle.weave.specs.Adding.{noCounts, Kept, TextAdded}
+use Rattle.weave.specs.Identities.{identityOf, EdgesLow, Finished}
+use Rattle.weave.proofs.OneMore.{Sound, weave-one-more}
+use Rattle.weave.proofs.Limits.{weave-stays-too-many}
+use Rattle.weave.proofs.Ranges.{weave-ranged}
+use Rattle.weave.proofs.Finishing.{edges-low}
+
+-- before the first text
+pub none-woven : (b : Book) (q r : Bytes) (words : List ℕ) → wovenAt b q r words noCounts ≡ weave []
+unfolding wovenAt verticesAt edgesAt clausesAt returnsAt listed weave named joined firsts movedClauses returnsOf
+none-woven b q r words = refl
+
+pub none-kept : (q r : Bytes) (words : List ℕ) → 512 ≤ length words → Kept q r words noCounts
+unfolding clausesAt listed keep
+none-kept q r words h = record { room = h; vertices = omega arith; edges = omega arith; exclusions = omega arith; requirements = omega arith; returns = omega arith; counted = λ b. refl }
+
+-- the kth text, whose pattern was read from it
+module _ (b : Book) (q r : Bytes) (asked : List Asked) (a : Asked) (base : ℕ) (p : PatternData) (old new : List ℕ) (c : WovenCounts)
+    (sound : Each Sound asked) (held : wovenAt b q r old c ≡ weave asked) (pattern : patternIn b (drop base (textOf q r (length asked))) p ≡ patternOf (a .text)) where
+  one-more-is : oneMore (length asked) (a .actors) (patternIn b (drop base (textOf q r (length asked))) p) (wovenAt b q r old c) ≡ weave (asked ++ (a ∷ []))
+  one-more-is = ap₂ (oneMore (length asked) (a .actors)) pattern held ∙ sym (weave-one-more asked a sound)
+
+  -- the words hold the woven pattern with it
+  pub text-held : (n : WovenCounts) → TextAdded q r (a .actors) (length asked) base p old new c (Woven n) → wovenAt b q r new n ≡ weave (asked ++ (a ∷ []))
+  text-held n added = added .1 b ∙ one-more-is
+
+  -- a limit is passed, whatever texts follow: 12
+  pub text-passed : TextAdded q r (a .actors) (length asked) base p old new c Passed → (more : List Asked) → Each Sound (asked ++ (a ∷ more)) → (ids : List Identity) → wovenFault (weave (asked ++ (a ∷ more))) ids ≡ just 12
+  unfolding wovenFault lowest
+  text-passed added more all-sound ids =
+      let e = append-assoc asked (a ∷ []) more in
+      let t = subst (λ z. T (wovenTooMany (weave z))) e (weave-stays-too-many (asked ++ (a ∷ [])) more (subst (Each Sound) (sym e) all-sound) (subst (λ z. T (wovenTooMany z)) one-more-is (added b))) in
+      rw (passes→true (wovenTooMany (weave (asked ++ (a ∷ more)))) t)
+
+-- after the last text
+module _ (b : Book) (q r : Bytes) (asked : List Asked) (old new : List ℕ) (c : WovenCounts) (held : wovenAt b q r old c ≡ weave asked) where
+  pub woven-low : Each Sound asked → EdgesLow old (c .edges) (c .vertices)
+  woven-low sound = edges-low b q r old c (subst Ranged (sym held) (weave-ranged asked sound))
+
+  module _ (ids : List Identity) (answer : Bool) (finished : Finished q r ids old new c answer) where
+    pub woven-stays : wovenAt b q r new c ≡ weave asked
+    woven-stays = finished .same-pattern b ∙ held
+
+    -- 13 exactly if the answer is no
+    pub woven-fault : wovenFault (weave asked) ids ≡ pick answer nothing (just 13)
+    woven-fault = ap (λ z. wovenFault z ids) (sym woven-stays) ∙ finished .fault b
+
+-- a node is the one that identities give to a name, where they give one
+abbrev pub Identifies : Maybe ℕ → ℕ → Type 0
+Identifies nothing n = Unit {0}
+Identifies (just m) n = n ≡ m
+
+-- an actor that is identified once is none of the later ones'
+once-here : (x : Identity) (ids : List Identity) → (T (twice (map (λ i. i .actor) (x ∷ ids))) → ⊥) → (d : Identity) → d ∈ ids → x .actor ≡ d .actor → ⊥
+once-here x ids once d i e = once (twice-i (x .actor) (map (λ (z : Identity). z .actor) ids) (subst (λ w. w ∈ map (λ (z : Identity). z .actor) ids) (sym e) (map-i (λ (z : Identity). z .actor) ids d i)))
+
+by-each : (ids : List Identity) (name : Bytes) (n : ℕ) → (T (twice (map (λ i. i .actor) ids)) → ⊥) → Identifies (identityOf ids name) n → (d : Identity) → d ∈ ids → name ≡ d .actor → n ≡ d .node
+unfolding identityOf
+by-each (x ∷ ids) name n once h d (List·Memᴰ·head e) a = go (same name (x .actor)) (subst (λ z. T (same name z)) (a ∙ ap (λ (z : Identity). z .actor) e) (same-refl name)) h ∙ ap (λ (z : Identity). z .node) (sym e)
+  where
+    go : (t : Bool) → T t → Identifies (pick t (just (x .node)) (identityOf ids name)) n → n ≡ x .node
+    go true f h = h
+    go false f h = absurd f
+by-each (x ∷ ids) name n once h d (List·Memᴰ·tail i) a = go (same name (x .actor)) refl h (λ g. by-each ids name n (λ t. once (twice-tail (x .actor) (map (λ (z : Identity). z .actor) ids) t)) g d i a)
+  where
+    go : (t : Bool) → same name (x .actor) ≡ t → Identifies (pick t (just (x .node)) (identityOf ids name)) n → (Identifies (identityOf ids name) n → n ≡ d .node) → n ≡ d .node
+    go true e h f = absurd (once-here x ids once d i (sym (same→eq name (x .actor) (subst T (sym e) tt)) ∙ a))
+    go false e h f = f h
+
+by-all : (ids : List Identity) (name : Bytes) (n : ℕ) → ((d : Identity) → d ∈ ids → name ≡ d .actor → n ≡ d .node) → Identifies (identityOf ids name) n
+unfolding identityOf
+by-all [] name n f = tt
+by-all (x ∷ ids) name n f = go (same name (x .actor)) refl (by-all ids name n (λ d i. f d (List·Memᴰ·tail i)))
+  where
+    go : (t : Bool) → same name (x .actor) ≡ t → Identifies (identityOf ids name) n → Identifies (pick t (just (x .node)) (identityOf ids name)) n
+    go true e h = f x (List·Memᴰ·head refl) (same→eq name (x .actor) (subst T (sym e) tt))
+    go false e h = h
+
+-- where no actor is identified twice, that is what each identity asks
+pub identified-by : (ids : List Identity) (name : Bytes) (n : ℕ) → (T (twice (map (λ i. i .actor) ids)) → ⊥) → Identifies (identityOf ids name) n ↔ ((d : Identity) → d ∈ ids → name ≡ d .actor → n ≡ d .node)
+identified-by ids name n once = (by-each ids name n once, by-all ids name n)

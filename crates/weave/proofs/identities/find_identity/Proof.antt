@@ -1,0 +1,99 @@
+-- `find_identity` meets its contract. The loop's invariant: none of the first i identities is the vertex's. Assumes nothing.
+use Rattle.weave.proofs.IdentityLaws.{compared, found-in, none-in, other-has-none, node-said}
+use Rattle.weave.specs.Identities.{noIdentity}
+use Rattle.woven.specs.Tables.{vertexName, nodeIn}
+use Rattle.facts.specs.Tests.{either, equal-or-not}
+use Rattle.model.specs.Answers.{nameAt}
+use Rattle.model.specs.Bytes.{same}
+use lib.ListN.{length, getD}
+use native.Mathlib.Omega.{arith}
+use mathlib.Core.Bool.{false}
+use mathlib.Core.Path.{_≡_, sym, subst, _∙_}
+use Prim.Native.Nat.{ℕ, _-_, _<_, _≤_}
+use borrow.Author.Needs.{needs}
+use Rattle.weave.proofs.identities.find_identity.Statement.{statement}
+use Rattle.weave.proofs.identities.find_identity.Tie as tie
+
+abbrev Inv-loop : tie.InvT-loop
+Inv-loop query rules request count word identities i₀ i = (i ≤ count) × ((j : ℕ) → j < i → same (vertexName query rules word) (nameAt request (getD identities j noIdentity .actor)) ≡ false)
+
+abbrev μ-loop : tie.MeasureT-loop
+μ-loop query rules request count word identities i₀ i = count - i
+
+loop-holds : tie.Need-loop-holds Inv-loop μ-loop
+loop-holds c = (omega arith, λ j h. absurd (omega arith))
+
+mul-identity : tie.Need-mul-identity Inv-loop μ-loop
+mul-identity c = search needs
+
+array-copy-out-identity : tie.Need-array-copy-out-identity Inv-loop μ-loop
+array-copy-out-identity c = search needs
+
+part-requires : tie.Need-part-requires Inv-loop μ-loop
+part-requires c κs = search needs
+
+says-requires : tie.Need-says-requires Inv-loop μ-loop
+says-requires c κs = search needs
+
+cast-result : tie.Need-cast-result Inv-loop μ-loop
+cast-result c = let f = c .before .before .before .before .before .before .before .before .before .before .before .before .pre .nodes (c .before .before .before .before .before .before .before .loop .i) (omega arith) in omega arith
+
+returns : tie.Need-returns Inv-loop μ-loop
+returns c =
+    let a = c .before .before .before .before .before .before .before .before .before .before .before .before .args in
+    let all : length (a .t4) ≡ 8 = search needs in
+    let few = c .before .before .before .before .before .before .before .before .before .before .before .before .pre .few in
+    node-said _ (c .before .before .before .before .before .before .before .before .before .before .before .before .pre .nodes (c .before .before .before .before .before .before .before .loop .i) (omega arith)) ∙ sym (found-in (a .request .now) (a .t4) (a .count) (omega arith) (vertexName (a .query .now) (a .rules .now) (a .word)) (c .before .before .before .before .before .before .before .loop .i) (c .before .before .before .before .before .before .loop-test .taken) (c .before .before .before .before .before .before .before .loop .inv .1)
+    (compared (a .query .now) (a .rules .now) (a .request .now) (a .word) (getD (a .t4) (c .before .before .before .before .before .before .before .loop .i) noIdentity .actor) (c .before .before .before .part .result .now) (c .before .before .says .result) (c .before .before .before .before .before .before .before .before .if1 .taken) (c .before .before .before .part .ensures) (c .before .before .says .ensures) ∙ c .before .if2 .taken))
+
+add-i : tie.Need-add-i Inv-loop μ-loop
+add-i c = search needs
+
+loop-less : tie.Need-loop-less Inv-loop μ-loop
+loop-less c = search needs
+
+loop-again : tie.Need-loop-again Inv-loop μ-loop
+loop-again c =
+    let a = c .before .before .before .before .before .before .before .before .before .before .before .args in
+    let own : same (vertexName (a .query .now) (a .rules .now) (a .word)) (nameAt (a .request .now) (getD (a .t4) (c .before .before .before .before .before .before .loop .i) noIdentity .actor)) ≡ false =
+    compared (a .query .now) (a .rules .now) (a .request .now) (a .word) (getD (a .t4) (c .before .before .before .before .before .before .loop .i) noIdentity .actor) (c .before .before .part .result .now) (c .before .says .result) (c .before .before .before .before .before .before .before .if1 .taken) (c .before .before .part .ensures) (c .before .says .ensures) ∙ c .if2 .left in (
+      omega arith,
+      λ j h. either (equal-or-not j (c .before .before .before .before .before .before .loop .i))
+          (λ e. subst (λ z. same (vertexName (a .query .now) (a .rules .now) (a .word)) (nameAt (a .request .now) (getD (a .t4) z noIdentity .actor)) ≡ false) (sym e) own)
+          (λ e. let d = e .1 in c .before .before .before .before .before .before .loop .inv .1 j (omega arith)),
+    )
+
+returns-2 : tie.Need-returns-2 Inv-loop μ-loop
+unfolding nodeIn
+returns-2 c =
+    let a = c .before .before .before .before .before .before .args in
+    let all : length (a .t4) ≡ 8 = search needs in
+    let few = c .before .before .before .before .before .before .pre .few in
+    sym (none-in (a .request .now) (a .t4) (a .count) (omega arith) (vertexName (a .query .now) (a .rules .now) (a .word)) (λ j h. c .before .loop .inv .1 j (omega arith)))
+
+returns-3 : tie.Need-returns-3 Inv-loop μ-loop
+unfolding nodeIn
+returns-3 c =
+    let a = c .before .before .before .before .args in
+    let all : length (a .t4) ≡ 8 = search needs in
+    let few = c .before .before .before .before .pre .few in
+    sym (other-has-none (a .request .now) (a .t4) (a .count) (omega arith) (a .query .now) (a .rules .now) (a .word) (λ i. omega (arith, c .before .shared-slice-known3 .given i)) (c .if1 .left))
+
+pub find-identity-spec : {M : Type 1} → statement M
+find-identity-spec =
+    tie.close
+    (tie.spec
+    Inv-loop
+    μ-loop
+    loop-holds
+    mul-identity
+    array-copy-out-identity
+    part-requires
+    says-requires
+    cast-result
+    returns
+    add-i
+    loop-less
+    loop-again
+    returns-2
+    returns-3)

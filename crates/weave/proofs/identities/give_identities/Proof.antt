@@ -1,0 +1,82 @@
+-- `give_identities` meets its contract. The loop's invariant: the vertices below v have their nodes. Assumes nothing.
+use Rattle.weave.proofs.IdentityLaws.{GivenSoFar, given-start, given-more}
+use Rattle.weave.specs.Identities.{identitiesIn, IdentitiesGiven}
+use native.Mathlib.Omega.{arith}
+use mathlib.Core.Path.{_≡_, sym, subst}
+use Prim.Native.Nat.{_+_, _-_, _≤_}
+use borrow.Author.Needs.{needs}
+use Rattle.weave.proofs.identities.give_identities.Statement.{statement}
+use Rattle.weave.proofs.identities.give_identities.Tie as tie
+
+abbrev Inv-loop : tie.InvT-loop
+Inv-loop query rules request identities count words₀ n mask₀ v₀ words mask v = (v ≤ n) × GivenSoFar query rules (identitiesIn request identities count) words₀ words v mask
+
+abbrev μ-loop : tie.MeasureT-loop
+μ-loop query rules request identities count words₀ n mask₀ v₀ words mask v = n - v
+
+loop-holds : tie.Need-loop-holds Inv-loop μ-loop
+loop-holds c = (omega arith, given-start (c .before .before .before .before .args .query .now) (c .before .before .before .before .args .rules .now) _ (c .before .before .before .before .args .words .now))
+
+mul-find-identity : tie.Need-mul-find-identity Inv-loop μ-loop
+mul-find-identity c = search needs
+
+slice-read-find-identity : tie.Need-slice-read-find-identity Inv-loop μ-loop
+slice-read-find-identity c = omega (arith, c .before .before .loop .inv .1 .size, c .before .before .before .before .before .before .before .pre .1, c .before .before .before .before .before .before .before .pre .2)
+
+find-identity-requires : tie.Need-find-identity-requires Inv-loop μ-loop
+find-identity-requires c κs = search needs
+
+add-words : tie.Need-add-words Inv-loop μ-loop
+add-words c = search needs
+
+mul-words : tie.Need-mul-words Inv-loop μ-loop
+mul-words c = search needs
+
+slice-write-words : tie.Need-slice-write-words Inv-loop μ-loop
+slice-write-words c = omega (arith, c .before .before .before .loop .inv .1 .size, c .before .before .before .before .before .before .before .before .pre .1, c .before .before .before .before .before .before .before .before .pre .2)
+
+mark-if-requires : tie.Need-mark-if-requires Inv-loop μ-loop
+mark-if-requires c κs = search needs
+
+add-v : tie.Need-add-v Inv-loop μ-loop
+add-v c = search needs
+
+loop-less : tie.Need-loop-less Inv-loop μ-loop
+loop-less c = search needs
+
+loop-again : tie.Need-loop-again Inv-loop μ-loop
+loop-again c =
+    let a = c .before .before .before .before .before .before .before .before .before .args in (
+      omega arith,
+      subst (GivenSoFar (a .query .now) (a .rules .now) (identitiesIn (a .request .now) (a .identities) (a .count)) (a .words .now) _ (c .before .before .before .before .loop .v + 1)) (sym (c .mark-if .ensures))
+          (given-more (a .query .now) (a .rules .now) (identitiesIn (a .request .now) (a .identities) (a .count)) (a .words .now) (c .before .before .before .before .loop .words) (c .before .before .before .before .loop .v) (c .before .before .before .before .loop .mask) (c .before .find-identity .result) (c .before .before .before .before .loop .inv .1) (omega (arith, c .before .before .before .before .before .before .before .before .before .pre .1)) (omega (arith, c .before .before .before .before .loop .inv .1 .size, c .before .before .before .before .before .before .before .before .before .pre .2)) (c .before .find-identity .ensures)),
+    )
+
+same-length : tie.Need-same-length Inv-loop μ-loop
+same-length c = c .before .loop .inv .1 .size
+
+returns : tie.Need-returns Inv-loop μ-loop
+returns c =
+    let a = c .before .before .before .before .before .before .args in
+    let e : c .before .loop .v ≡ a .n = omega arith in
+    subst (λ n. IdentitiesGiven (a .query .now) (a .rules .now) (identitiesIn (a .request .now) (a .identities) (a .count)) (a .words .now) (c .before .loop .words) n (c .before .loop .mask)) e (c .before .loop .inv .1 .given)
+
+pub give-identities-spec : {M : Type 1} → statement M
+give-identities-spec =
+    tie.close
+    (tie.spec
+    Inv-loop
+    μ-loop
+    loop-holds
+    mul-find-identity
+    slice-read-find-identity
+    find-identity-requires
+    add-words
+    mul-words
+    slice-write-words
+    mark-if-requires
+    add-v
+    loop-less
+    loop-again
+    same-length
+    returns)

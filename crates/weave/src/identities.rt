@@ -1,0 +1,67 @@
+// Identities on the woven vertices: an actor vertex whose name is that of an identity has its node.
+ghost use mathlib.Core.Path.{_≡_};
+ghost use Prim.Native.Nat.{_≤_};
+ghost use lib.ListN.{length};
+ghost use Rattle.woven.specs.Tables.{vertexName, nodeIn};
+ghost use Rattle.weave.specs.Identities.{identityOf, identitiesIn, IdentitiesReady, IdentitiesGiven};
+use crate::marks;
+use model::Identity;
+use model::MAX_IDENTITIES;
+use woven::IDENTITIES;
+use woven::NO_NODE;
+use woven::names;
+
+// A vertex word is twice the word of its name, and one more for an actor vertex.
+const VERTEX_KINDS: u32 = 2;
+
+// The node that the identities give to a woven vertex, or no node.
+fn find_identity(
+    query: &[u8],
+    rules: &[u8],
+    request: &[u8],
+    identities: [Identity; MAX_IDENTITIES],
+    count: usize,
+    word: u32,
+) -> u32
+    requires { ⌜ IdentitiesReady identities count ⌝ }
+    ensures { λ r. ⌜ nodeIn r ≡ identityOf (identitiesIn (now (request .entry)) identities count) (vertexName (now (query .entry)) (now (rules .entry)) word) ⌝ }
+{
+    if word % VERTEX_KINDS == 1 {
+        let mut i = 0;
+        while i < count {
+            let identity = identities[i];
+            let actor = identity.actor;
+            let name = names::part(request, actor.start, actor.length);
+            if names::says(query, rules, word / VERTEX_KINDS, name) {
+                return identity.node as u32;
+            }
+            i += 1;
+        }
+        return NO_NODE;
+    }
+    NO_NODE
+}
+
+// Gives the woven vertices their nodes; answers which have one.
+pub fn give_identities(
+    query: &[u8],
+    rules: &[u8],
+    request: &[u8],
+    identities: [Identity; MAX_IDENTITIES],
+    count: usize,
+    words: &mut [u32],
+    n: usize,
+) -> u32
+    requires { ⌜ IdentitiesReady identities count × (n ≤ 24) × (512 ≤ length (now words)) ⌝ }
+    ensures { λ r. ⌜ IdentitiesGiven (now (query .entry)) (now (rules .entry)) (identitiesIn (now (request .entry)) identities count) (now (words .entry)) (now (words .exit)) n r ⌝ }
+{
+    let mut mask: u32 = 0;
+    let mut v = 0;
+    while v < n {
+        let node = find_identity(query, rules, request, identities, count, words[v]);
+        words[IDENTITIES + v] = node;
+        mask = marks::mark_if(mask, v, node != NO_NODE);
+        v += 1;
+    }
+    mask
+}
