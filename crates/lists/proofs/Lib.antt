@@ -1,0 +1,4 @@
+-- Laws of lists of names.
+pub mod Sizes
+pub mod Behind
+pub mod Heads

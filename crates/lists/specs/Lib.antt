@@ -1,0 +1,3 @@
+-- Lists of names in a line, by places.
+pub mod Places
+pub mod Names

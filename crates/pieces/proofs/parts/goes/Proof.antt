@@ -1,0 +1,42 @@
+use Rattle.pieces.proofs.StepLaws.{link-by}
+use Rattle.signs.specs.Reads.{signsFrom}
+use Rattle.signs.specs.Marks.{markBytes}
+use Rattle.model.specs.Grammar.{goes, comes, spotAfter}
+use Rattle.model.specs.Bytes.{bytesOf}
+use Rattle.pieces.proofs.PartLaws.{link-read, link-unread, link-moves}
+use Rattle.pieces.specs.Steps.{stepOf, walkAt, pieceOf, spotOf, chainAt}
+use Rattle.pieces.specs.Walk.{orStopped, stopped, walk}
+use native.Mathlib.Omega.{arith}
+use mathlib.Core.Bool.{true, false}
+use mathlib.Core.Path.{refl, sym, ap, _∙_}
+use borrow.Author.Needs.{needs}
+use Rattle.pieces.proofs.parts.goes.Statement.{statement}
+use Rattle.pieces.proofs.parts.goes.Tie as tie
+use Rattle.pieces.proofs.parts.goes.Reads as reads
+use Rattle.pieces.proofs.parts.goes.Lts as lts
+use Rattle.pieces.proofs.parts.link.Reads as link-reads
+
+-- src/parts.rt:102:33
+link-requires : tie.Need-link-requires
+link-requires c κs = search needs
+
+-- src/parts.rt:102:25
+enum-known-l : tie.Need-enum-known-l
+enum-known-l c = search needs
+
+-- src/parts.rt:103:9
+enum-told : tie.Need-enum-told
+enum-told c = search needs
+
+-- src/parts.rt:103:9
+returns : tie.Need-returns
+unfolding stepOf walkAt pieceOf spotOf chainAt orStopped markBytes spotAfter
+returns c = record { reads = link-by goes (bytesOf "->") (λ e l v. refl) (signsFrom true false (c .before .before .before .before .args .s .now) (c .before .before .before .before .args .from)) ∙ ap orStopped (link-unread 11582 (c .before .before .before .before .args .s .now) (c .before .before .before .before .args .from) (c .before .before .link .result) (c .before .before .link .ensures) (c .enum-told .given .1) _); moves = tt }
+
+-- src/parts.rt:99:1
+returns-2 : tie.Need-returns-2
+unfolding stepOf walkAt pieceOf spotOf chainAt orStopped markBytes spotAfter
+returns-2 c = record { reads = link-by goes (bytesOf "->") (λ e l v. refl) (signsFrom true false (c .before .before .before .before .before .args .s .now) (c .before .before .before .before .before .args .from)) ∙ ap orStopped (link-read 11582 (c .before .before .before .before .before .args .s .now) (c .before .before .before .before .before .args .from) (c .before .before .before .link .result) (c .before .before .before .link .ensures) (c .before .l .given .0 .0) (c .before .l .given .0 .1 .0) (c .before .l .given .1) _); moves = omega (arith, link-moves 11582 (c .before .before .before .before .before .args .s .now) (c .before .before .before .before .before .args .from) (c .before .before .before .link .result) (c .before .before .before .link .ensures) (c .before .l .given .0 .0) (c .before .l .given .0 .1 .0) (c .before .l .given .1)) }
+
+pub goes-spec : {M : Type 1} → statement M
+goes-spec = tie.close (tie.spec link-requires enum-known-l enum-told returns returns-2)

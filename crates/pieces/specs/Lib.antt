@@ -1,0 +1,4 @@
+pub mod Walk
+pub mod Named
+pub mod Faults
+pub mod Steps

@@ -1,0 +1,145 @@
+-- The pieces of a text from a place on, one step after another.
+use Prim.Native.Nat.{ℕ, _-_, _<_}
+use mathlib.Core.Path.{_≡_}
+use mathlib.Core.List.{List, [], _∷_}
+use mathlib.Core.Bool.{Bool, true, false}
+use lib.Dec.{T}
+use Rattle.model.specs.Bytes.{Bytes, bytesOf}
+use Rattle.model.specs.Choice.{pick, Maybe, nothing, just, andThen}
+use Rattle.model.specs.Words.{Got}
+use Rattle.model.specs.Values.{Value}
+use Rattle.model.specs.Signs.{Sign, isMark, wordy, signName, signValue, next, expect}
+use Rattle.model.specs.QueryText.{Relation, Condition, differ, demand}
+use Rattle.model.specs.Grammar.{Piece, start, goes, comes, asks, returns, Spot, atStart, inChain, inWhere, inReturn, spotAfter, relationOf, pieceAt}
+use Rattle.model.specs.Answers.{nameAt, relationOf as relationData, valueOf}
+use Rattle.signs.specs.Reads.{signOf, signsFrom}
+use Rattle.signs.specs.declared.Sign.{Sign as SignData}
+use Rattle.signs.specs.declared.NameRead.{NameRead}
+use Rattle.signs.specs.declared.NameRead.the-variants as name
+use Rattle.pieces.specs.declared.Spot.{Spot as SpotData}
+use Rattle.pieces.specs.declared.Spot.the-variants as spot
+use Rattle.pieces.specs.declared.Place.{Place}
+use Rattle.pieces.specs.declared.Link.{Link}
+use Rattle.pieces.specs.declared.Demand.{Demand}
+use Rattle.pieces.specs.declared.Piece.{Piece as PieceData}
+use Rattle.pieces.specs.declared.Piece.the-variants as piece
+use Rattle.pieces.specs.declared.PieceRead.{PieceRead}
+use Rattle.pieces.specs.declared.PieceRead.the-variants as read
+use Rattle.pieces.specs.declared.LinkRead.{LinkRead}
+use Rattle.pieces.specs.declared.LinkRead.the-variants as link
+use Rattle.pieces.specs.Walk.{Walk, stopped, ahead, orStopped, walk}
+
+-- the spot that each case is, and whether signs are read as in a chain there
+unfoldable pub spotOf : SpotData → Spot
+spotOf spot.AtStart = atStart
+spotOf spot.InChain = inChain
+spotOf spot.InWhere = inWhere
+spotOf spot.InReturn = inReturn
+
+unfoldable pub chainAt : SpotData → Bool
+chainAt spot.AtStart = false
+chainAt spot.InChain = true
+chainAt spot.InWhere = false
+chainAt spot.InReturn = false
+
+-- the piece that each case is
+unfoldable pub pieceOf : Bytes → PieceData → Piece
+pieceOf s (piece.Start v) = start (nameAt s v)
+pieceOf s (piece.Goes l) = goes (nameAt s (l .edge)) (nameAt s (l .label)) (nameAt s (l .vertex))
+pieceOf s (piece.Comes l) = comes (nameAt s (l .edge)) (nameAt s (l .label)) (nameAt s (l .vertex))
+pieceOf s (piece.Differ v u) = asks (differ (nameAt s v) (nameAt s u))
+pieceOf s (piece.Asks d) = asks (demand (nameAt s (d .subject)) (nameAt s (d .attribute)) (relationData (d .relation)) (valueOf s (d .value)))
+pieceOf s (piece.Returns v) = returns (nameAt s v)
+
+-- the pieces from a place on
+unfoldable pub walkAt : Bytes → Place → Walk
+walkAt s p = walk (spotOf (p .spot)) 0 (signsFrom (chainAt (p .spot)) (p .close) s (p .at))
+
+-- a piece and what follows it; or none
+unfoldable pub stepOf : Bytes → PieceRead → Walk
+stepOf s (read.None w) = stopped w
+stepOf s (read.Found x) = ahead (pieceOf s (x .piece)) (walkAt s (x .next))
+
+abbrev pub StepBehind : ℕ → PieceRead → Type 0
+StepBehind from (read.None w) = T true
+StepBehind from (read.Found x) = from < x .next .at
+
+-- a piece that was read at the front of signs, and what follows it
+unfoldable pub piecesBy : Maybe (Got Piece) → List Sign → Walk
+piecesBy m ts = orStopped (andThen m (λ g. just (ahead (g .got) (walk (spotAfter (g .got)) (g .size - 1) ts))))
+
+-- a walk is r and what follows it, behind a place
+pub record StepIs (w : Walk) (s : Bytes) (from : ℕ) (r : PieceRead) : Type 0 where
+  pub reads : w ≡ stepOf s r
+  pub moves : StepBehind from r
+
+-- the signs behind the first sign, which ends at a place
+abbrev pub signsBehind : SpotData → Bytes → SignData → ℕ → List Sign
+signsBehind p s t q = let x = signOf s t in signsFrom (Rattle.model.specs.Signs.inChain (chainAt p) x) (wordy x) s q
+
+-- the pieces at a spot, by their first sign and the signs behind it
+unfoldable pub walkBy : SpotData → Bytes → SignData → ℕ → Walk
+walkBy p s t q = piecesBy (pieceAt (spotOf p) (signOf s t) (signsBehind p s t q)) (signsBehind p s t q)
+
+-- r is the piece at a place
+pub record StepAt (s : Bytes) (p : Place) (r : PieceRead) : Type 0 where
+  pub reads : walkAt s p ≡ stepOf s r
+  pub moves : StepBehind (p .at) r
+
+-- (v), and then the rest
+unfoldable pub vertexThen : List Sign → (Bytes → List Sign → Maybe Walk) → Maybe Walk
+vertexThen ts f = expect (bytesOf "(") ts (λ ts. next signName ts (λ v ts. expect (bytesOf ")") ts (λ ts. f v ts)))
+
+unfoldable pub onVertex : Bytes → NameRead → (Bytes → List Sign → Maybe Walk) → Maybe Walk
+onVertex s name.None f = nothing
+onVertex s (name.Found p q) f = f (nameAt s p) (signsFrom true false s q)
+
+abbrev pub VertexBehind : ℕ → NameRead → Type 0
+VertexBehind from name.None = T true
+VertexBehind from (name.Found p q) = from < q
+
+pub record VertexNext (close : Bool) (s : Bytes) (from : ℕ) (r : NameRead) : Type 0 where
+  pub reads : (f : Bytes → List Sign → Maybe Walk) → vertexThen (signsFrom true close s from) f ≡ onVertex s r f
+  pub moves : VertexBehind from r
+
+-- [e:id], an arrow's end, (v), and then the rest
+unfoldable pub linkThen : Bytes → List Sign → (Bytes → Bytes → Bytes → List Sign → Maybe Walk) → Maybe Walk
+linkThen arrow ts f =
+    expect (bytesOf "[") ts (λ ts.
+    next signName ts (λ e ts.
+    expect (bytesOf ":") ts (λ ts.
+    next signName ts (λ l ts.
+    expect (bytesOf "]") ts (λ ts.
+    expect arrow ts (λ ts.
+    vertexThen ts (λ v ts. f e l v ts)))))))
+
+unfoldable pub onLink : Bytes → LinkRead → (Bytes → Bytes → Bytes → List Sign → Maybe Walk) → Maybe Walk
+onLink s link.None f = nothing
+onLink s (link.Found l q) f = f (nameAt s (l .edge)) (nameAt s (l .label)) (nameAt s (l .vertex)) (signsFrom true false s q)
+
+abbrev pub LinkBehind : ℕ → LinkRead → Type 0
+LinkBehind from link.None = T true
+LinkBehind from (link.Found l q) = from < q
+
+pub record LinkNext (arrow : Bytes) (s : Bytes) (from : ℕ) (r : LinkRead) : Type 0 where
+  pub reads : (f : Bytes → Bytes → Bytes → List Sign → Maybe Walk) → linkThen arrow (signsFrom true false s from) f ≡ onLink s r f
+  pub moves : LinkBehind from r
+
+-- v <> u, and then the rest; or x.attr REL value, from behind the variable x
+unfoldable pub otherThen : Bytes → List Sign → (Condition → List Sign → Maybe Walk) → Maybe Walk
+otherThen x ts f = next signName ts (λ u ts. f (differ x u) ts)
+
+unfoldable pub valueThen : Bytes → List Sign → (Condition → List Sign → Maybe Walk) → Maybe Walk
+valueThen x ts f = next signName ts (λ a ts. next relationOf ts (λ r ts. next signValue ts (λ v ts. f (demand x a r v) ts)))
+
+-- a condition behind its variable
+unfoldable pub restThen : Bytes → List Sign → (Condition → List Sign → Maybe Walk) → Maybe Walk
+restThen x ts f =
+    next just ts (λ t ts.
+    let other = otherThen x ts f in
+    let value = valueThen x ts f in
+    pick (isMark (bytesOf "<>") t) other (pick (isMark (bytesOf ".") t) value nothing))
+
+-- a condition that was asked, and what follows it
+abbrev pub asked : Condition → List Sign → Maybe Walk
+asked c ts = just (ahead (asks c) (walk inWhere 0 ts))

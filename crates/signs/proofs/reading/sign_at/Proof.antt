@@ -1,0 +1,75 @@
+use Rattle.signs.proofs.SignLaws.{sign-word, sign-whole, sign-text, sign-mark}
+use Rattle.model.specs.Words.{isLetter}
+use mathlib.Core.Path.{sym, ap, _∙_}
+use borrow.Author.Needs.{needs}
+use Rattle.signs.proofs.reading.sign_at.Statement.{statement}
+use Rattle.signs.proofs.reading.sign_at.Tie as tie
+use Rattle.signs.proofs.reading.sign_at.Reads as reads
+use Rattle.signs.proofs.reading.sign_at.Lts as lts
+use Rattle.signs.proofs.kinds.starts_number.Reads as starts-number-reads
+use Rattle.signs.proofs.reading.mark_sign.Reads as mark-sign-reads
+use Rattle.signs.proofs.reading.number_sign.Reads as number-sign-reads
+use Rattle.signs.proofs.reading.text_sign.Reads as text-sign-reads
+use Rattle.signs.proofs.reading.word_sign.Reads as word-sign-reads
+use Rattle.text.proofs.bytes.is_letter.Reads as is-letter-reads
+use Rattle.text.proofs.bytes.peek.Reads as peek-reads
+
+-- src/reading.rt:80:9
+peek-requires : tie.Need-peek-requires
+peek-requires c κs = search needs
+
+-- src/reading.rt:81:8
+is-letter-requires : tie.Need-is-letter-requires
+is-letter-requires c κs = search needs
+
+-- src/reading.rt:82:9
+word-sign-requires : tie.Need-word-sign-requires
+word-sign-requires c κs = search needs
+
+-- src/reading.rt:82:9
+returns : tie.Need-returns
+returns c = sign-word (c .before .before .before .before .before .args .s .now) (c .before .before .before .before .before .args .at) (c .before .before .before .before .before .args .chain) (c .before .before .before .before .before .pre) _ (ap isLetter (sym (c .before .before .before .peek .ensures)) ∙ sym (c .before .before .is-letter .ensures) ∙ c .before .if1 .taken) (c .word-sign .ensures)
+
+-- src/reading.rt:84:8
+starts-number-requires : tie.Need-starts-number-requires
+starts-number-requires c κs = search needs
+
+-- src/reading.rt:85:9
+number-sign-requires : tie.Need-number-sign-requires
+number-sign-requires c κs = search needs
+
+-- src/reading.rt:85:9
+returns-2 : tie.Need-returns-2
+returns-2 c = sign-whole (c .before .before .before .before .before .before .before .args .s .now) (c .before .before .before .before .before .before .before .args .at) (c .before .before .before .before .before .before .before .args .chain) (c .before .before .before .before .before .before .before .pre) _ (ap isLetter (sym (c .before .before .before .before .before .peek .ensures)) ∙ sym (c .before .before .before .before .is-letter .ensures) ∙ c .before .before .before .if1 .left) (sym (c .before .before .starts-number .ensures) ∙ c .before .if2 .taken) (c .number-sign .ensures)
+
+-- src/reading.rt:88:9
+text-sign-requires : tie.Need-text-sign-requires
+text-sign-requires c κs = search needs
+
+-- src/reading.rt:88:9
+returns-3 : tie.Need-returns-3
+returns-3 c = sign-text (c .before .before .before .before .before .before .before .before .args .s .now) (c .before .before .before .before .before .before .before .before .args .at) (c .before .before .before .before .before .before .before .before .args .chain) (c .before .before .before .before .before .before .before .before .pre) _ (ap isLetter (sym (c .before .before .before .before .before .before .peek .ensures)) ∙ sym (c .before .before .before .before .before .is-letter .ensures) ∙ c .before .before .before .before .if1 .left) (sym (c .before .before .before .starts-number .ensures) ∙ c .before .before .if2 .left) (sym (c .before .before .before .before .before .before .peek .ensures) ∙ c .before .if3 .taken) (c .text-sign .ensures)
+
+-- src/reading.rt:90:5
+mark-sign-requires : tie.Need-mark-sign-requires
+mark-sign-requires c κs = search needs
+
+-- src/reading.rt:76:1
+returns-4 : tie.Need-returns-4
+returns-4 c = sign-mark (c .before .before .before .before .before .before .before .before .args .s .now) (c .before .before .before .before .before .before .before .before .args .at) (c .before .before .before .before .before .before .before .before .args .chain) (c .before .before .before .before .before .before .before .before .pre) _ (ap isLetter (sym (c .before .before .before .before .before .before .peek .ensures)) ∙ sym (c .before .before .before .before .before .is-letter .ensures) ∙ c .before .before .before .before .if1 .left) (sym (c .before .before .before .starts-number .ensures) ∙ c .before .before .if2 .left) (λ z. c .before .if3 .left (c .before .before .before .before .before .before .peek .ensures ∙ z)) (c .mark-sign .ensures)
+
+pub sign-at-spec : {M : Type 1} → statement M
+sign-at-spec =
+    tie.close
+    (tie.spec
+    peek-requires
+    is-letter-requires
+    word-sign-requires
+    returns
+    starts-number-requires
+    number-sign-requires
+    returns-2
+    text-sign-requires
+    returns-3
+    mark-sign-requires
+    returns-4)
