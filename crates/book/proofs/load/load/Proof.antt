@@ -1,0 +1,94 @@
+use Rattle.book.proofs.WholeLaws.{loaded-as}
+use Rattle.book.proofs.WholeLaws.{book-too-long, book-bad-line, book-of-lines, book-short, book-bad-small}
+use Rattle.book.proofs.LoadLaws.{filled-ones}
+use Rattle.book.specs.Loaded.{Loaded}
+use Rattle.model.specs.Answers.{refusalOf}
+use Rattle.model.specs.Book.{Book}
+use Rattle.model.specs.Refusal.{Outcome, refusal}
+use mathlib.Core.Path.{sym, subst}
+use native.Mathlib.Omega.{arith}
+use borrow.Author.Needs.{needs}
+use Rattle.book.proofs.load.load.Statement.{statement}
+use Rattle.book.proofs.load.load.Tie as tie
+use Rattle.book.proofs.load.load.Reads as reads
+use Rattle.book.proofs.load.load.Lts as lts
+use Rattle.book.proofs.load.load_lines.Reads as load-lines-reads
+use Rattle.text.proofs.lines.bytes_read.Reads as bytes-read-reads
+use Rattle.words.proofs.fill.Reads as fill-reads
+
+-- src/load.rt:37:11
+bytes-read-requires : tie.Need-bytes-read-requires
+bytes-read-requires c κs = search needs
+
+-- src/load.rt:39:25
+enum-told : tie.Need-enum-told
+enum-told c = search needs
+
+-- src/load.rt:39:13
+fill-requires : tie.Need-fill-requires
+fill-requires c κs = search needs
+
+-- src/load.rt:40:13
+same-length : tie.Need-same-length
+same-length c = search needs
+
+-- src/load.rt:40:13
+returns : tie.Need-returns
+unfolding refusal refusalOf
+returns c = (book-too-long (c .before .before .before .before .before .before .before .before .before .args .text .now) _ (c .before .before .before .before .before .before .bytes-read .ensures) (c .before .before .before .before .enum-told .given .1), filled-ones _ _ (c .before .before .fill .ensures))
+
+-- src/load.rt:46:28
+enum-known-line : tie.Need-enum-known-line
+enum-known-line c = search needs
+
+-- src/load.rt:47:13
+fill-requires-2 : tie.Need-fill-requires-2
+fill-requires-2 c κs = search needs
+
+-- src/load.rt:51:23
+cast-t12 : tie.Need-cast-t12
+cast-t12 c = omega (arith, book-bad-small (c .before .before .before .before .before .before .before .before .before .before .args .text .now) _ (c .before .before .before .before .before .before .before .bytes-read .ensures) _ (c .before .before .before .before .before .line .given .1))
+
+-- src/load.rt:48:13
+same-length-2 : tie.Need-same-length-2
+same-length-2 c = search needs
+
+-- src/load.rt:48:13
+returns-2 : tie.Need-returns-2
+unfolding refusal refusalOf
+returns-2 c = (book-bad-line (c .before .before .before .before .before .before .before .before .before .before .args .text .now) _ (c .before .before .before .before .before .before .before .bytes-read .ensures) _ (c .before .before .before .before .before .line .given .1), filled-ones _ _ (c .before .before .fill2 .ensures))
+
+-- src/load.rt:55:37
+enum-told-2 : tie.Need-enum-told-2
+enum-told-2 c = search needs
+
+-- src/load.rt:55:13
+load-lines-requires : tie.Need-load-lines-requires
+load-lines-requires c κs = (book-short (c .before .before .before .before .before .before .args .text .now) _ (c .before .before .before .bytes-read .ensures) (c .before .enum-told2 .given .1), c .before .before .before .before .before .before .pre)
+
+-- src/load.rt:55:13
+same-length-3 : tie.Need-same-length-3
+same-length-3 c = search needs
+
+-- src/load.rt:55:13
+returns-3 : tie.Need-returns-3
+returns-3 c = rw (book-of-lines (c .before .before .before .before .before .before .before .before .before .args .text .now) _ (c .before .before .before .before .before .before .bytes-read .ensures) (c .before .before .before .before .enum-told2 .given .1)) (c .before .before .load-lines .ensures)
+
+pub load-spec : {M : Type 1} → statement M
+load-spec =
+    tie.close
+    (tie.spec
+    bytes-read-requires
+    enum-told
+    fill-requires
+    same-length
+    returns
+    enum-known-line
+    fill-requires-2
+    cast-t12
+    same-length-2
+    returns-2
+    enum-told-2
+    load-lines-requires
+    same-length-3
+    returns-3)

@@ -1,0 +1,112 @@
+use Rattle.model.specs.Answers.{refusalOf}
+use Rattle.model.specs.Refusal.{refusal}
+use Rattle.book.proofs.LoadLaws.{empty-is, empty-fits, line-forward, line-inside, lines-fault, lines-known, lines-over, step-refuses, step-adds, filled-ones}
+use Rattle.book.specs.Loaded.{lineAt}
+use Rattle.tables.specs.Fits.{Fits}
+use Rattle.tables.specs.View.{bookAt}
+use Rattle.model.specs.ReadBook.{bookStep}
+use Rattle.model.specs.Book.{Book, emptyBook}
+use Rattle.model.specs.Lines.{readLines, linesOf}
+use lib.ListN.{length, drop}
+use mathlib.Core.Path.{_≡_, refl, sym, ap, _∙_}
+use Prim.Native.Nat.{ℕ, _+_, _-_, _≤_}
+use borrow.Author.Needs.{needs}
+use native.Mathlib.Omega.{arith}
+use Rattle.book.proofs.load.load_lines.Statement.{statement}
+use Rattle.book.proofs.load.load_lines.Tie as tie
+use Rattle.book.proofs.load.load_lines.Reads as reads
+use Rattle.book.proofs.load.load_lines.Lts as lts
+use Rattle.book.proofs.load.line_step.Reads as line-step-reads
+use Rattle.tables.proofs.no_counts.Reads as no-counts-reads
+use Rattle.text.proofs.lines.line_end.Reads as line-end-reads
+use Rattle.words.proofs.fill.Reads as fill-reads
+
+abbrev Inv-loop : tie.InvT-loop
+Inv-loop text words₀ at₀ line₀ counts₀ words at line counts = (length words ≡ length words₀) × Fits text words counts × (at ≤ length text + 1) × (line ≤ at + 1) × (readLines 1 bookStep line (bookAt text words counts) (linesOf (drop at text)) ≡ readLines 1 bookStep 1 emptyBook (linesOf text))
+
+abbrev μ-loop : tie.MeasureT-loop
+μ-loop text words₀ at₀ line₀ counts₀ words at line counts = length text + 1 - at
+
+-- src/load.rt:67:9
+no-counts-requires : tie.Need-no-counts-requires Inv-loop μ-loop
+no-counts-requires c κs = search needs
+
+-- src/load.rt:68:5
+loop-holds : tie.Need-loop-holds Inv-loop μ-loop
+loop-holds c = (refl, rw (c .no-counts .ensures) (empty-fits (c .before .before .before .args .text .now) (c .before .before .before .args .words .now) (c .before .before .before .pre .1)), omega arith, omega arith, ap (λ (b : Book). readLines 1 bookStep 1 b (linesOf (c .before .before .before .args .text .now))) (ap (bookAt (c .before .before .before .args .text .now) (c .before .before .before .args .words .now)) (c .no-counts .ensures) ∙ empty-is (c .before .before .before .args .text .now) (c .before .before .before .args .words .now)))
+
+-- src/load.rt:69:13
+line-end-requires : tie.Need-line-end-requires Inv-loop μ-loop
+line-end-requires c κs = search needs
+
+-- src/load.rt:70:15
+line-step-requires : tie.Need-line-step-requires Inv-loop μ-loop
+line-step-requires c κs = record { fits = c .before .before .before .loop .inv .1; limit = c .before .before .before .before .before .before .before .pre .0; forward = line-forward (c .before .before .before .before .before .before .before .args .text .now) (c .before .before .before .loop .at) _ (c .before .line-end .ensures) (c .before .before .loop-test .taken); inside = line-inside (c .before .before .before .before .before .before .before .args .text .now) (c .before .before .before .loop .at) _ (c .before .line-end .ensures) (c .before .before .loop-test .taken) }
+
+-- src/load.rt:71:29
+enum-known-number : tie.Need-enum-known-number Inv-loop μ-loop
+enum-known-number c = search needs
+
+-- src/load.rt:72:17
+fill-requires : tie.Need-fill-requires Inv-loop μ-loop
+fill-requires c κs = search needs
+
+-- src/load.rt:73:17
+same-length : tie.Need-same-length Inv-loop μ-loop
+same-length c = search needs
+
+-- src/load.rt:73:17
+returns : tie.Need-returns Inv-loop μ-loop
+unfolding refusal refusalOf
+returns c = (sym (c .before .before .before .before .before .before .before .before .before .before .before .before .before .loop .inv .4) ∙ lines-fault (c .before .before .before .before .before .before .before .before .before .before .before .before .before .before .before .before .before .args .text .now) (c .before .before .before .before .before .before .before .before .before .before .before .before .before .loop .at) _ (c .before .before .before .before .before .before .before .before .before .before .before .line-end .ensures) (c .before .before .before .before .before .before .before .before .before .before .before .before .loop-test .taken) (c .before .before .before .before .before .before .before .before .before .before .before .before .before .loop .line) _ _ (step-refuses (c .before .before .before .before .before .before .before .before .before .before .before .before .before .before .before .before .before .args .text .now) _ _ _ _ (c .before .before .before .before .before .number .given .1) (c .before .before .before .before .before .before .before .before .before .line-step .ensures)), filled-ones _ _ (c .before .before .fill .ensures))
+
+-- src/load.rt:79:29
+enum-known-more : tie.Need-enum-known-more Inv-loop μ-loop
+enum-known-more c = search needs
+
+-- src/load.rt:83:14
+add-at : tie.Need-add-at Inv-loop μ-loop
+add-at c = omega (arith, c .before .before .before .before .before .before .before .before .before .before .before .before .before .pre .0, line-inside (c .before .before .before .before .before .before .before .before .before .before .before .before .before .args .text .now) (c .before .before .before .before .before .before .before .before .before .loop .at) _ (c .before .before .before .before .before .before .before .line-end .ensures) (c .before .before .before .before .before .before .before .before .loop-test .taken))
+
+-- src/load.rt:84:9
+add-line : tie.Need-add-line Inv-loop μ-loop
+add-line c = omega (arith, c .before .before .before .before .before .before .before .before .before .before .before .before .before .pre .0, c .before .before .before .before .before .before .before .before .before .loop .inv .3, c .before .before .before .before .before .before .before .before .loop-test .taken)
+
+-- src/load.rt:68:5
+loop-less : tie.Need-loop-less Inv-loop μ-loop
+loop-less c = omega (arith, line-forward (c .before .before .before .before .before .before .before .before .before .before .before .before .before .args .text .now) (c .before .before .before .before .before .before .before .before .before .loop .at) _ (c .before .before .before .before .before .before .before .line-end .ensures) (c .before .before .before .before .before .before .before .before .loop-test .taken), line-inside (c .before .before .before .before .before .before .before .before .before .before .before .before .before .args .text .now) (c .before .before .before .before .before .before .before .before .before .loop .at) _ (c .before .before .before .before .before .before .before .line-end .ensures) (c .before .before .before .before .before .before .before .before .loop-test .taken))
+
+-- src/load.rt:68:5
+loop-again : tie.Need-loop-again Inv-loop μ-loop
+loop-again c = let s = step-adds (c .before .before .before .before .before .before .before .before .before .before .before .before .before .args .text .now) _ _ _ _ (c .before .more .given .1) (c .before .before .before .before .before .line-step .ensures) in
+    (search needs, s .1, omega (arith, line-inside (c .before .before .before .before .before .before .before .before .before .before .before .before .before .args .text .now) (c .before .before .before .before .before .before .before .before .before .loop .at) _ (c .before .before .before .before .before .before .before .line-end .ensures) (c .before .before .before .before .before .before .before .before .loop-test .taken)), omega (arith, c .before .before .before .before .before .before .before .before .before .loop .inv .3, line-forward (c .before .before .before .before .before .before .before .before .before .before .before .before .before .args .text .now) (c .before .before .before .before .before .before .before .before .before .loop .at) _ (c .before .before .before .before .before .before .before .line-end .ensures) (c .before .before .before .before .before .before .before .before .loop-test .taken)), sym (lines-known (c .before .before .before .before .before .before .before .before .before .before .before .before .before .args .text .now) (c .before .before .before .before .before .before .before .before .before .loop .at) _ (c .before .before .before .before .before .before .before .line-end .ensures) (c .before .before .before .before .before .before .before .before .loop-test .taken) (c .before .before .before .before .before .before .before .before .before .loop .line) _ _ (s .0)) ∙ c .before .before .before .before .before .before .before .before .before .loop .inv .4)
+
+-- src/load.rt:61:1
+same-length-2 : tie.Need-same-length-2 Inv-loop μ-loop
+same-length-2 c = search needs
+
+-- src/load.rt:61:1
+returns-2 : tie.Need-returns-2 Inv-loop μ-loop
+returns-2 c = (sym (c .before .loop .inv .4) ∙ lines-over (c .before .before .before .before .before .args .text .now) (c .before .loop .at) (c .before .loop .line) _ (c .loop-test .left), c .before .loop .inv .1)
+
+pub load-lines-spec : {M : Type 1} → statement M
+load-lines-spec =
+    tie.close
+    (tie.spec
+    Inv-loop
+    μ-loop
+    no-counts-requires
+    loop-holds
+    line-end-requires
+    line-step-requires
+    enum-known-number
+    fill-requires
+    same-length
+    returns
+    enum-known-more
+    add-at
+    add-line
+    loop-less
+    loop-again
+    same-length-2
+    returns-2)

@@ -1,0 +1,100 @@
+// A whole book, line by line, into the tables.
+ghost use mathlib.Core.Path.{_≡_};
+ghost use Prim.Native.Nat.{_-_, _≤_, _<_};
+ghost use lib.ListN.{length};
+ghost use mathlib.Core.Bool.{true};
+ghost use Rattle.model.specs.Lines.{readLines, linesOf};
+ghost use Rattle.model.specs.Book.{emptyBook};
+ghost use Rattle.model.specs.ReadBook.{bookStep, readBook};
+ghost use Rattle.model.specs.Answers.{partOf};
+ghost use Rattle.tables.specs.View.{bookAt};
+ghost use Rattle.tables.specs.Fits.{Fits};
+ghost use Rattle.lines.specs.Steps.{Stepped};
+ghost use Rattle.book.specs.Loaded.{lineAt, LineAsked, Loaded};
+use crate::BookLoad;
+use lines::LineStep;
+use model::Refusal;
+use tables::BookCounts;
+use tables::no_counts;
+use text::BytesRead;
+
+// "Book 65,536 bytes".
+pub const MAX_BOOK_BYTES: usize = 65536;
+
+// The book is text 1.
+pub const BOOK: u32 = 1;
+
+// Refusals in the paper's numbers: the text is too long, a byte is not allowed, the grammar is broken.
+pub const TOO_LONG: u32 = 1;
+
+pub const NOT_ALLOWED: u32 = 2;
+
+pub const BROKEN: u32 = 3;
+
+// Reads a book into the tables; on a refusal they are all ones.
+pub fn load(text: &[u8], words: &mut [u32]) -> BookLoad
+    requires { ⌜ 10752 ≤ length (now words) ⌝ }
+    ensures { λ r. ⌜ Loaded (now (text .entry)) (now (words .exit)) r (readBook (now (text .entry))) ⌝ }
+{
+    match text::lines::bytes_read(text, MAX_BOOK_BYTES) {
+        BytesRead::TooLong => {
+            words::fill(words, 0);
+            return BookLoad::Refused(Refusal {
+                number: TOO_LONG,
+                text: BOOK,
+                line: 0,
+            });
+        }
+        BytesRead::BadLine(line) => {
+            words::fill(words, 0);
+            return BookLoad::Refused(Refusal {
+                number: NOT_ALLOWED,
+                text: BOOK,
+                line: line as u32,
+            });
+        }
+        BytesRead::Allowed => {
+            return load_lines(text, words);
+        }
+    }
+}
+
+// Reads the lines of a book into the tables; on a refusal they are all ones.
+fn load_lines(text: &[u8], words: &mut [u32]) -> BookLoad
+    requires { ⌜ (length (now text) ≤ 65536) × (10752 ≤ length (now words)) ⌝ }
+    ensures { λ r. ⌜ Loaded (now (text .entry)) (now (words .exit)) r (readLines 1 bookStep 1 emptyBook (linesOf (now (text .entry)))) ⌝ }
+{
+    let mut at = 0;
+    let mut line = 1;
+    let mut counts = no_counts();
+    while at < text.len() {
+        let to = text::lines::line_end(text, at);
+        match line_step(text, at, to, words, counts) {
+            LineStep::Fault(number) => {
+                words::fill(words, 0);
+                return BookLoad::Refused(Refusal {
+                    number,
+                    text: BOOK,
+                    line,
+                });
+            }
+            LineStep::Known(more) => {
+                counts = more;
+            }
+        }
+        at = to + 1;
+        line += 1;
+    }
+    BookLoad::Loaded(counts)
+}
+
+// Reads one line from its start to its line feed; without a line feed it breaks the grammar.
+fn line_step(text: &[u8], from: usize, to: usize, words: &mut [u32], counts: BookCounts) -> LineStep
+    requires { ⌜ LineAsked (now text) (now words) counts from to ⌝ }
+    ensures { λ r. ⌜ Stepped (now (text .entry)) (now (words .exit)) r (bookStep (bookAt (now (text .entry)) (now (words .entry)) counts) (lineAt (now (text .entry)) from to)) ⌝ }
+{
+    if text.len() <= to {
+        return LineStep::Fault(BROKEN);
+    }
+    lines::forms::read_line(text, &text[from..to], from, words, counts)
+}
