@@ -1,4 +1,6 @@
 // The rules in words: where each category and each policy stands in the working memory, the lower sets, and the stores.
+ghost use mathlib.Core.Path.{_≡_};
+
 pub mod lower;
 pub mod names;
 pub mod policies;
@@ -40,7 +42,9 @@ pub struct RulesCounts {
 }
 
 // The counts of rules of no lines.
-pub fn no_counts() -> RulesCounts {
+pub fn no_counts() -> RulesCounts
+    ensures { λ r. ⌜ (r .categories ≡ 0) × (r .policies ≡ 0) ⌝ }
+{
     RulesCounts {
         categories: 0,
         policies: 0,
