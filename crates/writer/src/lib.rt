@@ -10,11 +10,11 @@ ghost use Rattle.writer.specs.Writable.{arrayLimits, PatternFits, Writab
 use model::Pattern;
 use tables::BookCounts;
 
-mod bytes;
+pub mod bytes; // bytes.rt: putting bytes, texts and names
 mod conditions;
 mod matches;
 mod returns;
-mod values;
+pub mod values; // values.rt: putting numbers, texts and truth values
 
 // "A written query: 2,048 bytes."
 pub const MAX_WRITTEN: usize = 2048;

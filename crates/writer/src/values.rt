@@ -16,7 +16,7 @@ const MAX_DIGITS: usize = 20;
 const TEN: u64 = 10;
 
 // Puts the decimal digits of a number, at most so many of them.
-fn put_digits(most: usize, n: u64, out: &mut [u8], at: usize) -> usize
+pub fn put_digits(most: usize, n: u64, out: &mut [u8], at: usize) -> usize
     ensures { λ r. ⌜ Puts (now (out .entry)) at (digits most n) (now (out .exit)) r ⌝ }
 {
     if most == 0 {

@@ -1,0 +1,4 @@
+pub mod ScanLaws
+pub mod CountLaws
+pub mod DeclaredLaws
+pub mod FaultLaws

@@ -1,0 +1,2 @@
+-- The lines that the list program prints.
+pub mod Printing
