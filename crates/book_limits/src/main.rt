@@ -1,0 +1,217 @@
+// Tries the limits of a book at their edges: one text within each limit, and one past it.
+use model::BookRead;
+
+// Room for the longest text tried.
+const TEXT_BYTES: usize = 65600;
+
+// The working memory that the service asks.
+const WORK_WORDS: usize = 16384;
+
+// The limits, in the paper's words: "256 nodes, 1,024 relationships, 2,048 attribute entries, 32 names each".
+const NAMES: usize = 32;
+
+const NODES: usize = 256;
+
+const RELATIONSHIPS: usize = 1024;
+
+const BYTES: usize = 65536;
+
+// Enough nodes for 1,025 relationships, and 64 nodes of 32 entries each.
+const ENDS: usize = 33;
+
+const OWNERS: usize = 64;
+
+// Puts a byte at a place and gives the next place; past the room nothing is put.
+fn put_byte(text: &mut [u8], at: usize, b: u8) -> usize {
+    if at < text.len() {
+        text[at] = b;
+        return at + 1;
+    }
+    at
+}
+
+// Puts bytes from a place on and gives the place behind them.
+fn put(text: &mut [u8], at: usize, bytes: &[u8]) -> usize {
+    let mut next = at;
+    let mut i = 0;
+    while i < bytes.len() {
+        next = put_byte(text, next, bytes[i]);
+        i += 1;
+    }
+    next
+}
+
+// Puts four digits.
+fn put_digits(text: &mut [u8], at: usize, n: usize) -> usize {
+    let thousands = put_byte(text, at, (n / 1000 % 10) as u8 + b'0');
+    let hundreds = put_byte(text, thousands, (n / 100 % 10) as u8 + b'0');
+    let tens = put_byte(text, hundreds, (n / 10 % 10) as u8 + b'0');
+    put_byte(text, tens, (n % 10) as u8 + b'0')
+}
+
+// Puts a line: a beginning, a number and an end.
+fn put_line(text: &mut [u8], at: usize, before: &[u8], n: usize, behind: &[u8]) -> usize {
+    let named = put(text, at, before);
+    let numbered = put_digits(text, named, n);
+    put(text, numbered, behind)
+}
+
+// Puts as many lines as are asked, numbered from 0.
+fn put_lines(text: &mut [u8], at: usize, count: usize, before: &[u8], behind: &[u8]) -> usize {
+    let mut next = at;
+    for i in 0..count {
+        next = put_line(text, next, before, i, behind);
+    }
+    next
+}
+
+// A label, 33 nodes, and as many relationships between them.
+fn put_relationships(text: &mut [u8], count: usize) -> usize {
+    let labelled = put(text, 0, b"(label runs)\n");
+    let mut next = put_lines(text, labelled, ENDS, b"(node n", b")\n");
+    for i in 0..count {
+        let from = put_line(text, next, b"(rel runs n", i / ENDS, b" n");
+        let to = put_digits(text, from, i % ENDS);
+        next = put(text, to, b")\n");
+    }
+    next
+}
+
+// A node of the 32 attributes.
+fn put_owner(text: &mut [u8], at: usize, n: usize) -> usize {
+    let named = put_line(text, at, b"(node n", n, b"");
+    let listed = put_lines(text, named, NAMES, b"(a", b" 1)");
+    put(text, listed, b")\n")
+}
+
+// 32 attributes, and 64 nodes that have them all.
+fn put_entries(text: &mut [u8]) -> usize {
+    let mut next = put_lines(text, 0, NAMES, b"(vattr a", b" int)\n");
+    for i in 0..OWNERS {
+        next = put_owner(text, next, i);
+    }
+    next
+}
+
+// A line of as many bytes, its line feed included.
+fn put_long_line(text: &mut [u8], bytes: usize) -> usize {
+    let mut next = put(text, 0, b"(node a)");
+    for _ in 9..bytes {
+        next = put_byte(text, next, b' ');
+    }
+    put_byte(text, next, b'\n')
+}
+
+// Prints a number behind a space.
+fn print(n: u64) {
+    io::write_all(1, b" ");
+    io::print_decimal(1, n);
+}
+
+// Reads the first n bytes of a text and prints what the service answers.
+fn try_book(name: &[u8], text: &[u8], n: usize, work: &mut [u32]) {
+    io::write_all(1, name);
+    if text.len() < n {
+        return;
+    }
+    match book::read_book(&text[0..n], work) {
+        BookRead::Counts(nodes, relationships, entries) => {
+            io::write_all(1, b": counts");
+            print(nodes as u64);
+            print(relationships as u64);
+            print(entries as u64);
+        }
+        BookRead::Refused(refusal) => {
+            io::write_all(1, b": refused");
+            print(refusal.number as u64);
+            print(refusal.text as u64);
+            print(refusal.line as u64);
+        }
+    }
+    io::write_all(1, b"\n");
+}
+
+// As many lines of one form.
+fn try_lines(name: &[u8], count: usize, before: &[u8], behind: &[u8]) {
+    let mut space = [0u8; TEXT_BYTES];
+    let text: &mut [u8] = &mut space;
+    let mut work = [0u32; WORK_WORDS];
+    let n = put_lines(text, 0, count, before, behind);
+    try_book(name, text, n, &mut work);
+}
+
+// As many relationships.
+fn try_relationships(name: &[u8], count: usize) {
+    let mut space = [0u8; TEXT_BYTES];
+    let text: &mut [u8] = &mut space;
+    let mut work = [0u32; WORK_WORDS];
+    let n = put_relationships(text, count);
+    try_book(name, text, n, &mut work);
+}
+
+// 2,048 entries, and what a last line adds.
+fn try_entries(name: &[u8], last: &[u8]) {
+    let mut space = [0u8; TEXT_BYTES];
+    let text: &mut [u8] = &mut space;
+    let mut work = [0u32; WORK_WORDS];
+    let all = put_entries(text);
+    let n = put(text, all, last);
+    try_book(name, text, n, &mut work);
+}
+
+// As many bytes.
+fn try_bytes(name: &[u8], bytes: usize) {
+    let mut space = [0u8; TEXT_BYTES];
+    let text: &mut [u8] = &mut space;
+    let mut work = [0u32; WORK_WORDS];
+    let n = put_long_line(text, bytes);
+    try_book(name, text, n, &mut work);
+}
+
+// A whole number.
+fn try_number(name: &[u8], digits: &[u8]) {
+    let mut space = [0u8; TEXT_BYTES];
+    let text: &mut [u8] = &mut space;
+    let mut work = [0u32; WORK_WORDS];
+    let opened = put(text, 0, b"(vattr rate int)\n(node a (rate ");
+    let numbered = put(text, opened, digits);
+    let n = put(text, numbered, b"))\n");
+    try_book(name, text, n, &mut work);
+}
+
+// A working memory that is one word short.
+fn try_memory(name: &[u8]) {
+    let text = [0u8; TEXT_BYTES];
+    let mut work = [0u32; WORK_WORDS - 1];
+    try_book(name, &text, 0, &mut work);
+}
+
+fn try_names() {
+    try_lines(b"32 vattr", NAMES, b"(vattr a", b" int)\n");
+    try_lines(b"33 vattr", NAMES + 1, b"(vattr a", b" int)\n");
+    try_lines(b"32 eattr", NAMES, b"(eattr a", b" str)\n");
+    try_lines(b"33 eattr", NAMES + 1, b"(eattr a", b" str)\n");
+    try_lines(b"32 label", NAMES, b"(label a", b")\n");
+    try_lines(b"33 label", NAMES + 1, b"(label a", b")\n");
+}
+
+fn try_numbers() {
+    try_number(b"9223372036854775807", b"9223372036854775807");
+    try_number(b"9223372036854775808", b"9223372036854775808");
+    try_number(b"-9223372036854775808", b"-9223372036854775808");
+    try_number(b"-9223372036854775809", b"-9223372036854775809");
+}
+
+fn main() {
+    try_lines(b"256 nodes", NODES, b"(node n", b")\n");
+    try_lines(b"257 nodes", NODES + 1, b"(node n", b")\n");
+    try_relationships(b"1024 relationships", RELATIONSHIPS);
+    try_relationships(b"1025 relationships", RELATIONSHIPS + 1);
+    try_entries(b"2048 entries", b"");
+    try_entries(b"2049 entries", b"(node m (a0000 1))\n");
+    try_names();
+    try_bytes(b"65536 bytes", BYTES);
+    try_bytes(b"65537 bytes", BYTES + 1);
+    try_numbers();
+    try_memory(b"16383 words");
+}
