@@ -2,3 +2,4 @@
 pub mod Sizes
 pub mod Behind
 pub mod Heads
+pub mod Forms

@@ -1,0 +1,6 @@
+-- Laws of a request's line.
+pub mod ClaimLaws
+pub mod FaultLaws
+pub mod FormLaws
+pub mod StoreLaws
+pub mod ReadLaws

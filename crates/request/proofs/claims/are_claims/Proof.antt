@@ -1,0 +1,67 @@
+-- `request::claims::are_claims` meets its contract. Assumes nothing.
+use Prim.Native.Nat.{_-_}
+use mathlib.Core.Path.{_≡_, refl, sym, ap, _∙_}
+use native.Mathlib.Omega.{arith}
+use lib.ListN.{length}
+use borrow.Author.Needs.{needs}
+use Rattle.request.specs.Claims.{claimsFrom, areRead, claimAt}
+use Rattle.request.proofs.ClaimLaws.{claim-placed, placed-at, read-on, read-closed, read-broken, read-over}
+use Rattle.request.proofs.claims.are_claims.Statement.{statement}
+use Rattle.request.proofs.claims.are_claims.Tie as tie
+
+abbrev Inv-loop : tie.InvT-loop
+Inv-loop s from i₀ i = areRead (claimsFrom s i) ≡ areRead (claimsFrom s from)
+
+abbrev μ-loop : tie.MeasureT-loop
+μ-loop s from i₀ i = length s - i
+
+loop-holds : tie.Need-loop-holds Inv-loop μ-loop
+loop-holds c = refl
+
+claim-requires : tie.Need-claim-requires Inv-loop μ-loop
+claim-requires c κs = search needs
+
+enum-known-next : tie.Need-enum-known-next Inv-loop μ-loop
+enum-known-next c = search needs
+
+loop-less : tie.Need-loop-less Inv-loop μ-loop
+loop-less c = let h = placed-at (c .before .before .before .before .before .before .before .args .s .now) (c .before .before .before .before .before .loop .i) _ (ap claimAt (sym (c .before .before .before .claim .ensures) ∙ c .before .next .given .1)) (claim-placed (c .before .before .before .before .before .before .before .args .s .now) (c .before .before .before .before .before .loop .i)) in omega (arith, h .onward)
+
+loop-again : tie.Need-loop-again Inv-loop μ-loop
+loop-again c = read-on (c .before .before .before .before .before .before .before .args .s .now) (c .before .before .before .before .before .loop .i) (sym (c .before .next .given .1) ∙ c .before .before .before .claim .ensures) ∙ c .before .before .before .before .before .loop .inv
+
+enum-known-e : tie.Need-enum-known-e Inv-loop μ-loop
+enum-known-e c = search needs
+
+only-spaces-requires : tie.Need-only-spaces-requires Inv-loop μ-loop
+only-spaces-requires c κs = search needs
+
+returns : tie.Need-returns Inv-loop μ-loop
+returns c = c .only-spaces .ensures ∙ read-closed (c .before .before .before .before .before .before .before .before .args .s .now) (c .before .before .before .before .before .before .loop .i) (sym (c .before .before .e .given .1) ∙ c .before .before .before .before .claim .ensures) ∙ c .before .before .before .before .before .before .loop .inv
+
+enum-told : tie.Need-enum-told Inv-loop μ-loop
+enum-told c = search needs
+
+returns-2 : tie.Need-returns-2 Inv-loop μ-loop
+returns-2 c = read-broken (c .before .before .before .before .before .before .args .s .now) (c .before .before .before .before .loop .i) (sym (c .enum-told .given .1) ∙ c .before .before .claim .ensures) ∙ c .before .before .before .before .loop .inv
+
+returns-3 : tie.Need-returns-3 Inv-loop μ-loop
+returns-3 c = read-over (c .before .before .before .args .s .now) (c .before .loop .i) (c .loop-test .left) ∙ c .before .loop .inv
+
+pub are-claims-spec : {M : Type 1} → statement M
+are-claims-spec =
+    tie.close
+    (tie.spec
+    Inv-loop
+    μ-loop
+    loop-holds
+    claim-requires
+    enum-known-next
+    loop-less
+    loop-again
+    enum-known-e
+    only-spaces-requires
+    returns
+    enum-told
+    returns-2
+    returns-3)

@@ -1,0 +1,54 @@
+-- `request::faults::is_actor` meets its contract. Assumes nothing.
+use native.Mathlib.Omega.{arith}
+use Rattle.tables.specs.View.{wordAt}
+use Rattle.ranks.specs.Layout.{actorsFrom, actorCountAt}
+use Rattle.ranks.specs.View.{actorsAt}
+use Rattle.request.proofs.FaultLaws.{named-test}
+use Rattle.request.proofs.faults.is_actor.Statement.{statement}
+use Rattle.request.proofs.faults.is_actor.Tie as tie
+
+mul-count : tie.Need-mul-count
+mul-count c = omega (arith, c .before .before .before .pre .0 .few, c .before .before .before .pre .1)
+
+add-count : tie.Need-add-count
+add-count c = omega (arith, c .before .before .before .pre .0 .few, c .before .before .before .pre .1)
+
+mul-count-2 : tie.Need-mul-count-2
+mul-count-2 c = omega (arith, c .before .before .before .pre .0 .few, c .before .before .before .pre .1)
+
+shared-slice-read-count : tie.Need-shared-slice-read-count
+shared-slice-read-count c = omega (arith, c .before .before .before .before .pre .0 .few, c .before .before .before .before .pre .1, c .before .before .before .before .pre .0 .room)
+
+cast-count : tie.Need-cast-count
+cast-count c = let h = c .before .before .before .before .pre .0 .each (c .before .before .before .before .args .k) (c .before .before .before .before .pre .1) in omega (arith, h .few-actors)
+
+mul-at : tie.Need-mul-at
+mul-at c = omega (arith, c .before .before .before .before .pre .0 .few, c .before .before .before .before .pre .1)
+
+add-at : tie.Need-add-at
+add-at c = omega (arith, c .before .before .before .before .pre .0 .few, c .before .before .before .before .pre .1)
+
+add-at-2 : tie.Need-add-at-2
+add-at-2 c = omega (arith, c .before .before .before .before .pre .0 .few, c .before .before .before .before .pre .1)
+
+find-name-requires : tie.Need-find-name-requires
+find-name-requires c κs = let h = c .before .before .before .before .pre .0 .each (c .before .before .before .before .args .k) (c .before .before .before .before .pre .1) in (h .actors, omega (arith, h .few-actors, c .before .before .before .before .pre .0 .few, c .before .before .before .before .pre .1, c .before .before .before .before .pre .0 .room))
+
+returns : tie.Need-returns
+unfolding actorsAt
+returns c = let a = c .before .before .before .before .before .args in named-test (a .rules .now) (a .table .now) (actorsFrom (a .k)) (wordAt (a .table .now) (actorCountAt (a .k))) (a .name .now) _ (c .find-name .ensures)
+
+pub is-actor-spec : {M : Type 1} → statement M
+is-actor-spec =
+    tie.close
+    (tie.spec
+    mul-count
+    add-count
+    mul-count-2
+    shared-slice-read-count
+    cast-count
+    mul-at
+    add-at
+    add-at-2
+    find-name-requires
+    returns)

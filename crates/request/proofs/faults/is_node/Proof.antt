@@ -1,0 +1,16 @@
+-- `request::faults::is_node` meets its contract. Assumes nothing.
+use borrow.Author.Needs.{needs}
+use Rattle.tables.proofs.NameLaws.{node-names}
+use Rattle.tables.specs.Layout.{nodeNames}
+use Rattle.request.proofs.FaultLaws.{named-test}
+use Rattle.request.proofs.faults.is_node.Statement.{statement}
+use Rattle.request.proofs.faults.is_node.Tie as tie
+
+find-node-requires : tie.Need-find-node-requires
+find-node-requires c κs = search needs
+
+returns : tie.Need-returns
+returns c = let a = c .before .before .before .before .before .args in rw (node-names (a .book .now) (a .words .now) (a .counts)) (named-test (a .book .now) (a .words .now) nodeNames (a .counts .nodes) (a .name .now) _ (rw (node-names (a .book .now) (a .words .now) (a .counts)) at (c .before .find-node .ensures)))
+
+pub is-node-spec : {M : Type 1} → statement M
+is-node-spec = tie.close (tie.spec find-node-requires returns)

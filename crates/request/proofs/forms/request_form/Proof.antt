@@ -1,0 +1,103 @@
+-- `request::forms::request_form` meets its contract. Assumes nothing.
+use mathlib.Core.Path.{sym, _∙_}
+use native.Mathlib.Omega.{arith}
+use borrow.Author.Tests.{not-true, not-false}
+use borrow.Author.Needs.{needs}
+use Rattle.model.specs.Answers.{partOf}
+use Rattle.lists.proofs.Heads.{placed-at}
+use Rattle.request.proofs.FormLaws.{unopened, wordless, of-other, unnamed, unclaimed, line-read}
+use Rattle.request.proofs.forms.request_form.Statement.{statement}
+use Rattle.request.proofs.forms.request_form.Tie as tie
+
+open-form-requires : tie.Need-open-form-requires
+open-form-requires c κs = search needs
+
+enum-known-i : tie.Need-enum-known-i
+enum-known-i c = search needs
+
+enum-told : tie.Need-enum-told
+enum-told c = search needs
+
+returns : tie.Need-returns
+returns c = unopened (c .before .before .before .before .args .s .now) (sym (c .enum-told .given .1) ∙ c .before .before .open-form .ensures)
+
+next-word-requires : tie.Need-next-word-requires
+next-word-requires c κs = search needs
+
+enum-known-a : tie.Need-enum-known-a
+enum-known-a c = search needs
+
+enum-told-2 : tie.Need-enum-told-2
+enum-told-2 c = search needs
+
+returns-2 : tie.Need-returns-2
+returns-2 c = wordless (c .before .before .before .before .before .before .before .before .args .s .now) (sym (c .before .before .before .before .i .given .1) ∙ c .before .before .before .before .before .before .open-form .ensures) (sym (c .enum-told2 .given .1) ∙ c .before .before .next-word .ensures .is)
+
+sub-same-bytes : tie.Need-sub-same-bytes
+sub-same-bytes c = let h = placed-at (c .before .before .before .before .before .before .before .before .before .args .s .now) _ _ (c .before .a .given .1) (c .before .before .before .next-word .ensures .placed) in omega (arith, h .some, h .inside)
+
+part-same-bytes-start : tie.Need-part-same-bytes-start
+part-same-bytes-start c = let h = placed-at (c .before .before .before .before .before .before .before .before .before .args .s .now) _ _ (c .before .a .given .1) (c .before .before .before .next-word .ensures .placed) in omega (arith, h .some, h .inside)
+
+part-same-bytes-end : tie.Need-part-same-bytes-end
+part-same-bytes-end c = let h = placed-at (c .before .before .before .before .before .before .before .before .before .args .s .now) _ _ (c .before .a .given .1) (c .before .before .before .next-word .ensures .placed) in omega (arith, h .some, h .inside)
+
+slice-aggregate-same-bytes : tie.Need-slice-aggregate-same-bytes
+slice-aggregate-same-bytes c = search needs
+
+same-bytes-requires : tie.Need-same-bytes-requires
+same-bytes-requires c κs = search needs
+
+returns-3 : tie.Need-returns-3
+unfolding partOf
+returns-3 c = of-other (c .before .before .before .before .before .before .before .before .before .before .before .before .before .args .s .now) (sym (c .before .before .before .before .before .before .before .before .before .i .given .1) ∙ c .before .before .before .before .before .before .before .before .before .before .before .open-form .ensures) (sym (c .before .before .before .before .before .a .given .1) ∙ c .before .before .before .before .before .before .before .next-word .ensures .is) (sym (c .before .same-bytes .ensures) ∙ not-true _ (c .if1 .taken))
+
+next-name-requires : tie.Need-next-name-requires
+next-name-requires c κs = search needs
+
+enum-known-p : tie.Need-enum-known-p
+enum-known-p c = search needs
+
+enum-told-3 : tie.Need-enum-told-3
+enum-told-3 c = search needs
+
+returns-4 : tie.Need-returns-4
+unfolding partOf
+returns-4 c = unnamed (c .before .before .before .before .before .before .before .before .before .before .before .before .before .before .before .before .args .s .now) (sym (c .before .before .before .before .before .before .before .before .before .before .before .before .i .given .1) ∙ c .before .before .before .before .before .before .before .before .before .before .before .before .before .before .open-form .ensures) (sym (c .before .before .before .before .before .before .before .before .a .given .1) ∙ c .before .before .before .before .before .before .before .before .before .before .next-word .ensures .is) (sym (c .before .before .before .before .same-bytes .ensures) ∙ not-false _ (c .before .before .before .if1 .left)) (sym (c .enum-told3 .given .1) ∙ c .before .before .next-name .ensures .is)
+
+are-claims-requires : tie.Need-are-claims-requires
+are-claims-requires c κs = search needs
+
+returns-5 : tie.Need-returns-5
+unfolding partOf
+returns-5 c = line-read (c .before .before .before .before .before .before .before .before .before .before .before .before .before .before .before .before .before .before .before .args .s .now) (sym (c .before .before .before .before .before .before .before .before .before .before .before .before .before .before .before .i .given .1) ∙ c .before .before .before .before .before .before .before .before .before .before .before .before .before .before .before .before .before .open-form .ensures) (sym (c .before .before .before .before .before .before .before .before .before .before .before .a .given .1) ∙ c .before .before .before .before .before .before .before .before .before .before .before .before .before .next-word .ensures .is) (sym (c .before .before .before .before .before .before .before .same-bytes .ensures) ∙ not-false _ (c .before .before .before .before .before .before .if1 .left)) (sym (c .before .before .before .p .given .1) ∙ c .before .before .before .before .before .next-name .ensures .is) (placed-at _ _ _ (c .before .before .before .p .given .1) (c .before .before .before .before .before .next-name .ensures .placed)) (sym (c .before .are-claims .ensures) ∙ c .if2 .taken)
+
+returns-6 : tie.Need-returns-6
+unfolding partOf
+returns-6 c = unclaimed (c .before .before .before .before .before .before .before .before .before .before .before .before .before .before .before .before .before .before .before .args .s .now) (sym (c .before .before .before .before .before .before .before .before .before .before .before .before .before .before .before .i .given .1) ∙ c .before .before .before .before .before .before .before .before .before .before .before .before .before .before .before .before .before .open-form .ensures) (sym (c .before .before .before .before .before .before .before .before .before .before .before .a .given .1) ∙ c .before .before .before .before .before .before .before .before .before .before .before .before .before .next-word .ensures .is) (sym (c .before .before .before .before .before .before .before .same-bytes .ensures) ∙ not-false _ (c .before .before .before .before .before .before .if1 .left)) (sym (c .before .before .before .p .given .1) ∙ c .before .before .before .before .before .next-name .ensures .is) (sym (c .before .are-claims .ensures) ∙ c .if2 .left)
+
+pub request-form-spec : {M : Type 1} → statement M
+request-form-spec =
+    tie.close
+    (tie.spec
+    open-form-requires
+    enum-known-i
+    enum-told
+    returns
+    next-word-requires
+    enum-known-a
+    enum-told-2
+    returns-2
+    sub-same-bytes
+    part-same-bytes-start
+    part-same-bytes-end
+    slice-aggregate-same-bytes
+    same-bytes-requires
+    returns-3
+    next-name-requires
+    enum-known-p
+    enum-told-3
+    returns-4
+    are-claims-requires
+    returns-5
+    returns-6)

@@ -1,0 +1,57 @@
+-- `request::read::read` meets its contract. Assumes nothing.
+use native.Mathlib.Omega.{arith}
+use borrow.Author.Needs.{needs}
+use Rattle.tables.specs.View.{bookAt}
+use Rattle.ranks.specs.View.{rulesAt}
+use Rattle.request.proofs.ReadLaws.{too-long, bad-line, allowed, bad-small, reads-refused, reads-as}
+use Rattle.request.proofs.read.read.Statement.{statement}
+use Rattle.request.proofs.read.read.Tie as tie
+
+bytes-read-requires : tie.Need-bytes-read-requires
+bytes-read-requires c κs = search needs
+
+enum-told : tie.Need-enum-told
+enum-told c = search needs
+
+refused-requires : tie.Need-refused-requires
+refused-requires c κs = search needs
+
+enum-known-line : tie.Need-enum-known-line
+enum-known-line c = search needs
+
+cast-refused : tie.Need-cast-refused
+cast-refused c = let a = c .before .before .before .before .before .before .before .before .before .args in omega (arith, bad-small (a .text .now) _ (c .before .before .before .bytes-read .ensures) _ (c .before .line .given .1))
+
+refused-requires-2 : tie.Need-refused-requires-2
+refused-requires-2 c κs = search needs
+
+enum-told-2 : tie.Need-enum-told-2
+enum-told-2 c = search needs
+
+read-one-requires : tie.Need-read-one-requires
+read-one-requires c κs = c .before .before .before .before .before .before .before .before .pre
+
+returns : tie.Need-returns
+returns c = let a = c .before .before .before .before .before .before .before .before .before .args in reads-refused (a .counts .nodes) (a .rules .now) (a .table .now) (a .sizes .categories) (a .text .now) _ 1 0 _ (c .refused .ensures) (too-long (bookAt (a .book .now) (a .words .now) (a .counts)) (rulesAt (a .rules .now) (a .table .now) (a .sizes)) (a .text .now) _ (c .before .before .before .bytes-read .ensures) (c .before .enum-told .given .1))
+
+returns-2 : tie.Need-returns-2
+returns-2 c = let a = c .before .before .before .before .before .before .before .before .before .before .args in reads-refused (a .counts .nodes) (a .rules .now) (a .table .now) (a .sizes .categories) (a .text .now) _ 2 _ _ (c .refused2 .ensures) (bad-line (bookAt (a .book .now) (a .words .now) (a .counts)) (rulesAt (a .rules .now) (a .table .now) (a .sizes)) (a .text .now) _ (c .before .before .before .before .bytes-read .ensures) _ (c .before .before .line .given .1))
+
+returns-3 : tie.Need-returns-3
+returns-3 c = let a = c .before .before .before .before .before .before .before .before .before .args in reads-as (a .counts .nodes) (a .rules .now) (a .table .now) (a .sizes .categories) (a .text .now) _ _ (c .read-one .result) (allowed (bookAt (a .book .now) (a .words .now) (a .counts)) (rulesAt (a .rules .now) (a .table .now) (a .sizes)) (a .text .now) _ (c .before .before .before .bytes-read .ensures) (c .before .enum-told2 .given .1)) (c .read-one .ensures)
+
+pub read-spec : {M : Type 1} → statement M
+read-spec =
+    tie.close
+    (tie.spec
+    bytes-read-requires
+    enum-told
+    refused-requires
+    enum-known-line
+    cast-refused
+    refused-requires-2
+    enum-told-2
+    read-one-requires
+    returns
+    returns-2
+    returns-3)

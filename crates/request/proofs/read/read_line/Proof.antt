@@ -1,0 +1,88 @@
+-- `request::read::read_line` meets its contract. Assumes nothing.
+use Prim.Native.Nat.{_-_}
+use native.Mathlib.Omega.{arith}
+use borrow.Author.Needs.{needs}
+use Rattle.model.specs.Refusal.{accepted}
+use Rattle.model.specs.Request.{requestLine}
+use Rattle.model.specs.Items.{lineItems}
+use Rattle.model.specs.Choice.{andThen}
+use Rattle.model.specs.Answers.{partOf}
+use Rattle.tables.specs.View.{bookAt}
+use Rattle.ranks.specs.View.{rulesAt}
+use Rattle.request.specs.Forms.{lineOf}
+use Rattle.request.proofs.ReadLaws.{line-broken, line-faulty, no-fault, accepts-line, reads-refused}
+use Rattle.request.proofs.FaultLaws.{faultless, is-named, claims-asked}
+use Rattle.request.proofs.FormLaws.{form-at, form-none}
+use Rattle.request.proofs.read.read_line.Statement.{statement}
+use Rattle.request.proofs.read.read_line.Tie as tie
+
+request-form-requires : tie.Need-request-form-requires
+request-form-requires c κs = search needs
+
+enum-known-p : tie.Need-enum-known-p
+enum-known-p c = search needs
+
+enum-told : tie.Need-enum-told
+enum-told c = search needs
+
+refused-requires : tie.Need-refused-requires
+refused-requires c κs = search needs
+
+returns : tie.Need-returns
+returns c = let a = c .before .before .before .before .before .before .before .before .before .args in λ text d. reads-refused (a .counts .nodes) (a .rules .now) (a .table .now) (a .sizes .categories) text _ 3 1 _ (c .refused .ensures) (line-broken (bookAt (a .book .now) (a .words .now) (a .counts)) (rulesAt (a .rules .now) (a .table .now) (a .sizes)) (a .s .now) accepted (form-none (a .s .now) (andThen (lineItems (a .s .now)) requestLine) _ (c .before .enum-told .given .1) (c .before .before .before .request-form .ensures)))
+
+sub-find-name : tie.Need-sub-find-name
+sub-find-name c = let a = c .before .before .before .before .before .before .before .before .before .args in let h = form-at (a .s .now) (andThen (lineItems (a .s .now)) requestLine) _ (c .before .p .given .1) (c .before .before .before .request-form .ensures) in omega (arith, h .places .some, h .places .inside)
+
+part-find-name-start : tie.Need-part-find-name-start
+part-find-name-start c = let a = c .before .before .before .before .before .before .before .before .before .args in let h = form-at (a .s .now) (andThen (lineItems (a .s .now)) requestLine) _ (c .before .p .given .1) (c .before .before .before .request-form .ensures) in omega (arith, h .places .some, h .places .inside)
+
+part-find-name-end : tie.Need-part-find-name-end
+part-find-name-end c = let a = c .before .before .before .before .before .before .before .before .before .args in let h = form-at (a .s .now) (andThen (lineItems (a .s .now)) requestLine) _ (c .before .p .given .1) (c .before .before .before .request-form .ensures) in omega (arith, h .places .some, h .places .inside)
+
+find-name-requires : tie.Need-find-name-requires
+find-name-requires c κs = (c .before .before .before .before .before .before .before .before .before .before .pre .1 .named, omega (arith, c .before .before .before .before .before .before .before .before .before .before .pre .1 .few, c .before .before .before .before .before .before .before .before .before .before .pre .1 .room))
+
+request-fault-requires : tie.Need-request-fault-requires
+request-fault-requires c κs = c .before .before .before .before .before .before .before .before .before .before .before .pre
+
+refused-requires-2 : tie.Need-refused-requires-2
+refused-requires-2 c κs = search needs
+
+returns-2 : tie.Need-returns-2
+unfolding partOf
+returns-2 c = let a = c .before .before .before .before .before .before .before .before .before .before .before .before .before .before .args in let h = form-at (a .s .now) (andThen (lineItems (a .s .now)) requestLine) _ (c .before .before .before .before .before .before .p .given .1) (c .before .before .before .before .before .before .before .before .request-form .ensures) in
+    λ text d. reads-refused (a .counts .nodes) (a .rules .now) (a .table .now) (a .sizes .categories) text _ _ 1 _ (c .refused2 .ensures) (line-faulty (bookAt (a .book .now) (a .words .now) (a .counts)) (rulesAt (a .rules .now) (a .table .now) (a .sizes)) (a .s .now) accepted (lineOf (a .s .now) (c .before .before .before .before .before .before .p .given .0 .0) (c .before .before .before .before .before .before .p .given .0 .1 .0) (h .claims)) _ (h .is) (c .before .before .request-fault .ensures (partOf (a .s .now) (c .before .before .before .before .before .before .p .given .0 .0) ((c .before .before .before .before .before .before .p .given .0 .1 .0) - (c .before .before .before .before .before .before .p .given .0 .0))) (h .claims) (c .before .before .before .find-name .ensures) (h .are)) (c .before .if1 .taken))
+
+identities-requires : tie.Need-identities-requires
+unfolding partOf
+identities-requires c κs = let a = c .before .before .before .before .before .before .before .before .before .before .before .before .before .args in let h = form-at (a .s .now) (andThen (lineItems (a .s .now)) requestLine) _ (c .before .before .before .before .before .p .given .1) (c .before .before .before .before .before .before .before .request-form .ensures) in
+    let f = no-fault _ _ (c .before .request-fault .ensures (partOf (a .s .now) (c .before .before .before .before .before .p .given .0 .0) ((c .before .before .before .before .before .p .given .0 .1 .0) - (c .before .before .before .before .before .p .given .0 .0))) (h .claims) (c .before .before .find-name .ensures) (h .are)) (c .if1 .left) in
+    let z = faultless (a .rules .now) (a .table .now) (a .sizes) (c .before .before .before .before .before .before .before .before .before .before .before .before .before .pre .1) (bookAt (a .book .now) (a .words .now) (a .counts)) (partOf (a .s .now) (c .before .before .before .before .before .p .given .0 .0) ((c .before .before .before .before .before .p .given .0 .1 .0) - (c .before .before .before .before .before .p .given .0 .0))) (c .before .before .find-name .result) (c .before .before .find-name .ensures) (h .claims) f in
+    (c .before .before .before .before .before .before .before .before .before .before .before .before .before .pre .0, claims-asked (a .rules .now) (a .table .now) (a .sizes) (c .before .before .before .before .before .before .before .before .before .before .before .before .before .pre .1) (bookAt (a .book .now) (a .words .now) (a .counts)) (c .before .before .find-name .result) (z .0) (a .s .now) (c .before .before .before .before .before .p .given .0 .1 .0) (h .claims) (h .are) (z .1) (z .2))
+
+returns-3 : tie.Need-returns-3
+unfolding partOf
+returns-3 c = let a = c .before .before .before .before .before .before .before .before .before .before .before .before .before .before .before .args in let h = form-at (a .s .now) (andThen (lineItems (a .s .now)) requestLine) _ (c .before .before .before .before .before .before .before .p .given .1) (c .before .before .before .before .before .before .before .before .before .request-form .ensures) in
+    let f = no-fault _ _ (c .before .before .before .request-fault .ensures (partOf (a .s .now) (c .before .before .before .before .before .before .before .p .given .0 .0) ((c .before .before .before .before .before .before .before .p .given .0 .1 .0) - (c .before .before .before .before .before .before .before .p .given .0 .0))) (h .claims) (c .before .before .before .before .find-name .ensures) (h .are)) (c .before .before .if1 .left) in
+    let z = faultless (a .rules .now) (a .table .now) (a .sizes) (c .before .before .before .before .before .before .before .before .before .before .before .before .before .before .before .pre .1) (bookAt (a .book .now) (a .words .now) (a .counts)) (partOf (a .s .now) (c .before .before .before .before .before .before .before .p .given .0 .0) ((c .before .before .before .before .before .before .before .p .given .0 .1 .0) - (c .before .before .before .before .before .before .before .p .given .0 .0))) (c .before .before .before .before .find-name .result) (c .before .before .before .before .find-name .ensures) (h .claims) f in
+    λ text d. accepts-line (bookAt (a .book .now) (a .words .now) (a .counts)) (rulesAt (a .rules .now) (a .table .now) (a .sizes)) (a .counts .nodes) (a .rules .now) (a .table .now) (a .sizes .categories) text (a .s .now) (c .before .before .before .before .before .before .before .p .given .0 .0) (c .before .before .before .before .before .before .before .p .given .0 .1 .0) (c .before .before .before .before .find-name .result) (h .claims) (c .before .identities .result) (h .is) f (is-named (a .rules .now) (a .table .now) (a .sizes) (c .before .before .before .before .before .before .before .before .before .before .before .before .before .before .before .pre .1) (bookAt (a .book .now) (a .words .now) (a .counts)) (partOf (a .s .now) (c .before .before .before .before .before .before .before .p .given .0 .0) ((c .before .before .before .before .before .before .before .p .given .0 .1 .0) - (c .before .before .before .before .before .before .before .p .given .0 .0))) (c .before .before .before .before .find-name .result) (c .before .before .before .before .find-name .ensures) (h .claims) (z .0)) (z .0) (c .before .identities .ensures (h .claims) (h .are)) d
+
+pub read-line-spec : {M : Type 1} → statement M
+read-line-spec =
+    tie.close
+    (tie.spec
+    request-form-requires
+    enum-known-p
+    enum-told
+    refused-requires
+    returns
+    sub-find-name
+    part-find-name-start
+    part-find-name-end
+    find-name-requires
+    request-fault-requires
+    refused-requires-2
+    returns-2
+    identities-requires
+    returns-3)

@@ -1,0 +1,76 @@
+-- `request::read::read_one` meets its contract. Assumes nothing.
+use mathlib.Core.Path.{_∙_}
+use borrow.Author.Needs.{needs}
+use Rattle.model.specs.Answers.{partOf}
+use Rattle.tables.specs.View.{bookAt}
+use Rattle.ranks.specs.View.{rulesAt}
+use Rattle.request.proofs.ReadLaws.{no-feed, alone, followed, first-whole, first-of, reads-refused, reads-as, still-refused, second-line}
+use Rattle.request.proofs.read.read_one.Statement.{statement}
+use Rattle.request.proofs.read.read_one.Tie as tie
+
+line-end-requires : tie.Need-line-end-requires
+line-end-requires c κs = search needs
+
+refused-requires : tie.Need-refused-requires
+refused-requires c κs = search needs
+
+returns : tie.Need-returns
+returns c = let a = c .before .before .before .before .before .before .before .before .args in reads-refused (a .counts .nodes) (a .rules .now) (a .table .now) (a .sizes .categories) (a .text .now) _ 3 1 _ (c .refused .ensures) (no-feed (bookAt (a .book .now) (a .words .now) (a .counts)) (rulesAt (a .rules .now) (a .table .now) (a .sizes)) (a .text .now) _ (c .before .before .line-end .ensures) (c .before .if1 .taken))
+
+sub-read-line : tie.Need-sub-read-line
+sub-read-line c = search needs
+
+part-read-line-start : tie.Need-part-read-line-start
+part-read-line-start c = search needs
+
+part-read-line-end : tie.Need-part-read-line-end
+part-read-line-end c = search needs
+
+read-line-requires : tie.Need-read-line-requires
+read-line-requires c κs = search needs
+
+enum-told : tie.Need-enum-told
+enum-told c = search needs
+
+enum-told-2 : tie.Need-enum-told-2
+enum-told-2 c = search needs
+
+add-if2 : tie.Need-add-if2
+add-if2 c = search needs
+
+refused-requires-2 : tie.Need-refused-requires-2
+refused-requires-2 c κs = search needs
+
+returns-2 : tie.Need-returns-2
+unfolding partOf
+returns-2 c = let a = c .before .before .before .before .before .before .before .before .before .before .before .before .before .args in
+    reads-refused (a .counts .nodes) (a .rules .now) (a .table .now) (a .sizes .categories) (a .text .now) _ 3 2 _ (c .refused2 .ensures) (followed (bookAt (a .book .now) (a .words .now) (a .counts)) (rulesAt (a .rules .now) (a .table .now) (a .sizes)) (a .text .now) _ (c .before .before .before .before .before .before .before .line-end .ensures) (c .before .before .before .before .before .before .if1 .left) (c .before .if2 .taken) ∙ second-line (a .counts .nodes) (a .rules .now) (a .table .now) (a .sizes .categories) (a .text .now) _ _ (c .before .before .before .before .read-line .ensures (a .text .now) (first-whole (bookAt (a .book .now) (a .words .now) (a .counts)) (rulesAt (a .rules .now) (a .table .now) (a .sizes)) (a .text .now) _ (c .before .before .before .before .before .before .before .line-end .ensures) (c .before .before .before .before .before .before .if1 .left))) (c .before .before .enum-told2 .given .1))
+
+returns-3 : tie.Need-returns-3
+unfolding partOf
+returns-3 c = let a = c .before .before .before .before .before .before .before .before .before .before .before .args in
+    reads-as (a .counts .nodes) (a .rules .now) (a .table .now) (a .sizes .categories) (a .text .now) _ _ (c .before .before .read-line .result) (first-of (bookAt (a .book .now) (a .words .now) (a .counts)) (rulesAt (a .rules .now) (a .table .now) (a .sizes)) (a .text .now) _ (c .before .before .before .before .before .line-end .ensures) (c .before .before .before .before .if1 .left)) (still-refused (a .counts .nodes) (a .rules .now) (a .table .now) (a .sizes .categories) (a .text .now) _ (c .before .before .read-line .result) (c .before .before .read-line .ensures (a .text .now) (first-whole (bookAt (a .book .now) (a .words .now) (a .counts)) (rulesAt (a .rules .now) (a .table .now) (a .sizes)) (a .text .now) _ (c .before .before .before .before .before .line-end .ensures) (c .before .before .before .before .if1 .left))) _ _ (c .enum-told .given .1))
+
+returns-4 : tie.Need-returns-4
+unfolding partOf
+returns-4 c = let a = c .before .before .before .before .before .before .before .before .before .before .before .before .args in
+    reads-as (a .counts .nodes) (a .rules .now) (a .table .now) (a .sizes .categories) (a .text .now) _ _ (c .before .before .before .read-line .result) (alone (bookAt (a .book .now) (a .words .now) (a .counts)) (rulesAt (a .rules .now) (a .table .now) (a .sizes)) (a .text .now) _ (c .before .before .before .before .before .before .line-end .ensures) (c .before .before .before .before .before .if1 .left) (c .if2 .left)) (c .before .before .before .read-line .ensures (a .text .now) (first-whole (bookAt (a .book .now) (a .words .now) (a .counts)) (rulesAt (a .rules .now) (a .table .now) (a .sizes)) (a .text .now) _ (c .before .before .before .before .before .before .line-end .ensures) (c .before .before .before .before .before .if1 .left)))
+
+pub read-one-spec : {M : Type 1} → statement M
+read-one-spec =
+    tie.close
+    (tie.spec
+    line-end-requires
+    refused-requires
+    returns
+    sub-read-line
+    part-read-line-start
+    part-read-line-end
+    read-line-requires
+    enum-told
+    enum-told-2
+    add-if2
+    refused-requires-2
+    returns-2
+    returns-3
+    returns-4)

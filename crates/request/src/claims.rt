@@ -1,0 +1,117 @@
+// The identities of a request's line: the one that follows, and whether an actor stands among them or twice.
+ghost use mathlib.Core.Path.{_≡_};
+ghost use mathlib.Core.List.{List};
+ghost use Rattle.model.specs.Choice.{just};
+ghost use Rattle.model.specs.Names.{mem, twice};
+ghost use Rattle.model.specs.Request.{Claim};
+ghost use Rattle.request.specs.Claims.{claimsFrom, areRead, actorsIn, claimAt, NextClaim};
+use crate::ClaimAt;
+use items::ClaimRead;
+use items::forms;
+use lists::LIST_DEPTH;
+use text::compare;
+
+// The identity that was read, if one was.
+fn claim_at(read: ClaimRead) -> ClaimAt
+    ensures { λ r. ⌜ r ≡ claimAt read ⌝ }
+{
+    match read {
+        ClaimRead::Claim {
+            actor_start,
+            actor_end,
+            node_start,
+            node_end,
+            next,
+        } => ClaimAt::At {
+            actor_start,
+            actor_end,
+            node_start,
+            node_end,
+            next,
+        },
+        ClaimRead::Close(_) => ClaimAt::None,
+        ClaimRead::None => ClaimAt::None,
+    }
+}
+
+// The identity that follows.
+pub fn next_claim(s: &[u8], from: usize) -> ClaimAt
+    ensures { λ r. ⌜ NextClaim (now (s .entry)) from r ⌝ }
+{
+    claim_at(forms::claim(s, from, LIST_DEPTH))
+}
+
+// Whether nothing but identities follows to the end of the line.
+pub fn are_claims(s: &[u8], from: usize) -> bool
+    ensures { λ r. ⌜ r ≡ areRead (claimsFrom (now (s .entry)) from) ⌝ }
+{
+    let mut i = from;
+    while i < s.len() {
+        match forms::claim(s, i, LIST_DEPTH) {
+            ClaimRead::Claim {
+                actor_start: _,
+                actor_end: _,
+                node_start: _,
+                node_end: _,
+                next,
+            } => {
+                i = next;
+            }
+            ClaimRead::Close(e) => {
+                return forms::only_spaces(s, e);
+            }
+            ClaimRead::None => {
+                return false;
+            }
+        }
+    }
+    false
+}
+
+// Whether an identity is given to an actor.
+pub fn has_actor(s: &[u8], from: usize, name: &[u8]) -> bool
+    ensures { λ r. ⌜ ((xs : List Claim) → claimsFrom (now (s .entry)) from ≡ just xs → r ≡ mem (now (name .entry)) (actorsIn xs)) ⌝ }
+{
+    let mut i = from;
+    while i < s.len() {
+        let ClaimAt::At {
+            actor_start,
+            actor_end,
+            node_start: _,
+            node_end: _,
+            next,
+        } = next_claim(s, i)
+        else {
+            return false;
+        };
+        if compare::same_bytes(name, &s[actor_start..actor_end]) {
+            return true;
+        }
+        i = next;
+    }
+    false
+}
+
+// Whether some actor is given an identity a second time.
+pub fn has_twice(s: &[u8], from: usize) -> bool
+    ensures { λ r. ⌜ ((xs : List Claim) → claimsFrom (now (s .entry)) from ≡ just xs → r ≡ twice (actorsIn xs)) ⌝ }
+{
+    let mut i = from;
+    while i < s.len() {
+        let ClaimAt::At {
+            actor_start,
+            actor_end,
+            node_start: _,
+            node_end: _,
+            next,
+        } = next_claim(s, i)
+        else {
+            return false;
+        };
+        if has_actor(s, next, &s[actor_start..actor_end]) {
+            return true;
+        }
+        i = next;
+    }
+    false
+}

@@ -1,0 +1,116 @@
+// The faults of a request's line.
+ghost use mathlib.Core.Path.{_≡_};
+ghost use mathlib.Core.List.{List};
+ghost use Prim.Native.Nat.{_<_};
+ghost use Rattle.model.specs.Choice.{just};
+ghost use Rattle.model.specs.Lists.{any};
+ghost use Rattle.model.specs.Names.{mem};
+ghost use Rattle.model.specs.Book.{nodeNames};
+ghost use Rattle.model.specs.Request.{Claim};
+ghost use Rattle.tables.specs.View.{bookAt};
+ghost use Rattle.tables.specs.Fits.{Fits};
+ghost use Rattle.ranks.specs.View.{actorsAt};
+ghost use Rattle.ranks.specs.Fits.{Fits as RulesFit};
+ghost use Rattle.request.specs.Claims.{claimsFrom, isUnknown};
+ghost use Rattle.request.specs.Faults.{FaultTold};
+use crate::ClaimAt;
+use crate::claims;
+use ranks::ACTORS;
+use ranks::CATEGORIES;
+use ranks::CATEGORY_WORDS;
+use ranks::RulesCounts;
+use tables::BookCounts;
+
+// The faults of a line, in the paper's numbers.
+pub const NOT_DECLARED: u32 = 4;
+
+pub const SECOND_TIME: u32 = 5;
+
+pub const NO_REQUESTOR: u32 = 11;
+
+// Whether a name is that of an actor of category k.
+fn is_actor(rules: &[u8], table: &[u32], sizes: RulesCounts, k: usize, name: &[u8]) -> bool
+    requires { ⌜ RulesFit (now rules) (now table) sizes × (k < sizes .categories) ⌝ }
+    ensures { λ r. ⌜ r ≡ mem (now (name .entry)) (actorsAt (now (rules .entry)) (now (table .entry)) k) ⌝ }
+{
+    let count = table[CATEGORIES + CATEGORY_WORDS * k] as usize;
+    let at = CATEGORIES + CATEGORY_WORDS * k + ACTORS;
+    tables::names::find_name(rules, table, at, count, name) < count
+}
+
+// Whether a name is that of a node.
+fn is_node(book: &[u8], words: &[u32], counts: BookCounts, name: &[u8]) -> bool
+    requires { ⌜ Fits (now book) (now words) counts ⌝ }
+    ensures { λ r. ⌜ r ≡ mem (now (name .entry)) (nodeNames (bookAt (now (book .entry)) (now (words .entry)) counts)) ⌝ }
+{
+    tables::names::find_node(book, words, counts, name) < counts.nodes
+}
+
+// Whether an identity is given to none of category k's actors, or is none of the nodes.
+fn has_unknown(
+    book: &[u8],
+    words: &[u32],
+    counts: BookCounts,
+    rules: &[u8],
+    table: &[u32],
+    sizes: RulesCounts,
+    k: usize,
+    s: &[u8],
+    from: usize,
+) -> bool
+    requires { ⌜ Fits (now book) (now words) counts × RulesFit (now rules) (now table) sizes × (k < sizes .categories) ⌝ }
+    ensures { λ r. ⌜ ((xs : List Claim) → claimsFrom (now (s .entry)) from ≡ just xs
+        → r ≡ any (isUnknown (actorsAt (now (rules .entry)) (now (table .entry)) k) (nodeNames (bookAt (now (book .entry)) (now (words .entry)) counts))) xs) ⌝ }
+{
+    let mut i = from;
+    while i < s.len() {
+        let ClaimAt::At {
+            actor_start,
+            actor_end,
+            node_start,
+            node_end,
+            next,
+        } = claims::next_claim(s, i)
+        else {
+            return false;
+        };
+        if !is_actor(rules, table, sizes, k, &s[actor_start..actor_end]) {
+            return true;
+        }
+        if !is_node(book, words, counts, &s[node_start..node_end]) {
+            return true;
+        }
+        i = next;
+    }
+    false
+}
+
+// The lowest fault of a request's line, or 0: its category has the number k, or that of how many there are where it is none; its identities stand from q on.
+pub fn request_fault(
+    book: &[u8],
+    words: &[u32],
+    counts: BookCounts,
+    rules: &[u8],
+    table: &[u32],
+    sizes: RulesCounts,
+    k: usize,
+    s: &[u8],
+    q: usize,
+) -> u32
+    requires { ⌜ Fits (now book) (now words) counts × RulesFit (now rules) (now table) sizes ⌝ }
+    ensures { λ r. ⌜ FaultTold (now (book .entry)) (now (words .entry)) counts (now (rules .entry)) (now (table .entry)) sizes k (now (s .entry)) q r ⌝ }
+{
+    if sizes.categories <= k {
+        return NOT_DECLARED;
+    }
+    if has_unknown(book, words, counts, rules, table, sizes, k, s, q) {
+        return NOT_DECLARED;
+    }
+    if claims::has_twice(s, q) {
+        return SECOND_TIME;
+    }
+    if claims::has_actor(s, q, b"requestor") {
+        return 0;
+    }
+    NO_REQUESTOR
+}

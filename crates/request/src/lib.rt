@@ -1,0 +1,27 @@
+// The request: the form of its one line, its faults, and its identities as plain data.
+pub mod claims;
+pub mod faults;
+pub mod forms;
+pub mod read;
+pub mod stores;
+
+use model::Identity;
+use model::MAX_IDENTITIES;
+
+// Identities, of which so many are counted.
+pub struct Identities {
+    pub list: [Identity; MAX_IDENTITIES],
+    pub count: usize,
+}
+
+// (id ACTOR NODE): the starts and ends of its two names, and the place behind; or that none follows.
+pub enum ClaimAt {
+    At {
+        actor_start: usize,
+        actor_end: usize,
+        node_start: usize,
+        node_end: usize,
+        next: usize,
+    },
+    None,
+}

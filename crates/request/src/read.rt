@@ -1,0 +1,132 @@
+// A whole request: refusals 1 and 2 first, then its one line.
+ghost use mathlib.Core.Path.{_≡_};
+ghost use Rattle.model.specs.Lines.{linesOf};
+ghost use Rattle.model.specs.Request.{oneLine};
+ghost use Rattle.tables.specs.View.{bookAt};
+ghost use Rattle.tables.specs.Fits.{Fits};
+ghost use Rattle.ranks.specs.View.{rulesAt};
+ghost use Rattle.ranks.specs.Fits.{Fits as RulesFit};
+ghost use Rattle.request.specs.RequestReads.{refusedRead, Reads, LineReads, RequestReads};
+use crate::faults;
+use crate::forms;
+use crate::stores;
+use items::Piece;
+use model::MAX_IDENTITIES;
+use model::Refusal;
+use model::RequestRead;
+use model::Verdict;
+use ranks::CATEGORY_NAMES;
+use ranks::RulesCounts;
+use tables::BookCounts;
+use text::BytesRead;
+
+// "Query, policy text and request 2,048 bytes each."
+pub const MAX_REQUEST_BYTES: usize = 2048;
+
+// The request is text 4.
+pub const REQUEST: u32 = 4;
+
+// Refusals in the paper's numbers: the text is too long, a byte is not allowed, the grammar is broken.
+pub const TOO_LONG: u32 = 1;
+
+pub const NOT_ALLOWED: u32 = 2;
+
+pub const BROKEN: u32 = 3;
+
+// A refusal of the request, beside no category and no identities.
+fn refused(number: u32, line: u32) -> RequestRead
+    ensures { λ r. ⌜ r ≡ refusedRead number line ⌝ }
+{
+    RequestRead {
+        verdict: Verdict::Refused(Refusal {
+            number,
+            text: REQUEST,
+            line,
+        }),
+        category: 0,
+        identities: [stores::NONE; MAX_IDENTITIES],
+        count: 0,
+    }
+}
+
+// Reads the first line of a request, which ends in a line feed.
+fn read_line(
+    book: &[u8],
+    words: &[u32],
+    counts: BookCounts,
+    rules: &[u8],
+    table: &[u32],
+    sizes: RulesCounts,
+    s: &[u8],
+) -> RequestRead
+    requires { ⌜ Fits (now book) (now words) counts × RulesFit (now rules) (now table) sizes ⌝ }
+    ensures { λ r. ⌜ LineReads (now (book .entry)) (now (words .entry)) counts (now (rules .entry)) (now (table .entry)) sizes (now (s .entry)) r ⌝ }
+{
+    let Piece::At(p, q) = forms::request_form(s) else {
+        return refused(BROKEN, 1);
+    };
+    let k = tables::names::find_name(rules, table, CATEGORY_NAMES, sizes.categories, &s[p..q]);
+    let fault = faults::request_fault(book, words, counts, rules, table, sizes, k, s, q);
+    if fault != 0 {
+        return refused(fault, 1);
+    }
+    let given = stores::identities(book, words, counts, s, q);
+    let list = given.list;
+    RequestRead {
+        verdict: Verdict::Accepted,
+        category: k,
+        identities: list,
+        count: given.count,
+    }
+}
+
+// Reads the one line of a request: 3 where there is none, where it has no line feed, and on line 2 where a second follows.
+fn read_one(
+    book: &[u8],
+    words: &[u32],
+    counts: BookCounts,
+    rules: &[u8],
+    table: &[u32],
+    sizes: RulesCounts,
+    text: &[u8],
+) -> RequestRead
+    requires { ⌜ Fits (now book) (now words) counts × RulesFit (now rules) (now table) sizes ⌝ }
+    ensures { λ r. ⌜ Reads (counts .nodes) (now (rules .entry)) (now (table .entry)) (sizes .categories) (now (text .entry))
+        (oneLine (bookAt (now (book .entry)) (now (words .entry)) counts) (rulesAt (now (rules .entry)) (now (table .entry)) sizes) (linesOf (now (text .entry)))) r ⌝ }
+{
+    let to = text::lines::line_end(text, 0);
+    if text.len() <= to {
+        return refused(BROKEN, 1);
+    }
+    let first = read_line(book, words, counts, rules, table, sizes, &text[0..to]);
+    let verdict = first.verdict;
+    match verdict {
+        Verdict::Refused(_) => first,
+        Verdict::Accepted => {
+            if to + 1 < text.len() {
+                return refused(BROKEN, 2);
+            }
+            first
+        }
+    }
+}
+
+// Reads a request for the book that `words` and `counts` hold and the rules that `table` and `sizes` hold.
+pub fn read(
+    book: &[u8],
+    words: &[u32],
+    counts: BookCounts,
+    rules: &[u8],
+    table: &[u32],
+    sizes: RulesCounts,
+    text: &[u8],
+) -> RequestRead
+    requires { ⌜ Fits (now book) (now words) counts × RulesFit (now rules) (now table) sizes ⌝ }
+    ensures { λ r. ⌜ RequestReads (now (book .entry)) (now (words .entry)) counts (now (rules .entry)) (now (table .entry)) sizes (now (text .entry)) r ⌝ }
+{
+    match text::lines::bytes_read(text, MAX_REQUEST_BYTES) {
+        BytesRead::TooLong => refused(TOO_LONG, 0),
+        BytesRead::BadLine(line) => refused(NOT_ALLOWED, line as u32),
+        BytesRead::Allowed => read_one(book, words, counts, rules, table, sizes, text),
+    }
+}

@@ -1,0 +1,65 @@
+// The identities of a request as plain data.
+ghost use mathlib.Core.Path.{_≡_};
+ghost use mathlib.Core.List.{List};
+ghost use Rattle.model.specs.Choice.{just};
+ghost use Rattle.model.specs.Request.{Claim};
+ghost use Rattle.tables.specs.View.{bookAt};
+ghost use Rattle.tables.specs.Fits.{Fits};
+ghost use Rattle.request.specs.Claims.{claimsFrom};
+ghost use Rattle.request.specs.Stored.{ClaimsAsked, ClaimsStored};
+use crate::ClaimAt;
+use crate::Identities;
+use crate::claims;
+use model::Identity;
+use model::MAX_IDENTITIES;
+use model::Part;
+use tables::BookCounts;
+
+// No identity.
+pub const NONE: Identity = Identity {
+    actor: Part {
+        start: 0,
+        length: 0,
+    },
+    node: 0,
+};
+
+// The identities from a place on, each with the number of its node.
+pub fn identities(
+    book: &[u8],
+    words: &[u32],
+    counts: BookCounts,
+    s: &[u8],
+    from: usize,
+) -> Identities
+    requires { ⌜ Fits (now book) (now words) counts × ClaimsAsked (bookAt (now book) (now words) counts) (now s) from ⌝ }
+    ensures { λ r. ⌜ ((xs : List Claim) → claimsFrom (now (s .entry)) from ≡ just xs
+        → ClaimsStored (bookAt (now (book .entry)) (now (words .entry)) counts) (counts .nodes) (now (s .entry)) xs r) ⌝ }
+{
+    let mut list = [NONE; MAX_IDENTITIES];
+    let mut count = 0;
+    let mut i = from;
+    while i < s.len() {
+        let ClaimAt::At {
+            actor_start,
+            actor_end,
+            node_start,
+            node_end,
+            next,
+        } = claims::next_claim(s, i)
+        else {
+            return Identities { list, count };
+        };
+        let node = tables::names::find_node(book, words, counts, &s[node_start..node_end]);
+        list[count] = Identity {
+            actor: Part {
+                start: actor_start,
+                length: actor_end - actor_start,
+            },
+            node,
+        };
+        count += 1;
+        i = next;
+    }
+    Identities { list, count }
+}
