@@ -33,7 +33,7 @@ each-weaken : {A : Type 0} (P Q : A → Type 0) (l : List A) → ((x : A) → P 
 each-weaken P Q [] g h = tt
 each-weaken P Q (x ∷ l) g h = (g x (h .0), each-weaken P Q l g (h .1))
 
-each-append : {A : Type 0} (P : A → Type 0) (xs ys : List A) → Each P xs → Each P ys → Each P (xs ++ ys)
+pub each-append : {A : Type 0} (P : A → Type 0) (xs ys : List A) → Each P xs → Each P ys → Each P (xs ++ ys)
 each-append P [] ys g h = h
 each-append P (x ∷ xs) ys g h = (g .0, each-append P xs ys (g .1) h)
 

@@ -1,0 +1,238 @@
+-- Conditions by numbers: what they name is there, and each is the model's clause.
+use Prim.Native.Nat.{ℕ, suc, _+_, _<_, _≤_}
+use mathlib.Core.Path.{_≡_, refl, sym, ap, ap₂, subst, _∙_}
+use mathlib.Core.List.{List, [], _∷_, _++_, map, append-nil, append-assoc}
+use mathlib.Core.Bool.{Bool, true, false, _&&_}
+use native.Mathlib.Omega.{arith}
+use lib.ListN.{length, take, getD, length-append, length-set}
+use lib.Dec.{T}
+use Rattle.model.specs.Bytes.{Bytes}
+use Rattle.model.specs.Choice.{pick}
+use Rattle.model.specs.Lists.{all, joined}
+use Rattle.model.specs.Names.{mem, place}
+use Rattle.model.specs.Book.{Book, attrNames}
+use Rattle.model.specs.QueryText.{Condition, differ, demand}
+use Rattle.model.specs.Pattern.{Clause, excluded, vertexHas, edgeHas, clauseOf}
+use Rattle.model.specs.Answers.{nameAt, relationOf, valueOf, clauseIn}
+use Rattle.model.specs.declared.Requirement.{Requirement}
+use Rattle.model.specs.declared.Condition.{Condition as ConditionData}
+use Rattle.model.specs.declared.Condition.the-variants.{Excluded, OfVertex, OfEdge}
+use Rattle.model.specs.declared.Clause.{Clause as ClauseData}
+use Rattle.model.proofs.Members.{mem-e}
+use Rattle.model.proofs.Places.{at-place, length-map, map-append}
+use Rattle.tables.specs.declared.BookCounts.{BookCounts}
+use Rattle.tables.specs.Layout.{vattrNames, eattrNames}
+use Rattle.tables.specs.View.{bookAt}
+use Rattle.tables.proofs.NameLaws.{length-names, attr-names}
+use Rattle.pieces.specs.declared.Demand.{Demand}
+use Rattle.pieces.specs.declared.Piece.{Piece as PieceData}
+use Rattle.pieces.specs.declared.Place.{Place}
+use Rattle.pieces.specs.declared.Step.{Step}
+use Rattle.pieces.specs.declared.PieceRead.{PieceRead}
+use Rattle.pieces.specs.declared.PieceRead.the-variants as read
+use Rattle.pieces.specs.Named.{conditionIn, conditionsIn}
+use Rattle.pieces.specs.Steps.{pieceOf, StepAt}
+use Rattle.faults.specs.Names.{foundAt, textStart, textPieces}
+use Rattle.faults.proofs.ScanLaws.{step-list, step-none}
+use Rattle.writer.specs.Writable.{Limits, ConditionFits}
+use Rattle.woven.specs.Given.{noClause, ConditionWithin}
+use Rattle.query.specs.declared.clauses.Clauses.{Clauses}
+use Rattle.query.specs.Clauses.{known, demandOf, RequirementRead, ConditionBegins, ConditionRead, clausesOf, ClausesRead, ClauseAdded, PieceAdded}
+use Rattle.query.proofs.PartLaws.{taken-more, each-more}
+use Rattle.query.proofs.VertexLaws.{place-known, place-new}
+
+-- both of two tests
+pub both-left : (x y : Bool) → (x && y) ≡ true → x ≡ true
+both-left true y h = refl
+both-left false y h = h
+
+pub both-right : (x y : Bool) → (x && y) ≡ true → y ≡ true
+both-right true y h = h
+both-right false y h = cc
+
+-- a name of a list stands at its place
+place-of : (w : Bytes) (ws : List Bytes) → mem w ws ≡ true → (place w ws < length ws) × (getD ws (place w ws) [] ≡ w)
+place-of w ws h = at-place ws w (mem-e w ws (subst T (sym h) tt))
+
+-- as many attributes as are counted
+module _ (text : Bytes) (words : List ℕ) (c : BookCounts) where
+  pub count-vattrs : length (attrNames (bookAt text words c .vattrs)) ≡ c .vattrs
+  unfolding bookAt
+  count-vattrs = ap length (attr-names text words vattrNames (c .vattrs)) ∙ length-names text words vattrNames (c .vattrs)
+
+  pub count-eattrs : length (attrNames (bookAt text words c .eattrs)) ≡ c .eattrs
+  unfolding bookAt
+  count-eattrs = ap length (attr-names text words eattrNames (c .eattrs)) ∙ length-names text words eattrNames (c .eattrs)
+
+-- a condition of what is there, by its numbers
+module _ (b : Book) (m : Limits) (s : Bytes) (vs es : List Bytes) (few : length vs ≡ m .vertices) where
+  pub excluded-read : (v u : Bytes) (i j : ℕ) → known b vs es (differ v u) ≡ true → i ≡ place v vs → j ≡ place u vs → ConditionRead b m s vs es (differ v u) (Excluded i j)
+  unfolding known clauseIn clauseOf
+  excluded-read v u i j h e f =
+      let p = place-of v vs (both-left (mem v vs) (mem u vs) h) in
+      let q = place-of u vs (both-right (mem v vs) (mem u vs) h) in
+      record { is = ap₂ excluded e f; fits = (omega (arith, p .0), omega (arith, q .0)); within = tt; begins = tt }
+
+  module _ (d : Demand) (h : known b vs es (demandOf s d) ≡ true) (k : ℕ) (r : Requirement) where
+    abbrev x : Bytes
+    x = nameAt s (d .subject)
+
+    abbrev a : Bytes
+    a = nameAt s (d .attribute)
+
+    named : (names : List Bytes) → RequirementRead names s d r → mem a names ≡ true → getD names (r .attribute) [] ≡ a
+    named names q t = ap (λ n. getD names n []) (q .attribute) ∙ place-of a names t .1
+
+    below : (names : List Bytes) (n : ℕ) → RequirementRead names s d r → mem a names ≡ true → length names ≡ n → r .attribute < n
+    below names n q t l = omega (arith, q .attribute, place-of a names t .0)
+
+    pub vertex-read : k ≡ place x vs → k < length vs → length (attrNames (b .vattrs)) ≡ m .vattrs → RequirementRead (attrNames (b .vattrs)) s d r → ConditionRead b m s vs es (demandOf s d) (OfVertex k r)
+    unfolding known clauseIn clauseOf
+    vertex-read e l n q =
+        let i : mem x vs ≡ true = place-known x vs (rw e at l) in
+        let t : mem a (attrNames (b .vattrs)) ≡ true = rw i at h in
+        record {
+          is = rw i (λ z. vertexHas (e z) (named (attrNames (b .vattrs)) q t z) (relationOf (q .relation z)) (q .value .same z));
+          fits = (omega arith, below (attrNames (b .vattrs)) (m .vattrs) q t n);
+          within = q .value .inside;
+          begins = q .value .begins;
+        }
+
+    pub edge-read : length vs ≤ place x vs → k ≡ place x es → length es ≡ m .edges → length (attrNames (b .eattrs)) ≡ m .eattrs → RequirementRead (attrNames (b .eattrs)) s d r → ConditionRead b m s vs es (demandOf s d) (OfEdge k r)
+    unfolding known clauseIn clauseOf
+    edge-read o e f n q =
+        let i : mem x vs ≡ false = place-new x vs o in
+        let g : (mem x es && mem a (attrNames (b .eattrs))) ≡ true = rw i at h in
+        let p = place-of x es (both-left (mem x es) (mem a (attrNames (b .eattrs))) g) in
+        let t : mem a (attrNames (b .eattrs)) ≡ true = both-right (mem x es) (mem a (attrNames (b .eattrs))) g in
+        record {
+          is = rw i (λ z. edgeHas (e z) (named (attrNames (b .eattrs)) q t z) (relationOf (q .relation z)) (q .value .same z));
+          fits = (omega (arith, p .0), below (attrNames (b .eattrs)) (m .eattrs) q t n);
+          within = q .value .inside;
+          begins = q .value .begins;
+        }
+
+-- one clause more
+module _ (b : Book) (m : Limits) (s : Bytes) (cs : List Clause) (old : Clauses) (h : ClausesRead b m s cs old) where
+  pub clause-more : (x : Clause) (k : ConditionData) (r : Clauses) → old .count < 32 → clauseIn b s k ≡ x → ConditionFits m k → ConditionWithin (length s) k → ConditionBegins (length s) k → ClauseAdded old k r
+      → ClausesRead b m s (cs ++ (x ∷ [])) r
+  clause-more x k r room e f w v g = record {
+    few = omega (arith, g .count);
+    sized = ap length (g .clauses) ∙ length-set (old .clauses) (old .count) new ∙ h .sized;
+    counted = omega (arith, g .count, h .counted, length-append cs (x ∷ []));
+    is = ap₂ (λ n l. map say (take n l)) (g .count) (g .clauses) ∙ taken-more say (old .clauses) (old .count) new inside ∙ ap₂ (λ a z. a ++ (z ∷ [])) (h .is) e;
+    each = at-each (ConditionFits m) (h .each) f;
+    within = at-each (ConditionWithin (length s)) (h .within) w;
+    begins = at-each (ConditionBegins (length s)) (h .begins) v;
+  }
+    where
+      new : ClauseData
+      new = record { condition = k }
+
+      say : ClauseData → Clause
+      say c = clauseIn b s (c .condition)
+
+      inside : old .count < length (old .clauses)
+      inside = omega (arith, h .sized)
+
+      at-each : (P : ConditionData → Type 0) → ((i : ℕ) → i < old .count → P (getD (old .clauses) i noClause .condition)) → P k → (i : ℕ) → i < r .count → P (getD (r .clauses) i noClause .condition)
+      at-each P ps p i l = rw (g .clauses) (each-more (λ (c : ClauseData). P (c .condition)) noClause (old .clauses) (old .count) new inside ps p i (omega (arith, g .count)))
+
+  pub clause-same : ClausesRead b m s (cs ++ []) old
+  clause-same = rw (append-nil cs) h
+
+-- a piece of one condition
+pub one-named : (k : Condition → Bool) (x : Condition) (cs : List Condition) → cs ≡ x ∷ [] → all k cs ≡ true → k x ≡ true
+unfolding all
+one-named k x cs e h = go (k x) (rw e at h)
+  where
+    go : (t : Bool) → pick t true false ≡ true → t ≡ true
+    go true h = refl
+    go false h = h
+
+-- the clauses with those of a piece that has none, or one
+module _ (b : Book) (m : Limits) (s : Bytes) (vs es : List Bytes) (old : Clauses) (p : PieceData) where
+  pub none-added : conditionIn (pieceOf s p) ≡ [] → PieceAdded b m s vs es old p old
+  none-added e cs h = rw e (clause-same b m s cs old h)
+
+  pub one-added : (k : Condition) (x : ConditionData) (r : Clauses) → conditionIn (pieceOf s p) ≡ k ∷ [] → old .count + length (conditionIn (pieceOf s p)) ≤ 32 → ConditionRead b m s vs es k x → ClauseAdded old x r
+      → PieceAdded b m s vs es old p r
+  one-added k x r e l q g cs h = rw e (clause-more b m s cs old h (clauseOf vs es k) x r (omega (arith, ap length e)) (q .is) (q .fits) (q .within) (q .begins) g)
+
+all-append : {A : Type 0} (p : A → Bool) (a b : List A) → all p (a ++ b) ≡ (all p a && all p b)
+unfolding all
+all-append p [] b = refl
+all-append p (x ∷ a) b = rw (all-append p a b) (go (p x) (all p a) (all p b))
+  where
+    go : (t x y : Bool) → pick t (x && y) false ≡ (pick t x false && y)
+    go true x y = refl
+    go false x y = refl
+
+-- the clauses found from the text's start to a place, and those of the pieces behind it
+pub record ClausesSoFar (b : Book) (m : Limits) (s : Bytes) (vs es : List Bytes) (from : Place) (r : Clauses) : Type 0 where
+  pub read : ClausesRead b m s (clausesOf b s r) r
+  pub rest : clausesOf b s r ++ map (clauseOf vs es) (conditionsIn (foundAt s from)) ≡ map (clauseOf vs es) (conditionsIn (textPieces s))
+  pub named : all (known b vs es) (conditionsIn (foundAt s from)) ≡ true
+
+module _ (b : Book) (m : Limits) (s : Bytes) (vs es : List Bytes) (from : Place) (r : Clauses) where
+  pub clauses-start : from ≡ textStart → all (known b vs es) (conditionsIn (textPieces s)) ≡ true → (r .count ≡ 0) × (length (r .clauses) ≡ 32) → ClausesSoFar b m s vs es from r
+  clauses-start e h z = record {
+    read = record {
+      few = omega (arith, z .0);
+      sized = z .1;
+      counted = z .0 ∙ sym (ap length none);
+      is = refl;
+      each = λ i l. absurd (omega (arith, z .0));
+      within = λ i l. absurd (omega (arith, z .0));
+      begins = λ i l. absurd (omega (arith, z .0));
+    };
+    rest = ap₂ (λ l (p : Place). l ++ map (clauseOf vs es) (conditionsIn (foundAt s p))) none e;
+    named = ap (λ (p : Place). all (known b vs es) (conditionsIn (foundAt s p))) e ∙ h;
+  }
+    where
+      none : clausesOf b s r ≡ []
+      none = ap (λ n. map (λ c. clauseIn b s (c .condition)) (take n (r .clauses))) (z .0)
+
+  module _ (h : ClausesSoFar b m s vs es from r) (p : PieceRead) (step : StepAt s from p) where
+    pub clauses-all : (t : Bool) → p ≡ read.None t → ClausesRead b m s (map (clauseOf vs es) (conditionsIn (textPieces s))) r
+    unfolding joined
+    clauses-all t e = subst (λ z. ClausesRead b m s z r) (sym (append-nil (clausesOf b s r)) ∙ ap (λ l. clausesOf b s r ++ map (clauseOf vs es) (conditionsIn l)) (sym (step-none s from p step t e)) ∙ h .rest) (h .read)
+
+    module _ (x : Step) (e : p ≡ read.Found x) where
+      abbrev here : List Condition
+      here = conditionIn (pieceOf s (x .piece))
+
+      abbrev later : List Condition
+      later = conditionsIn (foundAt s (x .next))
+
+      split : conditionsIn (foundAt s from) ≡ here ++ later
+      unfolding joined
+      split = ap conditionsIn (step-list s from p step x e)
+
+      mapped : map (clauseOf vs es) (conditionsIn (foundAt s from)) ≡ map (clauseOf vs es) here ++ map (clauseOf vs es) later
+      mapped = ap (map (clauseOf vs es)) split ∙ map-append (clauseOf vs es) here later
+
+      tests : (all (known b vs es) here && all (known b vs es) later) ≡ true
+      tests = sym (all-append (known b vs es) here later) ∙ ap (all (known b vs es)) (sym split) ∙ h .named
+
+      pub clauses-named : all (known b vs es) here ≡ true
+      clauses-named = both-left (all (known b vs es) here) (all (known b vs es) later) tests
+
+      pub clauses-room : length (conditionsIn (textPieces s)) ≤ 32 → r .count + length here ≤ 32
+      clauses-room l = omega (
+        arith,
+        h .read .counted,
+        length-append (clausesOf b s r) (map (clauseOf vs es) (conditionsIn (foundAt s from))),
+        ap length (h .rest),
+        length-map (clauseOf vs es) (conditionsIn (textPieces s)),
+        length-map (clauseOf vs es) (conditionsIn (foundAt s from)),
+        ap length split,
+        length-append here later,
+      )
+
+      pub clauses-on : (more : Clauses) → PieceAdded b m s vs es r (x .piece) more → ClausesSoFar b m s vs es (x .next) more
+      clauses-on more k = let new = k (clausesOf b s r) (h .read) in record {
+        read = subst (λ z. ClausesRead b m s z more) (sym (new .is)) new;
+        rest = ap (λ z. z ++ map (clauseOf vs es) later) (new .is) ∙ append-assoc (clausesOf b s r) (map (clauseOf vs es) here) (map (clauseOf vs es) later) ∙ ap (λ z. clausesOf b s r ++ z) (sym mapped) ∙ h .rest;
+        named = both-right (all (known b vs es) here) (all (known b vs es) later) tests;
+      }

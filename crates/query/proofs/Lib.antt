@@ -1,0 +1,9 @@
+pub mod PartLaws
+pub mod VertexLaws
+pub mod EdgeLaws
+pub mod ReturnLaws
+pub mod EdgeNumbers
+pub mod ClauseLaws
+pub mod ClearLaws
+pub mod PatternLaws
+pub mod ReadLaws

@@ -1,0 +1,132 @@
+-- Laws of parts cut to the end of their text, of arrays of which the first elements count, of the walk over the pieces of a text, and of what a text declares.
+use Prim.Native.Nat.{ℕ, zero, suc, _+_, _-_, _<_, _≤_, min}
+use mathlib.Core.Path.{_≡_, refl, sym, ap, subst, _∙_}
+use mathlib.Core.List.{List, [], _∷_, _++_, map}
+use mathlib.Core.Bool.{Bool, true, false, not, _||_}
+use mathlib.Core.Logic.{⊎-elim}
+use native.Mathlib.Numerals.{add-one}
+use native.Mathlib.Omega.{arith}
+use lib.ListN.{length, getD, take, drop, set, length-take, length-drop, length-map, drop-of-length-le}
+use lib.Seq.{take-all, take-length, take-suc, take-suc-set, length-take-le, getD-set-same, getD-set-other}
+use lib.Dec.{T}
+use Rattle.facts.specs.Tests.{either, equal-or-not, below-or-not}
+use Rattle.model.specs.Bytes.{Bytes}
+use Rattle.model.specs.Lists.{any}
+use Rattle.model.specs.Names.{mem, firsts}
+use Rattle.model.specs.Values.{str}
+use Rattle.model.specs.Book.{Book}
+use Rattle.model.specs.Grammar.{Piece, atStart}
+use Rattle.model.specs.Query.{ChainEdge}
+use Rattle.model.specs.ReadQuery.{hasUndeclared}
+use Rattle.model.specs.Answers.{nameAt, partOf, valueOf}
+use Rattle.model.specs.declared.Part.{Part}
+use Rattle.model.specs.declared.Value.{Value}
+use Rattle.model.specs.declared.Value.the-variants.{Number, Text, Truth}
+use Rattle.model.proofs.Members.{_∈_, test, is-false, any-i, mem-e}
+use Rattle.pieces.specs.Walk.{Ordered}
+use Rattle.pieces.specs.Named.{verticesIn, returnsIn, linksFrom}
+use Rattle.pieces.specs.Faults.{someWhere, undeclaredAt}
+use Rattle.pieces.specs.Steps.{StepAt}
+use Rattle.pieces.specs.declared.Place.{Place}
+use Rattle.pieces.specs.declared.Step.{Step}
+use Rattle.pieces.specs.declared.PieceRead.{PieceRead}
+use Rattle.pieces.specs.declared.PieceRead.the-variants as read
+use Rattle.pieces.proofs.Trees.{tree-names, returns-same}
+use Rattle.pieces.proofs.Tests.{vertex-names, undeclared-found}
+use Rattle.faults.specs.Names.{foundAt}
+use Rattle.faults.proofs.ScanLaws.{step-list}
+use Rattle.tables.specs.Listed.{listed}
+use Rattle.tables.proofs.ListedLaws.{map-end}
+use Rattle.query.specs.Parts.{Cut, ValueCut}
+
+-- what lies past the end of a list takes and drops nothing more
+take-min : {A : Type 0} (n : ℕ) (l : List A) → take (min n (length l)) l ≡ take n l
+take-min n l = either (below-or-not n (length l))
+    (λ h. let e : min n (length l) ≡ n = omega arith in rw e)
+    (λ h. let e : min n (length l) ≡ length l = omega arith in rw e (take-length l ∙ sym (take-all n l h)))
+
+drop-min : {A : Type 0} (n : ℕ) (l : List A) → drop (min n (length l)) l ≡ drop n l
+drop-min n l = either (below-or-not n (length l))
+    (λ h. let e : min n (length l) ≡ n = omega arith in rw e)
+    (λ h. let e : min n (length l) ≡ length l = omega arith in rw e (lib.Seq.drop-length l ∙ sym (drop-of-length-le l h)))
+
+-- a part cut to the end of its text
+pub cut-part : (s : Bytes) (p : Part) (start size : ℕ) → start ≡ min (p .start) (length s) → size ≡ min (p .length) (length s - start) → Cut s p (record { start = start; length = size })
+unfolding nameAt partOf
+cut-part s p start size e f = record {
+  same = rw f (ap (λ n. take (min (p .length) n) (drop start s)) (sym (length-drop start s)) ∙ take-min (p .length) (drop start s) ∙ ap (take (p .length)) (rw e (drop-min (p .start) s)));
+  inside = record { ends = omega arith; long = let d = length-drop start s in let t = length-take size (drop start s) in omega arith };
+}
+
+-- a value cut to the end of its text
+pub cut-number : (s : Bytes) (v : Value) (n : ℕ) → v ≡ Number n → ValueCut s v (Number n)
+cut-number s v n e = record { same = rw e; inside = tt; begins = tt }
+
+pub cut-truth : (s : Bytes) (v : Value) (t : Bool) → v ≡ Truth t → ValueCut s v (Truth t)
+cut-truth s v t e = record { same = rw e; inside = tt; begins = tt }
+
+pub cut-text : (s : Bytes) (v : Value) (start size : ℕ) → v ≡ Text start size → (r : Value) → ValueCut s (Text start size) r → ValueCut s v r
+cut-text s v start size e r h = rw e h
+
+module _ (s : Bytes) (start size : ℕ) where
+  pub cut-inside : (kept : ℕ) → start < length s → kept ≡ min size (length s - start) → ValueCut s (Text start size) (Text start kept)
+  unfolding valueOf partOf
+  cut-inside kept h f = record {
+    same = ap str (rw f (ap (λ n. take (min size n) (drop start s)) (sym (length-drop start s)) ∙ take-min size (drop start s)));
+    inside = omega arith;
+    begins = λ z. h;
+  }
+
+  pub cut-past : length s ≤ start → ValueCut s (Text start size) (Text 0 0)
+  unfolding valueOf partOf
+  cut-past h = record {
+    same = ap str (sym (rw (drop-of-length-le s h) (lib.Seq.take-nil size)));
+    inside = omega arith;
+    begins = λ z. z;
+  }
+
+-- the first elements of an array
+module _ {A : Type 0} where
+  -- f of them, one after another
+  pub taken-listed : {B : Type 0} (f : A → B) (l : List A) (d : A) (n : ℕ) → n ≤ length l → map f (take n l) ≡ listed (λ i. f (getD l i d)) n
+  unfolding listed
+  taken-listed f l d zero h = refl
+  taken-listed f l d (suc n) h = rw (take-suc l n d) (map-end f (take n l) (getD l n d) ∙ ap (λ z. z ++ (f (getD l n d) ∷ [])) (taken-listed f l d n (omega arith)))
+
+  pub length-taken : {B : Type 0} (f : A → B) (l : List A) (n : ℕ) → n ≤ length l → length (map f (take n l)) ≡ n
+  length-taken f l n h = length-map (take n l) f ∙ length-take-le n l h
+
+  -- one more element behind them
+  pub taken-more : {B : Type 0} (f : A → B) (l : List A) (n : ℕ) (x : A) → n < length l → map f (take (n + 1) (set l n x)) ≡ map f (take n l) ++ (f x ∷ [])
+  taken-more f l n x h = rw (add-one, take-suc-set l n x) (map-end f (take n l) x)
+
+  pub each-more : (P : A → Type 0) (d : A) (l : List A) (n : ℕ) (x : A) → n < length l → ((i : ℕ) → i < n → P (getD l i d)) → P x → (i : ℕ) → i < n + 1 → P (getD (set l n x) i d)
+  each-more P d l n x h each px i less = either (equal-or-not i n)
+      (λ e. subst P (sym (ap (λ k. getD (set l n x) k d) e ∙ getD-set-same l n x d h)) px)
+      (λ e. subst P (sym (getD-set-other l n i x d (e .1))) (each i (omega arith)))
+
+-- a piece that is read leaves fewer pieces to read
+pub fewer-pieces : (s : Bytes) (place : Place) (r : PieceRead) → StepAt s place r → (x : Step) → r ≡ read.Found x → length (foundAt s (x .next)) < length (foundAt s place)
+fewer-pieces s place r h x e = let z = ap length (step-list s place r h x e) in omega arith
+
+-- a test that fails nowhere holds of each element
+none-fails : {A : Type 0} (p : A → Bool) (l : List A) → any (λ x. not (p x)) l ≡ false → (x : A) → x ∈ l → T (p x)
+none-fails p l h x m = ⊎-elim (λ t. t) (λ f. absurd (subst T h (any-i (λ y. not (p y)) l x m (rw (is-false (p x) f) tt)))) (test (p x))
+
+neither : (a b c : Bool) → (a || b || c) ≡ false → (a ≡ false) × (c ≡ false)
+neither false false false h = (refl, refl)
+neither true b c h = let z : _≡_ {A = Bool} true false = h in (z, cc)
+neither false true c h = let z : _≡_ {A = Bool} true false = h in (refl, cc)
+neither false false true h = (refl, h)
+
+-- where all that a text names is declared, so are its labels and its returned names
+module _ (b : Book) (ps : List Piece) (ordered : Ordered atStart ps) (h : someWhere (undeclaredAt b ps) [] ps ≡ false) where
+  declared-parts : (any (λ (e : ChainEdge). not (mem (e .label) (b .labels))) (linksFrom [] ps) ≡ false) × (any (λ v. not (mem v (firsts [] (verticesIn ps)))) (returnsIn ps) ≡ false)
+  unfolding hasUndeclared
+  declared-parts = neither _ _ _ (rw (tree-names ps ordered .edges-same, returns-same ps, vertex-names ps ordered) at (undeclared-found ps ordered b ∙ h))
+
+  pub label-declared : (e : ChainEdge) → e ∈ linksFrom [] ps → e .label ∈ b .labels
+  label-declared e m = mem-e (e .label) (b .labels) (none-fails (λ (x : ChainEdge). mem (x .label) (b .labels)) (linksFrom [] ps) (declared-parts .0) e m)
+
+  pub return-declared : (v : Bytes) → v ∈ returnsIn ps → v ∈ firsts [] (verticesIn ps)
+  return-declared v m = mem-e v (firsts [] (verticesIn ps)) (none-fails (λ x. mem x (firsts [] (verticesIn ps))) (returnsIn ps) (declared-parts .1) v m)

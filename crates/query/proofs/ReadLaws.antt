@@ -1,0 +1,106 @@
+-- Reading a query: the refusals 1 and 2, then the lowest fault, then the pattern.
+use Prim.Native.Nat.{ℕ}
+use mathlib.Core.Path.{_≡_, refl, sym, ap, subst, _∙_}
+use mathlib.Core.List.{List, [], _∷_}
+use mathlib.Core.Bool.{Bool, true, false}
+use native.Mathlib.Omega.{arith}
+use lib.ListN.{length}
+use lib.Dec.{T, ltb}
+use Rattle.model.specs.Bytes.{Bytes}
+use Rattle.model.specs.Choice.{pick, Maybe, nothing, just}
+use Rattle.model.specs.Lists.{all}
+use Rattle.model.specs.Lines.{isAllowed, badLine}
+use Rattle.model.specs.Refusal.{Outcome, accepted, refused, refusal, refusedIf, lowest, _if_}
+use Rattle.model.specs.Book.{Book}
+use Rattle.model.specs.QueryText.{QueryText}
+use Rattle.model.specs.Grammar.{queryText}
+use Rattle.model.specs.ReadQuery.{queryFault, textOrFault, readQuery}
+use Rattle.model.specs.Answers.{refusalOf}
+use Rattle.model.specs.declared.Verdict.{Verdict}
+use Rattle.model.specs.declared.Verdict.the-variants.{Accepted, Refused}
+use Rattle.model.specs.declared.Pattern.{Pattern}
+use Rattle.model.specs.declared.QueryRead.{QueryRead}
+use Rattle.model.proofs.AllowedBytes.{line-allowed}
+use Rattle.tables.specs.declared.BookCounts.{BookCounts}
+use Rattle.text.specs.Lines.{onLine, bytesOf, onBytes}
+use Rattle.text.specs.declared.BytesRead.{BytesRead}
+use Rattle.text.specs.declared.BytesRead.the-variants.{Allowed, TooLong, BadLine}
+use Rattle.text.proofs.LineLaws.{bytes-first}
+use Rattle.faults.specs.TextFault.{numberOr, treeFault, textFault}
+use Rattle.query.specs.PatternRead.{PatternRead}
+use Rattle.query.specs.QueryReads.{noPattern, QueryGiven, QueryReads, RefusedWith}
+
+-- a query that is refused with a number and a line
+refused-given : (b : Book) (c : BookCounts) (s : Bytes) (number line : ℕ) (r : QueryRead) → readQuery b s ≡ refusal number 3 line → RefusedWith number line r → QueryReads b c s r
+unfolding refusal refusalOf
+refused-given b c s number line r e h = subst (λ v. QueryGiven b c s (r .pattern) v) (sym (h .verdict)) (e, h .pattern)
+
+-- what the bytes of a text are refused for
+module _ (b : Book) (s : Bytes) (x : BytesRead) (h : x ≡ bytesOf 2048 s) where
+  by-bytes : readQuery b s ≡ onBytes x 3 (λ l. 1) (textOrFault b (queryText s))
+  unfolding readQuery
+  by-bytes = bytes-first 3 2048 (λ l. 1) s (textOrFault b (queryText s)) ∙ ap (λ (y : BytesRead). onBytes y 3 (λ l. 1) (textOrFault b (queryText s))) (sym h)
+
+  pub too-long : (c : BookCounts) → x ≡ TooLong → (r : QueryRead) → RefusedWith 1 0 r → QueryReads b c s r
+  unfolding onBytes
+  too-long c e r k = refused-given b c s 1 0 r (by-bytes ∙ ap (λ (y : BytesRead). onBytes y 3 (λ l. 1) (textOrFault b (queryText s))) e) k
+
+  pub bad-byte : (c : BookCounts) (l : ℕ) → x ≡ BadLine l → (r : QueryRead) → RefusedWith 2 1 r → QueryReads b c s r
+  unfolding onBytes
+  bad-byte c l e r k = refused-given b c s 2 1 r (by-bytes ∙ ap (λ (y : BytesRead). onBytes y 3 (λ l. 1) (textOrFault b (queryText s))) e) k
+
+-- a text whose bytes are allowed is read as its grammar and its faults say
+module _ (b : Book) (s : Bytes) (h : bytesOf 2048 s ≡ Allowed) where
+  by-faults : readQuery b s ≡ textOrFault b (queryText s)
+  unfolding onBytes
+  by-faults = by-bytes b s Allowed (sym h)
+
+  pub all-allowed : T (all isAllowed s)
+  unfolding bytesOf onLine
+  all-allowed = go (ltb 2048 (length s)) (badLine 1 s) refl h
+    where
+      go : (t : Bool) (m : Maybe ℕ) → badLine 1 s ≡ m → pick t TooLong (onLine m) ≡ Allowed → T (all isAllowed s)
+      go true m e k = absurd (let z : _≡_ {A = ℕ} 0 1 = cc in omega arith)
+      go false nothing e k = line-allowed 1 s e
+      go false (just l) e k = absurd (let z : _≡_ {A = ℕ} 0 1 = cc in omega arith)
+
+  -- a table without a number, and with one
+  none-lowest : (t u v w x : Bool) → numberOr (lowest ((4 if t) ∷ (5 if u) ∷ (6 if v) ∷ (7 if w) ∷ (8 if x) ∷ [])) ≡ 0 → lowest ((4 if t) ∷ (5 if u) ∷ (6 if v) ∷ (7 if w) ∷ (8 if x) ∷ []) ≡ nothing
+  unfolding numberOr lowest
+  none-lowest true u v w x k = absurd (omega arith)
+  none-lowest false true v w x k = absurd (omega arith)
+  none-lowest false false true w x k = absurd (omega arith)
+  none-lowest false false false true x k = absurd (omega arith)
+  none-lowest false false false false true k = absurd (omega arith)
+  none-lowest false false false false false k = refl
+
+  no-fault : (q : QueryText) → numberOr (queryFault b q) ≡ 0 → queryFault b q ≡ nothing
+  unfolding queryFault
+  no-fault q k = none-lowest _ _ _ _ _ k
+
+  some-number : (m : Maybe ℕ) (n : ℕ) → n ≡ numberOr m → (n ≡ 0 → ⊥) → m ≡ just n
+  unfolding numberOr
+  some-number nothing n e k = absurd (k e)
+  some-number (just x) n e k = ap just (sym e)
+
+  tree-clear : (m : Maybe QueryText) → treeFault b m ≡ 0 → (tree : QueryText) × (textOrFault b m ≡ accepted tree)
+  unfolding treeFault textOrFault refusedIf
+  tree-clear nothing e = absurd (omega arith)
+  tree-clear (just q) e = (q, ap (λ m. refusedIf m 3 1 (accepted q)) (no-fault q e))
+
+  tree-faulty : (m : Maybe QueryText) (n : ℕ) → n ≡ treeFault b m → (n ≡ 0 → ⊥) → textOrFault b m ≡ refusal n 3 1
+  unfolding treeFault textOrFault refusedIf
+  tree-faulty nothing n e k = ap (λ n. refusal n 3 1) (sym e)
+  tree-faulty (just q) n e k = ap (λ m. refusedIf m 3 1 (accepted q)) (some-number (queryFault b q) n e k)
+
+  module _ (c : BookCounts) (n : ℕ) (e : n ≡ textFault b s) where
+    pub query-clear : n ≡ 0 → textFault b s ≡ 0
+    query-clear z = sym e ∙ z
+
+    pub query-accepted : n ≡ 0 → (p : Pattern) → PatternRead b c s p → QueryGiven b c s p Accepted
+    unfolding textFault
+    query-accepted z p k = let t = tree-clear (queryText s) (sym e ∙ z) in (t .0, by-faults ∙ t .1, k)
+
+    pub query-refused : (n ≡ 0 → ⊥) → (r : QueryRead) → RefusedWith n 1 r → QueryReads b c s r
+    unfolding textFault
+    query-refused z r k = refused-given b c s n 1 r (by-faults ∙ tree-faulty (queryText s) n e z) k

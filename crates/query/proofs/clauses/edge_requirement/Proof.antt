@@ -1,0 +1,31 @@
+-- `edge_requirement` meets its contract. Assumes nothing.
+use mathlib.Core.Path.{refl, ap, _∙_}
+use Rattle.model.specs.Answers.{nameAt}
+use Rattle.model.specs.Book.{attrNames}
+use Rattle.model.specs.Names.{place}
+use Rattle.tables.specs.View.{bookAt}
+use borrow.Author.Needs.{needs}
+use Rattle.query.proofs.clauses.edge_requirement.Statement.{statement}
+use Rattle.query.proofs.clauses.edge_requirement.Tie as tie
+
+part-requires : tie.Need-part-requires
+part-requires c κs = search needs
+
+find-eattr-requires : tie.Need-find-eattr-requires
+find-eattr-requires c κs = search needs
+
+value-within-requires : tie.Need-value-within-requires
+value-within-requires c κs = search needs
+
+returns : tie.Need-returns
+unfolding nameAt
+returns c =
+    let a = c .before .before .before .before .before .before .before .args in
+    record {
+      attribute = c .before .find-eattr .ensures ∙ ap (λ w. place w (attrNames (bookAt (a .book .now) (a .words .now) (a .counts) .eattrs))) (c .before .before .part .ensures);
+      relation = refl;
+      value = c .value-within .ensures;
+    }
+
+pub edge-requirement-spec : {M : Type 1} → statement M
+edge-requirement-spec = tie.close (tie.spec part-requires find-eattr-requires value-within-requires returns)

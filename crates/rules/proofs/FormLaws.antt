@@ -1,0 +1,232 @@
+-- The steps of reading a line's form.
+use Prim.Native.Nat.{ℕ, _+_, _-_, _≤_, _<_}
+use mathlib.Core.Path.{_≡_, refl, sym, ap, subst, _∙_}
+use mathlib.Core.List.{List, [], _∷_}
+use mathlib.Core.Bool.{Bool, true, false}
+use native.Mathlib.Omega.{arith}
+use lib.ListN.{length}
+use Rattle.model.specs.Bytes.{Bytes, bytesOf, same}
+use Rattle.model.specs.Choice.{pick, Maybe, nothing, just, andThen}
+use Rattle.model.specs.Items.{Item, lineItems}
+use Rattle.model.specs.Forms.{asWord, asName, asQuoted, first, atEnd}
+use Rattle.model.specs.Grammar.{queryText}
+use Rattle.model.specs.QueryText.{QueryText}
+use Rattle.model.specs.ReadRules.{RulesLine, category, policy, namesAfter, categoryLine, policyLine, rulesLine}
+use Rattle.model.specs.Answers.{partOf}
+use Rattle.text.specs.declared.End.{End}
+use Rattle.text.specs.declared.End.the-variants as end
+use Rattle.items.specs.declared.Piece.{Piece}
+use Rattle.items.specs.declared.Piece.the-variants as piece
+use Rattle.items.specs.declared.NameRead.{NameRead}
+use Rattle.items.specs.declared.NameRead.the-variants as name
+use Rattle.items.specs.Rest.{restAt, formAt, spacesFrom}
+use Rattle.items.specs.Pieces.{namePlaces, wordNext, nameNext, quotedNext, onPiece, onName, onPlace}
+use Rattle.items.specs.Forms.{formOpens, formCloses}
+use Rattle.items.proofs.FormLaws.{line-form, form-word, form-quoted, form-name, form-end}
+use Rattle.items.proofs.RestLaws.{rest-same, rest-nothing}
+use Rattle.lists.specs.Places.{WordPlaces, QuotedPlaces, QuotedPlaced}
+use Rattle.lists.specs.Names.{NamesRead, namesBehind, namesEnd, headedAt}
+use Rattle.lists.proofs.Behind.{rest-on, headed-names}
+use Rattle.rules.specs.Forms.{between, afterList, ListRead, NamesList, CategoryRead, PolicyRead, FormRead}
+use Rattle.rules.specs.declared.RulesForm.{RulesForm}
+
+-- a list of names
+module _ (head s : Bytes) (i : ℕ) where
+  pub list-none : end.None ≡ headedAt head s i → (free : Bool) (k : List Bytes → List Item → Maybe RulesLine) → afterList head s free i k ≡ nothing
+  unfolding onPlace
+  list-none e free k = headed-names head s k free i ∙ ap (λ (o : End). onPlace o (λ a. andThen (namesBehind s a) (λ x. formAt true (x .end) s (k (x .names))))) (sym e)
+
+  module _ {a : ℕ} (h : end.At a ≡ headedAt head s i) where
+    list-names : (free : Bool) (k : List Bytes → List Item → Maybe RulesLine) → afterList head s free i k ≡ andThen (namesBehind s a) (λ x. formAt true (x .end) s (k (x .names)))
+    unfolding onPlace
+    list-names free k = headed-names head s k free i ∙ ap (λ (o : End). onPlace o (λ a. andThen (namesBehind s a) (λ x. formAt true (x .end) s (k (x .names))))) (sym h)
+
+    pub list-broken : end.None ≡ namesEnd (namesBehind s a) → (free : Bool) (k : List Bytes → List Item → Maybe RulesLine) → afterList head s free i k ≡ nothing
+    unfolding namesEnd andThen
+    list-broken n free k = list-names free k ∙ go (namesBehind s a) n
+      where
+        go : (o : Maybe NamesRead) → end.None ≡ namesEnd o → andThen o (λ x. formAt true (x .end) s (k (x .names))) ≡ nothing
+        go nothing e = refl
+        go (just x) e = let z : _≡_ {A = ℕ} 0 1 = cc in absurd (omega arith)
+
+    pub list-read : {e : ℕ} → end.At e ≡ namesEnd (namesBehind s a) → ListRead head s i a e
+    unfolding namesEnd andThen
+    list-read {e} n = go (namesBehind s a) refl n
+      where
+        go : (o : Maybe NamesRead) → namesBehind s a ≡ o → end.At e ≡ namesEnd o → ListRead head s i a e
+        go nothing q n = let z : _≡_ {A = ℕ} 0 1 = cc in absurd (omega arith)
+        go (just x) q n =
+            let f : x .end ≡ e = cc in
+            record {
+              read = x;
+              is = q;
+              line = λ free k. list-names free k ∙ ap (λ (o : Maybe NamesRead). andThen o (λ x. formAt true (x .end) s (k (x .names)))) q ∙ ap (λ (v : ℕ). formAt true v s (k (x .names))) f;
+            }
+
+-- a name that begins what follows
+module _ (s : Bytes) (i : ℕ) (k : Bytes → List Item → Maybe RulesLine) where
+  no-name : piece.None ≡ namePlaces (nameNext 3 false s i) → formAt false i s (λ is. first asName is k) ≡ nothing
+  unfolding onName
+  no-name n = form-name false i s k ∙ go (nameNext 3 false s i) n
+    where
+      go : (r : NameRead) → piece.None ≡ namePlaces r → onName s r (λ n q. formAt false q s (k n)) (λ e. nothing) ≡ nothing
+      go (name.Name p q) n = let z : _≡_ {A = ℕ} 0 1 = cc in absurd (omega arith)
+      go (name.Close e) n = refl
+      go name.None n = refl
+
+  a-name : (p q : ℕ) → piece.At p q ≡ namePlaces (nameNext 3 false s i) → formAt false i s (λ is. first asName is k) ≡ formAt false q s (k (between s p q))
+  unfolding onName
+  a-name p q n = form-name false i s k ∙ go (nameNext 3 false s i) n
+    where
+      go : (r : NameRead) → piece.At p q ≡ namePlaces r → onName s r (λ n q. formAt false q s (k n)) (λ e. nothing) ≡ formAt false q s (k (between s p q))
+      go (name.Name a b) n =
+          let ea : a ≡ p = cc in
+          let eb : b ≡ q = cc in
+          ap (λ (v : ℕ). formAt false b s (k (between s v b))) ea ∙ ap (λ (v : ℕ). formAt false v s (k (between s p v))) eb
+      go (name.Close e) n = let z : _≡_ {A = ℕ} 0 1 = cc in absurd (omega arith)
+      go name.None n = let z : _≡_ {A = ℕ} 0 1 = cc in absurd (omega arith)
+
+-- a category's line
+module _ (s : Bytes) (i : ℕ) where
+  overOf : Bytes → List Bytes → List Bytes → List Item → Maybe RulesLine
+  overOf n actors over is = atEnd is (category n actors over)
+
+  pub category-unnamed : piece.None ≡ namePlaces (nameNext 3 false s i) → formAt false i s categoryLine ≡ nothing
+  unfolding categoryLine
+  category-unnamed e = no-name s i _ e
+
+  module _ {p q : ℕ} (n : piece.At p q ≡ namePlaces (nameNext 3 false s i)) where
+    pub category-no-actors : ((free : Bool) (k : List Bytes → List Item → Maybe RulesLine) → afterList (bytesOf "actors") s free q k ≡ nothing) → formAt false i s categoryLine ≡ nothing
+    unfolding categoryLine
+    category-no-actors h = a-name s i _ p q n ∙ h false _
+
+    module _ {a e : ℕ} (x : ListRead (bytesOf "actors") s q a e) where
+      pub category-no-over : ((free : Bool) (k : List Bytes → List Item → Maybe RulesLine) → afterList (bytesOf "over") s free e k ≡ nothing) → formAt false i s categoryLine ≡ nothing
+      unfolding categoryLine
+      category-no-over h = a-name s i _ p q n ∙ x .line false _ ∙ h true _
+
+      pub category-line : {o f : ℕ} (y : ListRead (bytesOf "over") s e o f) → formAt false i s categoryLine ≡ pick (formCloses s f) (just (category (between s p q) (x .read .names) (y .read .names))) nothing
+      unfolding categoryLine
+      category-line {o} {f} y = a-name s i _ p q n ∙ x .line false _ ∙ y .line true _ ∙ form-end true f s (category (between s p q) (x .read .names) (y .read .names))
+
+      pub category-read : {o f : ℕ} (y : ListRead (bytesOf "over") s e o f) → WordPlaces s i p q → formCloses s f ≡ true → CategoryRead s (formAt false i s categoryLine) p q a o
+      category-read {o} {f} y h t = record {
+        places = record { after = omega arith; some = h .some; inside = h .inside; short = h .short };
+        actors = x .read;
+        over = y .read;
+        actors-are = x .is;
+        over-are = y .is;
+        is = category-line y ∙ ap (λ (b : Bool). pick b (just (category (between s p q) (x .read .names) (y .read .names))) nothing) t;
+      }
+
+      pub category-open : {o f : ℕ} (y : ListRead (bytesOf "over") s e o f) → formCloses s f ≡ false → formAt false i s categoryLine ≡ nothing
+      category-open y t = category-line y ∙ ap (λ (b : Bool). pick b (just (category (between s p q) (x .read .names) (y .read .names))) nothing) t
+
+-- what is made of a form that ends
+form-on : {A B : Type 0} (free : Bool) (i : ℕ) (s : Bytes) (f : List Item → Maybe A) (h : A → Maybe B) → formAt free i s (λ is. andThen (f is) h) ≡ andThen (formAt free i s f) h
+unfolding formAt andThen
+form-on {A} {B} free i s f h = rest-same 3 free i s _ _ (λ e is. go (spacesFrom s e) (f is)) ∙ rest-on 3 free i s (λ e is. pick (spacesFrom s e) (f is) nothing) h
+  where
+    go : (b : Bool) (o : Maybe A) → pick b (andThen o h) nothing ≡ andThen (pick b o nothing) h
+    go true o = refl
+    go false o = refl
+
+-- a policy's line
+module _ (s : Bytes) (i : ℕ) where
+  pub policy-unnamed : piece.None ≡ namePlaces (nameNext 3 false s i) → formAt false i s policyLine ≡ nothing
+  unfolding policyLine
+  policy-unnamed e = no-name s i _ e
+
+  module _ {p q : ℕ} (n : piece.At p q ≡ namePlaces (nameNext 3 false s i)) where
+    -- what the model makes of the text
+    abbrev made : Bytes → Maybe RulesLine
+    made t = andThen (queryText t) (λ (tree : QueryText). just (policy (between s p q) (length t) tree))
+
+    pub policy-no-text : piece.None ≡ quotedNext 3 false s q → formAt false i s policyLine ≡ nothing
+    unfolding policyLine onPiece
+    policy-no-text e =
+        a-name s i _ p q n
+        ∙ form-quoted false q s (λ t is. andThen (atEnd is t) made)
+        ∙ ap (λ (r : Piece). onPiece r (λ p q. formAt false (q + 1) s (λ is. andThen (atEnd is (partOf s p (q - p))) made))) (sym e)
+
+    pub policy-line : {t u : ℕ} → piece.At t u ≡ quotedNext 3 false s q → formAt false i s policyLine ≡ pick (formCloses s (u + 1)) (made (between s t u)) nothing
+    unfolding policyLine onPiece andThen
+    policy-line {t} {u} e =
+        a-name s i _ p q n
+        ∙ form-quoted false q s (λ t is. andThen (atEnd is t) made)
+        ∙ ap (λ (r : Piece). onPiece r (λ p q. formAt false (q + 1) s (λ is. andThen (atEnd is (partOf s p (q - p))) made))) (sym e)
+        ∙ form-on false (u + 1) s (λ is. atEnd is (between s t u)) made
+        ∙ ap (λ (o : Maybe Bytes). andThen o made) (form-end false (u + 1) s (between s t u))
+        ∙ go (formCloses s (u + 1))
+      where
+        go : (b : Bool) → andThen (pick b (just (between s t u)) nothing) made ≡ pick b (made (between s t u)) nothing
+        go true = refl
+        go false = refl
+
+    module _ {t u : ℕ} (e : piece.At t u ≡ quotedNext 3 false s q) where
+      pub policy-read : WordPlaces s i p q → QuotedPlaces s t u → formCloses s (u + 1) ≡ true → PolicyRead s (formAt false i s policyLine) p q t u
+      policy-read h k c = record {
+        places = record { after = omega arith; some = h .some; inside = h .inside; short = h .short };
+        some = k .some;
+        inside = omega (arith, k .inside);
+        is = policy-line e ∙ ap (λ (b : Bool). pick b (made (between s t u)) nothing) c;
+      }
+
+      pub policy-open : formCloses s (u + 1) ≡ false → formAt false i s policyLine ≡ nothing
+      policy-open c = policy-line e ∙ ap (λ (b : Bool). pick b (made (between s t u)) nothing) c
+
+-- what was read, by the answer
+pub list-at : (head s : Bytes) (i : ℕ) {a e : ℕ} (r : Piece) → r ≡ piece.At a e → NamesList head s i r → ListRead head s i a e
+list-at head s i r e h = subst (NamesList head s i) e h
+
+pub list-not : (head s : Bytes) (i : ℕ) (r : Piece) → r ≡ piece.None → NamesList head s i r → (free : Bool) (k : List Bytes → List Item → Maybe RulesLine) → afterList head s free i k ≡ nothing
+list-not head s i r e h = subst (NamesList head s i) e h
+
+pub quoted-at : (s : Bytes) {t u : ℕ} (r : Piece) → r ≡ piece.At t u → QuotedPlaced s r → QuotedPlaces s t u
+quoted-at s r e h = subst (QuotedPlaced s) e h
+
+pub form-moved : (s : Bytes) (m m′ : Maybe RulesLine) (r : RulesForm) → m ≡ m′ → FormRead s m′ r → FormRead s m r
+form-moved s m m′ r e h = subst (λ (x : Maybe RulesLine). FormRead s x r) (sym e) h
+
+-- the line by its first word
+module _ (s : Bytes) where
+  pub unopened : end.None ≡ formOpens s → andThen (lineItems s) rulesLine ≡ nothing
+  unfolding onPlace
+  unopened e = line-form rulesLine s ∙ ap (λ (o : End). onPlace o (λ i. formAt true i s rulesLine)) (sym e)
+
+  module _ {i : ℕ} (e : end.At i ≡ formOpens s) where
+    opened : andThen (lineItems s) rulesLine ≡ formAt true i s rulesLine
+    unfolding onPlace
+    opened = line-form rulesLine s ∙ ap (λ (o : End). onPlace o (λ i. formAt true i s rulesLine)) (sym e)
+
+    byWord : Bytes → List Item → Maybe RulesLine
+    byWord w is = pick (same w (bytesOf "category")) (categoryLine is) (pick (same w (bytesOf "policy")) (policyLine is) nothing)
+
+    pub wordless : piece.None ≡ wordNext 3 true s i → andThen (lineItems s) rulesLine ≡ nothing
+    unfolding rulesLine onPiece byWord
+    wordless w = opened ∙ form-word true i s byWord ∙ ap (λ (r : Piece). onPiece r (λ p q. formAt false q s (byWord (partOf s p (q - p))))) (sym w)
+
+    module _ {p q : ℕ} (w : piece.At p q ≡ wordNext 3 true s i) where
+      worded : andThen (lineItems s) rulesLine ≡ formAt false q s (byWord (between s p q))
+      unfolding rulesLine onPiece byWord
+      worded = opened ∙ form-word true i s byWord ∙ ap (λ (r : Piece). onPiece r (λ p q. formAt false q s (byWord (partOf s p (q - p))))) (sym w)
+
+      pub of-category : same (between s p q) (bytesOf "category") ≡ true → andThen (lineItems s) rulesLine ≡ formAt false q s categoryLine
+      unfolding byWord
+      of-category h = worded ∙ ap (λ (b : Bool). formAt false q s (λ is. pick b (categoryLine is) (pick (same (between s p q) (bytesOf "policy")) (policyLine is) nothing))) h
+
+      module _ (h : same (between s p q) (bytesOf "category") ≡ false) where
+        not-category : andThen (lineItems s) rulesLine ≡ formAt false q s (λ is. pick (same (between s p q) (bytesOf "policy")) (policyLine is) nothing)
+        unfolding byWord
+        not-category = worded ∙ ap (λ (b : Bool). formAt false q s (λ is. pick b (categoryLine is) (pick (same (between s p q) (bytesOf "policy")) (policyLine is) nothing))) h
+
+        pub of-policy : same (between s p q) (bytesOf "policy") ≡ true → andThen (lineItems s) rulesLine ≡ formAt false q s policyLine
+        of-policy k = not-category ∙ ap (λ (b : Bool). formAt false q s (λ is. pick b (policyLine is) nothing)) k
+
+        pub of-neither : same (between s p q) (bytesOf "policy") ≡ false → andThen (lineItems s) rulesLine ≡ nothing
+        unfolding formAt
+        of-neither k = not-category ∙ ap (λ (b : Bool). formAt false q s (λ is. pick b (policyLine is) nothing)) k ∙ (rest-same 3 false q s _ _ (λ e is. never (spacesFrom s e)) ∙ rest-nothing 3 false q s)
+          where
+            never : (b : Bool) → pick {A = Maybe RulesLine} b nothing nothing ≡ nothing
+            never true = refl
+            never false = refl

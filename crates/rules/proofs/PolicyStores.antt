@@ -1,0 +1,172 @@
+-- A policy's line without a fault, and the words with it.
+use Prim.Native.Nat.{ℕ, _+_, _-_, _*_, _≤_, _<_}
+use mathlib.Core.Path.{_≡_, refl, sym, ap, subst, _∙_}
+use mathlib.Core.List.{List, [], _∷_}
+use mathlib.Core.Bool.{Bool, true, false, not}
+use native.Mathlib.Omega.{arith}
+use lib.ListN.{length, set, length-set}
+use lib.Seq.{getD-set-same, getD-set-other}
+use lib.Dec.{eqb, ltb}
+use borrow.Author.Tests.{eq-eqb, ne-eqb, not-false, le-ltb}
+use Rattle.facts.specs.Tests.{either, equal-or-not, below-or-not}
+use Rattle.model.specs.Bytes.{Bytes, same}
+use Rattle.model.specs.Choice.{pick, Maybe, nothing, just}
+use Rattle.model.specs.Names.{mem, place}
+use Rattle.model.specs.QueryText.{QueryText}
+use Rattle.model.specs.Grammar.{queryText}
+use Rattle.model.specs.Rules.{Policy, Rules, categoryNames}
+use Rattle.model.specs.ReadRules.{policy, hasPolicy, addRule}
+use Rattle.model.specs.Answers.{partOf}
+use Rattle.text.proofs.PlaceLaws.{part-size}
+use Rattle.tables.specs.View.{wordAt, nameOf, namesAt}
+use Rattle.tables.specs.Fits.{Inside}
+use Rattle.tables.proofs.NameLaws.{mem-place, place-named, length-names}
+use Rattle.tables.proofs.AgreeLaws.{name-kept}
+use Rattle.ranks.specs.declared.RulesCounts.{RulesCounts}
+use Rattle.ranks.specs.Layout.{names, policyAt}
+use Rattle.ranks.specs.View.{policyCategory, policyText, policyOf, treeOr, treeOf, rulesAt}
+use Rattle.ranks.specs.Fits.{PolicyFits, Fits, Holds}
+use Rattle.ranks.specs.Agree.{Free, Agree}
+use Rattle.ranks.specs.Stores.{morePolicies, withPolicy}
+use Rattle.ranks.specs.Enforced.{hasOne}
+use Rattle.ranks.proofs.AgreeLaws.{set-agrees, agree-trans}
+use Rattle.ranks.proofs.Lowers.{category-names}
+use Rattle.ranks.proofs.PolicyLaws.{has-policy, any-place}
+use Rattle.ranks.proofs.Downs.{policy-of}
+use Rattle.ranks.proofs.Added.{policy-added}
+use Rattle.ranks.proofs.Fewer.{fewer}
+use Rattle.tables.proofs.ListedLaws.{scan-found}
+use Rattle.tables.specs.Listed.{listed}
+use Rattle.lists.specs.Places.{WordPlaces}
+use Rattle.faults.specs.TextFault.{treeFault, textFault}
+use Rattle.rules.specs.Forms.{between}
+use Rattle.rules.specs.Stored.{LineAt}
+use Rattle.rules.specs.Policies.{lineNumber, policyOn, combined, PolicyClear, PolicyAdded}
+use Rattle.rules.proofs.StoreLaws.{part-of-line}
+use Rattle.rules.proofs.PolicyFaults.{policy-number}
+
+-- no fault: the category is declared, it has no policy, the text is a query
+clear-tests : (unknown second long : Bool) (f : ℕ) → combined unknown second long f ≡ 0 → (unknown ≡ false) × (second ≡ false) × (f ≡ 3 → ⊥)
+unfolding combined
+clear-tests unknown second long f e = go (eqb f 3) unknown (eqb f 4) second refl e
+  where
+    go : (a b d h : Bool) → eqb f 3 ≡ a → pick a 3 (pick b 4 (pick d 4 (pick h 5 (pick (eqb f 5) 5 (pick (eqb f 6) 6 (pick long 7 f)))))) ≡ 0 → (b ≡ false) × (h ≡ false) × (f ≡ 3 → ⊥)
+    go true b d h q e = absurd (omega arith)
+    go false true d h q e = absurd (omega arith)
+    go false false true h q e = absurd (omega arith)
+    go false false false true q e = absurd (omega arith)
+    go false false false false q e = (refl, refl, λ z. let y = eq-eqb f 3 z in let w : _≡_ {A = ℕ} 0 1 = cc in omega arith)
+
+module _ (text : Bytes) (words : List ℕ) (c : RulesCounts) (s : Bytes) (base p q t u : ℕ) (g : PolicyClear text words c s base p q t u) (m : ℕ) (em : m ≡ place (between s p q) (namesAt text words names (c .categories))) where
+  tests : (not (mem (between s p q) (categoryNames (rulesAt text words c))) ≡ false) × (hasPolicy (rulesAt text words c) (between s p q) ≡ false) × (textFault (g .book) (between s t u) ≡ 3 → ⊥)
+  tests = clear-tests _ _ _ _ (sym (policy-number (g .book) (rulesAt text words c) (between s p q) (between s t u)) ∙ g .clear)
+
+  pub is-declared : m < c .categories
+  is-declared = either (below-or-not m (c .categories)) (λ l. l) (λ l. absurd (
+      let y = not-false _ (tests .0) in
+      let x = ap (mem (between s p q)) (sym (category-names text words c)) ∙ y in
+      let d = mem-place (between s p q) (namesAt text words names (c .categories)) in
+      let o = le-ltb (place (between s p q) (namesAt text words names (c .categories))) (length (namesAt text words names (c .categories))) (omega (arith, length-names text words names (c .categories))) in
+      let z : _≡_ {A = ℕ} 0 1 = cc in omega arith))
+
+  named-so : nameOf text words names m ≡ between s p q
+  named-so = ap (nameOf text words names) em ∙ place-named text words names (c .categories) (between s p q) (omega (arith, is-declared))
+
+  is-query : (tree : QueryText) × (queryText (between s t u) ≡ just tree)
+  unfolding textFault treeFault
+  is-query = go (queryText (between s t u)) refl
+    where
+      go : (o : Maybe QueryText) → queryText (between s t u) ≡ o → (tree : QueryText) × (queryText (between s t u) ≡ just tree)
+      go nothing e = absurd (tests .2 (ap (treeFault (g .book)) e))
+      go (just tree) e = (tree, e)
+
+  none-yet : (i : ℕ) → i < c .policies → policyCategory words i ≡ m → ⊥
+  unfolding hasPolicy rulesAt
+  none-yet i l e =
+      let y = scan-found (λ (x : Policy). same (x .category) (nameOf text words names m)) (policyOf text words) (c .policies) i l (policy-of text words c (g .fits) m is-declared i l ∙ eq-eqb (policyCategory words i) m e) in
+      let n = ap (hasPolicy (rulesAt text words c)) named-so ∙ tests .1 in
+      let z : _≡_ {A = ℕ} 0 1 = cc in omega arith
+
+  -- so there is room for one more
+  pub policy-room : c .policies < 16
+  policy-room = let l = fewer (c .categories) (c .policies + 1) number below differ in omega (arith, g .fits .few)
+    where
+      number : ℕ → ℕ
+      number i = pick (eqb i (c .policies)) m (policyCategory words i)
+
+      last : (i : ℕ) → i ≡ c .policies → number i ≡ m
+      last i e = rw (eq-eqb i (c .policies) e)
+
+      before : (i : ℕ) → (i ≡ c .policies → ⊥) → number i ≡ policyCategory words i
+      before i e = rw (ne-eqb i (c .policies) e)
+
+      below : (i : ℕ) → i < c .policies + 1 → number i < c .categories
+      below i l = either (equal-or-not i (c .policies)) (λ e. rw (last i e) is-declared) (λ e. rw (before i (e .1)) (g .fits .policies i (omega arith) .counted))
+
+      differ : (i j : ℕ) → i < c .policies + 1 → j < c .policies + 1 → number i ≡ number j → i ≡ j
+      differ i j l h e = either (equal-or-not i (c .policies))
+          (λ a. either (equal-or-not j (c .policies)) (λ b. a ∙ sym b) (λ b. absurd (none-yet j (omega arith) (sym (before j (b .1)) ∙ sym e ∙ last i a))))
+          (λ a. either (equal-or-not j (c .policies)) (λ b. absurd (none-yet i (omega arith) (sym (before i (a .1)) ∙ e ∙ last j b)))
+          (λ b. g .fits .one-each i j (omega arith) (omega arith) (sym (before i (a .1)) ∙ e ∙ before j (b .1))))
+
+  abbrev w1 : List ℕ
+  w1 = set words (policyAt (c .policies)) m
+
+  abbrev w2 : List ℕ
+  w2 = set w1 (policyAt (c .policies) + 1) (base + t)
+
+  abbrev after : List ℕ
+  after = withPolicy words (c .policies) m (base + t) (u - t)
+
+  agrees : Agree c words after
+  unfolding withPolicy
+  agrees =
+      let few = g .fits .few in
+      let f0 : Free c (policyAt (c .policies)) = omega arith in
+      let f1 : Free c (policyAt (c .policies) + 1) = omega arith in
+      let f2 : Free c (policyAt (c .policies) + 2) = omega arith in
+      agree-trans c words w1 (set w2 (policyAt (c .policies) + 2) (u - t)) (set-agrees c words (policyAt (c .policies)) m f0)
+      (agree-trans c w1 w2 (set w2 (policyAt (c .policies) + 2) (u - t)) (set-agrees c w1 (policyAt (c .policies) + 1) (base + t) f1) (set-agrees c w2 (policyAt (c .policies) + 2) (u - t) f2))
+
+  number-there : policyCategory after (c .policies) ≡ m
+  unfolding withPolicy
+  number-there =
+      getD-set-other w2 (policyAt (c .policies) + 2) (policyAt (c .policies)) (u - t) 0 (omega arith) ∙ getD-set-other w1 (policyAt (c .policies) + 1) (policyAt (c .policies)) (base + t) 0 (omega arith)
+      ∙ getD-set-same words (policyAt (c .policies)) m 0 (omega (arith, policy-room, g .fits .room))
+
+  start-there : wordAt after (policyAt (c .policies) + 1) ≡ base + t
+  unfolding withPolicy
+  start-there =
+      getD-set-other w2 (policyAt (c .policies) + 2) (policyAt (c .policies) + 1) (u - t) 0 (omega arith)
+      ∙ getD-set-same w1 (policyAt (c .policies) + 1) (base + t) 0 (let r = policy-room in let o = g .fits .room in simp length-set (omega arith))
+
+  size-there : wordAt after (policyAt (c .policies) + 2) ≡ u - t
+  unfolding withPolicy
+  size-there = getD-set-same w2 (policyAt (c .policies) + 2) (u - t) 0 (let r = policy-room in let o = g .fits .room in simp length-set (omega arith))
+
+  text-there : policyText text after (c .policies) ≡ between s t u
+  unfolding policyText
+  text-there = rw (start-there, size-there) (part-of-line text base s t (u - t) (g .line) (omega (arith, g .some, g .inside)))
+
+  tree-there : (tree : QueryText) → queryText (between s t u) ≡ just tree → treeOf (policyText text after (c .policies)) ≡ tree
+  unfolding treeOf treeOr
+  tree-there tree e = ap (λ (v : Bytes). treeOr (queryText v)) text-there ∙ ap treeOr e
+
+  fits-there : PolicyFits text after (c .categories) (c .policies)
+  fits-there = record {
+    counted = rw number-there is-declared;
+    inside = rw (start-there, size-there) (omega (arith, g .line .inside, g .some, g .inside));
+    is-query = ap queryText text-there ∙ is-query .1 ∙ ap just (sym (tree-there (is-query .0) (is-query .1)));
+  }
+
+  name-there : nameOf text after names m ≡ between s p q
+  name-there = name-kept text words after names (c .categories) (agrees .named) m is-declared ∙ named-so
+
+  pub policy-stored : PolicyAdded text words after c s p q t u (morePolicies c)
+  policy-stored =
+      let holds = policy-added text words after c (rulesAt text words c) (record { fits = g .fits; is = refl }) agrees m (length (between s t u)) number-there fits-there (rw name-there (tests .1)) in
+      record {
+        fits = holds .fits;
+        is = λ tree e. holds .is ∙ ap (λ (v : Bytes). addRule (rulesAt text words c) (policy v (length (between s t u)) (treeOf (policyText text after (c .policies))))) name-there
+            ∙ ap (λ (v : QueryText). addRule (rulesAt text words c) (policy (between s p q) (length (between s t u)) v)) (tree-there tree e);
+      }

@@ -1,0 +1,47 @@
+-- `rules::forms::names_list` meets its contract. Assumes nothing.
+use mathlib.Core.Path.{sym, _∙_}
+use borrow.Author.Needs.{needs}
+use Rattle.rules.proofs.FormLaws.{list-none, list-broken, list-read}
+use Rattle.rules.proofs.forms.names_list.Statement.{statement}
+use Rattle.rules.proofs.forms.names_list.Tie as tie
+
+headed-requires : tie.Need-headed-requires
+headed-requires c κs = search needs
+
+enum-known-a : tie.Need-enum-known-a
+enum-known-a c = search needs
+
+enum-told : tie.Need-enum-told
+enum-told c = search needs
+
+returns : tie.Need-returns
+returns c = list-none (c .before .before .before .before .before .args .head .now) (c .before .before .before .before .before .args .s .now) (c .before .before .before .before .before .args .from) (sym (c .enum-told .given .1) ∙ c .before .before .headed .ensures)
+
+names-end-requires : tie.Need-names-end-requires
+names-end-requires c κs = search needs
+
+enum-known-e : tie.Need-enum-known-e
+enum-known-e c = search needs
+
+enum-told-2 : tie.Need-enum-told-2
+enum-told-2 c = search needs
+
+returns-2 : tie.Need-returns-2
+returns-2 c = list-broken (c .before .before .before .before .before .before .before .before .before .args .head .now) (c .before .before .before .before .before .before .before .before .before .args .s .now) (c .before .before .before .before .before .before .before .before .before .args .from) (sym (c .before .before .before .before .a .given .1) ∙ c .before .before .before .before .before .before .headed .ensures) (sym (c .enum-told2 .given .1) ∙ c .before .before .names-end .ensures)
+
+returns-3 : tie.Need-returns-3
+returns-3 c = list-read (c .before .before .before .before .before .before .before .before .before .before .args .head .now) (c .before .before .before .before .before .before .before .before .before .before .args .s .now) (c .before .before .before .before .before .before .before .before .before .before .args .from) (sym (c .before .before .before .before .before .a .given .1) ∙ c .before .before .before .before .before .before .before .headed .ensures) (sym (c .before .e .given .1) ∙ c .before .before .before .names-end .ensures)
+
+pub names-list-spec : {M : Type 1} → statement M
+names-list-spec =
+    tie.close
+    (tie.spec
+    headed-requires
+    enum-known-a
+    enum-told
+    returns
+    names-end-requires
+    enum-known-e
+    enum-told-2
+    returns-2
+    returns-3)

@@ -1,0 +1,61 @@
+-- `rules::forms::policy_form` meets its contract. Assumes nothing.
+use mathlib.Core.Path.{sym, _∙_}
+use native.Mathlib.Omega.{arith}
+use borrow.Author.Needs.{needs}
+use Rattle.rules.proofs.FormLaws.{quoted-at, policy-unnamed, policy-no-text, policy-read, policy-open}
+use Rattle.lists.proofs.Heads.{placed-at}
+use Rattle.rules.proofs.forms.policy_form.Statement.{statement}
+use Rattle.rules.proofs.forms.policy_form.Tie as tie
+
+next-name-requires : tie.Need-next-name-requires
+next-name-requires c κs = search needs
+
+enum-known-p : tie.Need-enum-known-p
+enum-known-p c = search needs
+
+enum-told : tie.Need-enum-told
+enum-told c = search needs
+
+returns : tie.Need-returns
+returns c = policy-unnamed (c .before .before .before .before .args .s .now) (c .before .before .before .before .args .from) (sym (c .enum-told .given .1) ∙ c .before .before .next-name .ensures .is)
+
+next-quoted-requires : tie.Need-next-quoted-requires
+next-quoted-requires c κs = search needs
+
+enum-known-t : tie.Need-enum-known-t
+enum-known-t c = search needs
+
+enum-told-2 : tie.Need-enum-told-2
+enum-told-2 c = search needs
+
+returns-2 : tie.Need-returns-2
+returns-2 c = policy-no-text (c .before .before .before .before .before .before .before .before .args .s .now) (c .before .before .before .before .before .before .before .before .args .from) (sym (c .before .before .before .before .p .given .1) ∙ c .before .before .before .before .before .before .next-name .ensures .is) (sym (c .enum-told2 .given .1) ∙ c .before .before .next-quoted .ensures .is)
+
+add-form-closes : tie.Need-add-form-closes
+add-form-closes c = let h = quoted-at (c .before .before .before .before .before .before .before .before .before .args .s .now) _ (c .before .t .given .1) (c .before .before .before .next-quoted .ensures .placed) in omega (arith, h .inside)
+
+form-closes-requires : tie.Need-form-closes-requires
+form-closes-requires c κs = search needs
+
+returns-3 : tie.Need-returns-3
+returns-3 c = policy-read (c .before .before .before .before .before .before .before .before .before .before .before .args .s .now) (c .before .before .before .before .before .before .before .before .before .before .before .args .from) (sym (c .before .before .before .before .before .before .before .p .given .1) ∙ c .before .before .before .before .before .before .before .before .before .next-name .ensures .is) (sym (c .before .before .before .t .given .1) ∙ c .before .before .before .before .before .next-quoted .ensures .is) (placed-at _ _ _ (c .before .before .before .before .before .before .before .p .given .1) (c .before .before .before .before .before .before .before .before .before .next-name .ensures .placed)) (quoted-at _ _ (c .before .before .before .t .given .1) (c .before .before .before .before .before .next-quoted .ensures .placed)) (sym (c .before .form-closes .ensures) ∙ c .if1 .taken)
+
+returns-4 : tie.Need-returns-4
+returns-4 c = policy-open (c .before .before .before .before .before .before .before .before .before .before .before .args .s .now) (c .before .before .before .before .before .before .before .before .before .before .before .args .from) (sym (c .before .before .before .before .before .before .before .p .given .1) ∙ c .before .before .before .before .before .before .before .before .before .next-name .ensures .is) (sym (c .before .before .before .t .given .1) ∙ c .before .before .before .before .before .next-quoted .ensures .is) (sym (c .before .form-closes .ensures) ∙ c .if1 .left)
+
+pub policy-form-spec : {M : Type 1} → statement M
+policy-form-spec =
+    tie.close
+    (tie.spec
+    next-name-requires
+    enum-known-p
+    enum-told
+    returns
+    next-quoted-requires
+    enum-known-t
+    enum-told-2
+    returns-2
+    add-form-closes
+    form-closes-requires
+    returns-3
+    returns-4)

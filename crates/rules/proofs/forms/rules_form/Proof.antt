@@ -1,0 +1,109 @@
+-- `rules::forms::rules_form` meets its contract. Assumes nothing.
+use mathlib.Core.Path.{sym, _∙_}
+use native.Mathlib.Omega.{arith}
+use borrow.Author.Needs.{needs}
+use Rattle.model.specs.Answers.{partOf}
+use Rattle.rules.proofs.FormLaws.{unopened, wordless, of-category, of-policy, of-neither, form-moved}
+use Rattle.lists.proofs.Heads.{placed-at}
+use Rattle.rules.proofs.forms.rules_form.Statement.{statement}
+use Rattle.rules.proofs.forms.rules_form.Tie as tie
+
+open-form-requires : tie.Need-open-form-requires
+open-form-requires c κs = search needs
+
+enum-known-i : tie.Need-enum-known-i
+enum-known-i c = search needs
+
+enum-told : tie.Need-enum-told
+enum-told c = search needs
+
+returns : tie.Need-returns
+returns c = unopened (c .before .before .before .before .args .s .now) (sym (c .enum-told .given .1) ∙ c .before .before .open-form .ensures)
+
+next-word-requires : tie.Need-next-word-requires
+next-word-requires c κs = search needs
+
+enum-known-p : tie.Need-enum-known-p
+enum-known-p c = search needs
+
+enum-told-2 : tie.Need-enum-told-2
+enum-told-2 c = search needs
+
+returns-2 : tie.Need-returns-2
+returns-2 c = wordless (c .before .before .before .before .before .before .before .before .args .s .now) (sym (c .before .before .before .before .i .given .1) ∙ c .before .before .before .before .before .before .open-form .ensures) (sym (c .enum-told2 .given .1) ∙ c .before .before .next-word .ensures .is)
+
+sub-same-bytes : tie.Need-sub-same-bytes
+sub-same-bytes c = let h = placed-at _ _ _ (c .before .p .given .1) (c .before .before .before .next-word .ensures .placed) in omega (arith, h .some)
+
+part-same-bytes-start : tie.Need-part-same-bytes-start
+part-same-bytes-start c = let h = placed-at _ _ _ (c .before .p .given .1) (c .before .before .before .next-word .ensures .placed) in omega (arith, h .some)
+
+part-same-bytes-end : tie.Need-part-same-bytes-end
+part-same-bytes-end c = let h = placed-at _ _ _ (c .before .p .given .1) (c .before .before .before .next-word .ensures .placed) in omega (arith, h .inside)
+
+slice-aggregate-same-bytes : tie.Need-slice-aggregate-same-bytes
+slice-aggregate-same-bytes c = search needs
+
+same-bytes-requires : tie.Need-same-bytes-requires
+same-bytes-requires c κs = search needs
+
+category-form-requires : tie.Need-category-form-requires
+category-form-requires c κs = search needs
+
+returns-3 : tie.Need-returns-3
+unfolding partOf
+returns-3 c = form-moved (c .before .before .before .before .before .before .before .before .before .before .before .before .before .before .args .s .now) _ _ (c .category-form .result) (of-category (c .before .before .before .before .before .before .before .before .before .before .before .before .before .before .args .s .now) (sym (c .before .before .before .before .before .before .before .before .before .before .i .given .1) ∙ c .before .before .before .before .before .before .before .before .before .before .before .before .open-form .ensures) (sym (c .before .before .before .before .before .before .p .given .1) ∙ c .before .before .before .before .before .before .before .before .next-word .ensures .is) (sym (c .before .before .same-bytes .ensures) ∙ c .before .if1 .taken)) (c .category-form .ensures)
+
+sub-same-bytes-2 : tie.Need-sub-same-bytes-2
+sub-same-bytes-2 c = let h = placed-at _ _ _ (c .before .before .before .before .before .p .given .1) (c .before .before .before .before .before .before .before .next-word .ensures .placed) in omega (arith, h .some)
+
+part-same-bytes-start-2 : tie.Need-part-same-bytes-start-2
+part-same-bytes-start-2 c = let h = placed-at _ _ _ (c .before .before .before .before .before .p .given .1) (c .before .before .before .before .before .before .before .next-word .ensures .placed) in omega (arith, h .some)
+
+part-same-bytes-end-2 : tie.Need-part-same-bytes-end-2
+part-same-bytes-end-2 c = let h = placed-at _ _ _ (c .before .before .before .before .before .p .given .1) (c .before .before .before .before .before .before .before .next-word .ensures .placed) in omega (arith, h .inside)
+
+slice-aggregate-same-bytes-2 : tie.Need-slice-aggregate-same-bytes-2
+slice-aggregate-same-bytes-2 c = search needs
+
+same-bytes-requires-2 : tie.Need-same-bytes-requires-2
+same-bytes-requires-2 c κs = search needs
+
+policy-form-requires : tie.Need-policy-form-requires
+policy-form-requires c κs = search needs
+
+returns-4 : tie.Need-returns-4
+unfolding partOf
+returns-4 c = form-moved (c .before .before .before .before .before .before .before .before .before .before .before .before .before .before .before .before .before .before .args .s .now) _ _ (c .policy-form .result) (of-policy (c .before .before .before .before .before .before .before .before .before .before .before .before .before .before .before .before .before .before .args .s .now) (sym (c .before .before .before .before .before .before .before .before .before .before .before .before .before .before .i .given .1) ∙ c .before .before .before .before .before .before .before .before .before .before .before .before .before .before .before .before .open-form .ensures) (sym (c .before .before .before .before .before .before .before .before .before .before .p .given .1) ∙ c .before .before .before .before .before .before .before .before .before .before .before .before .next-word .ensures .is) (sym (c .before .before .before .before .before .before .same-bytes .ensures) ∙ c .before .before .before .before .before .if1 .left) (sym (c .before .before .same-bytes2 .ensures) ∙ c .before .if2 .taken)) (c .policy-form .ensures)
+
+returns-5 : tie.Need-returns-5
+unfolding partOf
+returns-5 c = of-neither (c .before .before .before .before .before .before .before .before .before .before .before .before .before .before .before .before .before .args .s .now) (sym (c .before .before .before .before .before .before .before .before .before .before .before .before .before .i .given .1) ∙ c .before .before .before .before .before .before .before .before .before .before .before .before .before .before .before .open-form .ensures) (sym (c .before .before .before .before .before .before .before .before .before .p .given .1) ∙ c .before .before .before .before .before .before .before .before .before .before .before .next-word .ensures .is) (sym (c .before .before .before .before .before .same-bytes .ensures) ∙ c .before .before .before .before .if1 .left) (sym (c .before .same-bytes2 .ensures) ∙ c .if2 .left)
+
+pub rules-form-spec : {M : Type 1} → statement M
+rules-form-spec =
+    tie.close
+    (tie.spec
+    open-form-requires
+    enum-known-i
+    enum-told
+    returns
+    next-word-requires
+    enum-known-p
+    enum-told-2
+    returns-2
+    sub-same-bytes
+    part-same-bytes-start
+    part-same-bytes-end
+    slice-aggregate-same-bytes
+    same-bytes-requires
+    category-form-requires
+    returns-3
+    sub-same-bytes-2
+    part-same-bytes-start-2
+    part-same-bytes-end-2
+    slice-aggregate-same-bytes-2
+    same-bytes-requires-2
+    policy-form-requires
+    returns-4
+    returns-5)

@@ -1,0 +1,40 @@
+-- `rules::load::line_step` meets its contract. Assumes nothing.
+use borrow.Author.Needs.{needs}
+use Rattle.model.specs.Answers.{partOf}
+use Rattle.rules.proofs.LoadLaws.{line-open, line-closed, line-asked}
+use Rattle.rules.proofs.load.line_step.Statement.{statement}
+use Rattle.rules.proofs.load.line_step.Tie as tie
+
+returns : tie.Need-returns
+returns c = line-open (c .before .before .before .before .before .args .text .now) (c .before .before .before .before .before .args .from) (c .before .before .before .before .before .args .to) _ _ (c .if1 .taken)
+
+sub-form-step : tie.Need-sub-form-step
+sub-form-step c = search needs
+
+part-form-step-start : tie.Need-part-form-step-start
+part-form-step-start c = search needs
+
+part-form-step-end : tie.Need-part-form-step-end
+part-form-step-end c = search needs
+
+form-step-requires : tie.Need-form-step-requires
+form-step-requires c κs = line-asked _ _ _ _ _ _ _ _ (c .before .before .before .before .before .before .before .pre)
+
+same-length : tie.Need-same-length
+same-length c = search needs
+
+returns-2 : tie.Need-returns-2
+unfolding partOf
+returns-2 c = rw (line-closed (c .before .before .before .before .before .before .before .before .before .before .args .text .now) (c .before .before .before .before .before .before .before .before .before .before .args .from) (c .before .before .before .before .before .before .before .before .before .before .args .to) _ _ (c .before .before .before .before .before .if1 .left)) (c .before .before .form-step .ensures)
+
+pub line-step-spec : {M : Type 1} → statement M
+line-step-spec =
+    tie.close
+    (tie.spec
+    returns
+    sub-form-step
+    part-form-step-start
+    part-form-step-end
+    form-step-requires
+    same-length
+    returns-2)

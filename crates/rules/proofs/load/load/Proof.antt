@@ -1,0 +1,57 @@
+-- `rules::load::load` meets its contract. Assumes nothing.
+use native.Mathlib.Omega.{arith}
+use borrow.Author.Needs.{needs}
+use Rattle.model.specs.Answers.{refusalOf}
+use Rattle.model.specs.ReadRules.{readRules}
+use Rattle.model.specs.Refusal.{refusal}
+use Rattle.rules.proofs.LineReads.{text-too-long, text-bad-line, text-allowed, text-short, bad-small}
+use Rattle.rules.proofs.load.load.Statement.{statement}
+use Rattle.rules.proofs.load.load.Tie as tie
+
+bytes-read-requires : tie.Need-bytes-read-requires
+bytes-read-requires c κs = search needs
+
+enum-told : tie.Need-enum-told
+enum-told c = search needs
+
+returns : tie.Need-returns
+unfolding refusal refusalOf readRules
+returns c = text-too-long 16384 (c .before .before .before .before .before .before .before .args .text .now) _ (c .before .before .bytes-read .ensures) 2 (λ l. l) _ (c .enum-told .given .1)
+
+enum-known-line : tie.Need-enum-known-line
+enum-known-line c = search needs
+
+cast-t9 : tie.Need-cast-t9
+cast-t9 c = omega (arith, bad-small 16384 (c .before .before .before .before .before .before .before .before .args .text .now) _ (c .before .before .before .bytes-read .ensures) _ (c .before .line .given .1))
+
+returns-2 : tie.Need-returns-2
+unfolding refusal refusalOf readRules
+returns-2 c = text-bad-line 16384 (c .before .before .before .before .before .before .before .before .args .text .now) _ (c .before .before .before .bytes-read .ensures) 2 (λ l. l) _ _ (c .before .line .given .1)
+
+enum-told-2 : tie.Need-enum-told-2
+enum-told-2 c = search needs
+
+load-lines-requires : tie.Need-load-lines-requires
+load-lines-requires c κs = (c .before .before .before .before .before .before .before .before .pre .0, text-short 16384 (c .before .before .before .before .before .before .before .before .args .text .now) _ (c .before .before .before .bytes-read .ensures) (c .before .enum-told2 .given .1), c .before .before .before .before .before .before .before .before .pre .1)
+
+same-length : tie.Need-same-length
+same-length c = search needs
+
+returns-3 : tie.Need-returns-3
+unfolding readRules
+returns-3 c = rw (text-allowed 16384 (c .before .before .before .before .before .before .before .before .before .before .before .args .text .now) _ (c .before .before .before .before .before .before .bytes-read .ensures) 2 (λ l. l) _ (c .before .before .before .before .enum-told2 .given .1)) (c .before .before .load-lines .ensures)
+
+pub load-spec : {M : Type 1} → statement M
+load-spec =
+    tie.close
+    (tie.spec
+    bytes-read-requires
+    enum-told
+    returns
+    enum-known-line
+    cast-t9
+    returns-2
+    enum-told-2
+    load-lines-requires
+    same-length
+    returns-3)

@@ -1,0 +1,93 @@
+-- `rules::load::load_lines` meets its contract. Assumes nothing.
+use Prim.Native.Nat.{_+_, _-_}
+use lib.ListN.{length}
+use native.Mathlib.Omega.{arith}
+use borrow.Author.Needs.{needs}
+use Rattle.model.specs.Answers.{refusalOf}
+use Rattle.model.specs.Refusal.{refusal}
+use Rattle.tables.specs.View.{bookAt}
+use Rattle.rules.specs.Loaded.{Reading}
+use Rattle.rules.proofs.LineReads.{line-forward, line-inside}
+use Rattle.rules.proofs.LoadLaws.{reading-start, reading-fault, reading-on, reading-done}
+use Rattle.rules.proofs.load.load_lines.Statement.{statement}
+use Rattle.rules.proofs.load.load_lines.Tie as tie
+
+abbrev Inv-loop : tie.InvT-loop
+Inv-loop book words counts text rules-words₀ at₀ line₀ known₀ rules-words at line known = Reading (bookAt book words counts) text rules-words₀ rules-words at line known
+
+abbrev μ-loop : tie.MeasureT-loop
+μ-loop book words counts text rules-words₀ at₀ line₀ known₀ rules-words at line known = length text + 1 - at
+
+no-counts-requires : tie.Need-no-counts-requires Inv-loop μ-loop
+no-counts-requires c κs = search needs
+
+loop-holds : tie.Need-loop-holds Inv-loop μ-loop
+loop-holds c = reading-start _ _ _ (c .no-counts .ensures .0) (c .no-counts .ensures .1) _ (c .before .before .before .before .before .pre .2)
+
+line-end-requires : tie.Need-line-end-requires Inv-loop μ-loop
+line-end-requires c κs = search needs
+
+line-step-requires : tie.Need-line-step-requires Inv-loop μ-loop
+line-step-requires c κs = record {
+  book-fits = c .before .before .before .before .before .before .before .before .before .pre .0;
+  fits = c .before .before .before .loop .inv .fits;
+  short = c .before .before .before .before .before .before .before .before .before .pre .1;
+  forward = line-forward (c .before .before .before .before .before .before .before .before .before .args .text .now) (c .before .before .before .loop .at) _ (c .before .line-end .ensures) (c .before .before .loop-test .taken);
+  inside = line-inside (c .before .before .before .before .before .before .before .before .before .args .text .now) (c .before .before .before .loop .at) _ (c .before .line-end .ensures) (c .before .before .loop-test .taken);
+}
+
+enum-known-number : tie.Need-enum-known-number Inv-loop μ-loop
+enum-known-number c = search needs
+
+same-length : tie.Need-same-length Inv-loop μ-loop
+same-length c = search needs
+
+returns : tie.Need-returns Inv-loop μ-loop
+unfolding refusal refusalOf
+returns c = reading-fault _ (c .before .before .before .before .before .before .before .before .before .before .before .before .before .before .before .args .text .now) _ _ (c .before .before .before .before .before .before .before .before .before .loop .at) _ _ (c .before .before .before .before .before .before .before .before .before .loop .inv) _ (c .before .before .before .before .before .before .before .line-end .ensures) (c .before .before .before .before .before .before .before .before .loop-test .taken) _ _ (c .before .before .before .before .before .line-step .ensures) _ (c .before .number .given .1)
+
+enum-known-more : tie.Need-enum-known-more Inv-loop μ-loop
+enum-known-more c = search needs
+
+add-at : tie.Need-add-at Inv-loop μ-loop
+add-at c = omega (arith, c .before .before .before .before .before .before .before .before .before .before .before .before .before .before .before .pre .1, line-inside (c .before .before .before .before .before .before .before .before .before .before .before .before .before .before .before .args .text .now) (c .before .before .before .before .before .before .before .before .before .loop .at) _ (c .before .before .before .before .before .before .before .line-end .ensures) (c .before .before .before .before .before .before .before .before .loop-test .taken))
+
+add-line : tie.Need-add-line Inv-loop μ-loop
+add-line c = omega (arith, c .before .before .before .before .before .before .before .before .before .before .before .before .before .before .before .pre .1, c .before .before .before .before .before .before .before .before .before .loop .inv .few, c .before .before .before .before .before .before .before .before .loop-test .taken)
+
+loop-less : tie.Need-loop-less Inv-loop μ-loop
+loop-less c = omega (arith, line-forward (c .before .before .before .before .before .before .before .before .before .before .before .before .before .before .before .args .text .now) (c .before .before .before .before .before .before .before .before .before .loop .at) _ (c .before .before .before .before .before .before .before .line-end .ensures) (c .before .before .before .before .before .before .before .before .loop-test .taken), line-inside (c .before .before .before .before .before .before .before .before .before .before .before .before .before .before .before .args .text .now) (c .before .before .before .before .before .before .before .before .before .loop .at) _ (c .before .before .before .before .before .before .before .line-end .ensures) (c .before .before .before .before .before .before .before .before .loop-test .taken))
+
+loop-again : tie.Need-loop-again Inv-loop μ-loop
+loop-again c = reading-on _ (c .before .before .before .before .before .before .before .before .before .before .before .before .before .before .before .args .text .now) _ _ (c .before .before .before .before .before .before .before .before .before .loop .at) _ _ (c .before .before .before .before .before .before .before .before .before .loop .inv) _ (c .before .before .before .before .before .before .before .line-end .ensures) (c .before .before .before .before .before .before .before .before .loop-test .taken) _ _ (c .before .before .before .before .before .line-step .ensures) _ (c .before .more .given .1) (search needs)
+
+covered-rules-requires : tie.Need-covered-rules-requires Inv-loop μ-loop
+covered-rules-requires c κs = (c .before .before .loop .inv .fits, c .before .before .before .before .before .before .before .before .pre .1)
+
+same-length-2 : tie.Need-same-length-2 Inv-loop μ-loop
+same-length-2 c = search needs
+
+returns-2 : tie.Need-returns-2 Inv-loop μ-loop
+returns-2 c = rw (reading-done _ (c .before .before .before .before .before .before .before .before .before .args .text .now) _ _ (c .before .before .before .loop .at) _ _ (c .before .before .before .loop .inv) (c .before .before .loop-test .left)) (c .covered-rules .ensures (bookAt (c .before .before .before .before .before .before .before .before .before .args .book .now) (c .before .before .before .before .before .before .before .before .before .args .words .now) (c .before .before .before .before .before .before .before .before .before .args .counts)))
+
+pub load-lines-spec : {M : Type 1} → statement M
+load-lines-spec =
+    tie.close
+    (tie.spec
+    Inv-loop
+    μ-loop
+    no-counts-requires
+    loop-holds
+    line-end-requires
+    line-step-requires
+    enum-known-number
+    same-length
+    returns
+    enum-known-more
+    add-at
+    add-line
+    loop-less
+    loop-again
+    covered-rules-requires
+    same-length-2
+    returns-2)

@@ -1,0 +1,92 @@
+-- `rules::tests::is_unknown` meets its contract. Assumes nothing.
+use Prim.Native.Nat.{ℕ, _-_}
+use mathlib.Core.List.{List}
+use mathlib.Core.Bool.{Bool, not}
+use mathlib.Core.Path.{_≡_, refl, sym, ap, _∙_}
+use native.Mathlib.Omega.{arith}
+use lib.ListN.{length}
+use borrow.Author.Needs.{needs}
+use Rattle.model.specs.Answers.{partOf}
+use Rattle.model.specs.Names.{mem, place}
+use Rattle.model.specs.Lists.{all}
+use Rattle.model.specs.Bytes.{Bytes}
+use Rattle.rules.proofs.TestLaws.{miss-none, miss-found, miss-other}
+use Rattle.lists.proofs.Heads.{placed-at}
+use Rattle.lists.proofs.Behind.{left-start, left-next, left-found, left-done, left-over}
+use Rattle.lists.specs.Names.{Left}
+use Rattle.ranks.specs.Layout.{names}
+use Rattle.tables.proofs.NameLaws.{place-mem, place-out}
+use Rattle.tables.specs.View.{namesAt}
+use Rattle.rules.proofs.tests.is_unknown.Statement.{statement}
+use Rattle.rules.proofs.tests.is_unknown.Tie as tie
+
+abbrev Inv-loop : tie.InvT-loop
+Inv-loop text words count s from i₀ i = Left (λ ns. not (all (λ c. mem c (namesAt text words names count)) ns)) (λ ns. not (all (λ c. mem c (namesAt text words names count)) ns)) s from i
+
+abbrev μ-loop : tie.MeasureT-loop
+μ-loop text words count s from i₀ i = length s - i
+
+loop-holds : tie.Need-loop-holds Inv-loop μ-loop
+loop-holds c = left-start (λ (ns : List Bytes). not (all (λ w. mem w (namesAt (c .before .before .before .args .text .now) (c .before .before .before .args .words .now) names (c .before .before .before .args .count))) ns)) (c .before .before .before .args .s .now) (c .before .before .before .args .from)
+
+next-name-requires : tie.Need-next-name-requires Inv-loop μ-loop
+next-name-requires c κs = search needs
+
+enum-known-p : tie.Need-enum-known-p Inv-loop μ-loop
+enum-known-p c = search needs
+
+enum-told : tie.Need-enum-told Inv-loop μ-loop
+enum-told c = search needs
+
+returns : tie.Need-returns Inv-loop μ-loop
+returns c = let p : Bytes → Bool = λ w. mem w (namesAt (c .before .before .before .before .before .before .before .before .args .text .now) (c .before .before .before .before .before .before .before .before .args .words .now) names (c .before .before .before .before .before .before .before .before .args .count)) in λ x e. sym (miss-none p) ∙ left-done (λ ns. not (all p ns)) (λ ns. not (all p ns)) (c .before .before .before .before .before .before .before .before .args .s .now) (c .before .before .before .before .before .before .before .before .args .from) (c .before .before .before .before .loop .i) (c .before .before .before .before .loop .inv) (sym (c .enum-told .given .1) ∙ c .before .before .next-name .ensures .is) x e
+
+sub-find-name : tie.Need-sub-find-name Inv-loop μ-loop
+sub-find-name c = let h = placed-at _ _ _ (c .before .p .given .1) (c .before .before .before .next-name .ensures .placed) in omega (arith, h .some)
+
+part-find-name-start : tie.Need-part-find-name-start Inv-loop μ-loop
+part-find-name-start c = let h = placed-at _ _ _ (c .before .p .given .1) (c .before .before .before .next-name .ensures .placed) in omega (arith, h .some)
+
+part-find-name-end : tie.Need-part-find-name-end Inv-loop μ-loop
+part-find-name-end c = let h = placed-at _ _ _ (c .before .p .given .1) (c .before .before .before .next-name .ensures .placed) in omega (arith, h .inside)
+
+find-name-requires : tie.Need-find-name-requires Inv-loop μ-loop
+find-name-requires c κs = c .before .before .before .before .before .before .before .before .before .before .pre
+
+returns-2 : tie.Need-returns-2 Inv-loop μ-loop
+unfolding partOf
+returns-2 c = let a = c .before .before .before .before .before .before .before .before .before .before .before .before .args in let p : Bytes → Bool = λ w. mem w (namesAt (a .text .now) (a .words .now) names (a .count)) in
+    left-found (λ ns. not (all p ns)) (λ ns. not (all p ns)) (a .s .now) (a .from) (c .before .before .before .before .before .before .before .before .loop .i) _ _ _ (c .before .before .before .before .before .before .before .before .loop .inv) (sym (c .before .before .before .before .p .given .1) ∙ c .before .before .before .before .before .before .next-name .ensures .is)
+    (λ y e. miss-found p _ (y .names) (place-out (a .text .now) (a .words .now) names (a .count) _ (omega (arith, c .before .find-name .ensures, c .if1 .taken))))
+
+loop-less : tie.Need-loop-less Inv-loop μ-loop
+loop-less c = let h = placed-at _ _ _ (c .before .before .before .before .p .given .1) (c .before .before .before .before .before .before .next-name .ensures .placed) in omega (arith, h .after, h .some)
+
+loop-again : tie.Need-loop-again Inv-loop μ-loop
+unfolding partOf
+loop-again c = let a = c .before .before .before .before .before .before .before .before .before .before .before .before .args in let p : Bytes → Bool = λ w. mem w (namesAt (a .text .now) (a .words .now) names (a .count)) in
+    left-next (λ ns. not (all p ns)) (λ ns. not (all p ns)) (a .s .now) (a .from) (c .before .before .before .before .before .before .before .before .loop .i) (λ ns. not (all p ns)) _ _ (c .before .before .before .before .before .before .before .before .loop .inv) (sym (c .before .before .before .before .p .given .1) ∙ c .before .before .before .before .before .before .next-name .ensures .is)
+    (λ y e. miss-other p _ (y .names) (place-mem (a .text .now) (a .words .now) names (a .count) _ (omega (arith, c .before .find-name .ensures, c .if1 .left))))
+
+returns-3 : tie.Need-returns-3 Inv-loop μ-loop
+returns-3 c = let p : Bytes → Bool = λ w. mem w (namesAt (c .before .before .before .before .before .args .text .now) (c .before .before .before .before .before .args .words .now) names (c .before .before .before .before .before .args .count)) in λ x e. left-over (λ ns. not (all p ns)) (λ ns. not (all p ns)) (c .before .before .before .before .before .args .s .now) (c .before .before .before .before .before .args .from) (c .before .loop .i) (c .before .loop .inv) (c .loop-test .left) x e
+
+pub is-unknown-spec : {M : Type 1} → statement M
+is-unknown-spec =
+    tie.close
+    (tie.spec
+    Inv-loop
+    μ-loop
+    loop-holds
+    next-name-requires
+    enum-known-p
+    enum-told
+    returns
+    sub-find-name
+    part-find-name-start
+    part-find-name-end
+    find-name-requires
+    returns-2
+    loop-less
+    loop-again
+    returns-3)

@@ -1,0 +1,42 @@
+-- `rules::tests::lacks_of_lower` meets its contract. Assumes nothing.
+use mathlib.Core.Bool.{Bool, true, false}
+use mathlib.Core.Path.{_≡_, refl, sym, ap, _∙_}
+use native.Mathlib.Omega.{arith}
+use borrow.Author.Needs.{needs}
+use Rattle.model.specs.Names.{mem}
+use Rattle.model.specs.Bytes.{Bytes}
+use Rattle.ranks.specs.Layout.{names}
+use Rattle.tables.specs.View.{nameOf}
+use Rattle.rules.proofs.tests.lacks_of_lower.Statement.{statement}
+use Rattle.rules.proofs.tests.lacks_of_lower.Tie as tie
+
+add-name-at : tie.Need-add-name-at
+add-name-at c = search needs
+
+name-at-requires : tie.Need-name-at-requires
+name-at-requires c κs = (omega (arith, c .before .before .before .pre .2, c .before .before .before .pre .3), c .before .before .before .pre .1 .inside (c .before .before .before .args .k) (omega arith))
+
+has-name-requires : tie.Need-has-name-requires
+has-name-requires c κs = search needs
+
+lacks-one-of-requires : tie.Need-lacks-one-of-requires
+lacks-one-of-requires c κs = (c .before .before .before .before .before .before .pre .0, c .before .before .before .before .before .before .pre .2, c .before .before .before .before .before .before .pre .3)
+
+returns : tie.Need-returns
+unfolding nameOf
+returns c = let a = c .before .before .before .before .before .before .before .args in λ x y ex ey. let m : mem (nameOf (a .text .now) (a .words .now) names (a .k)) (y .names) ≡ true = ap (λ (w : Bytes). mem w (y .names)) (sym (c .before .before .before .name-at .ensures)) ∙ sym (c .before .before .has-name .ensures y ey) ∙ c .before .if1 .taken in rw m (c .lacks-one-of .ensures x ex)
+
+returns-2 : tie.Need-returns-2
+unfolding nameOf
+returns-2 c = let a = c .before .before .before .before .before .before .args in λ x y ex ey. let m : mem (nameOf (a .text .now) (a .words .now) names (a .k)) (y .names) ≡ false = ap (λ (w : Bytes). mem w (y .names)) (sym (c .before .before .name-at .ensures)) ∙ sym (c .before .has-name .ensures y ey) ∙ c .if1 .left in rw m
+
+pub lacks-of-lower-spec : {M : Type 1} → statement M
+lacks-of-lower-spec =
+    tie.close
+    (tie.spec
+    add-name-at
+    name-at-requires
+    has-name-requires
+    lacks-one-of-requires
+    returns
+    returns-2)

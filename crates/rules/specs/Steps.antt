@@ -1,0 +1,63 @@
+-- One line more: its lowest fault, or the rules with it; and what the words then hold.
+use Prim.Native.Nat.{ℕ, _+_, _≤_}
+use mathlib.Core.Path.{_≡_}
+use mathlib.Core.List.{List}
+use lib.ListN.{length}
+use Rattle.model.specs.Bytes.{Bytes}
+use Rattle.model.specs.Choice.{Maybe, just}
+use Rattle.model.specs.Lines.{Step, fault, known, faultOr, formStep}
+use Rattle.model.specs.Book.{Book}
+use Rattle.model.specs.Rules.{Rules}
+use Rattle.model.specs.ReadRules.{RulesLine, category, rulesFault, addRule}
+use Rattle.ranks.specs.declared.RulesCounts.{RulesCounts}
+use Rattle.ranks.specs.View.{rulesAt}
+use Rattle.ranks.specs.Fits.{Fits}
+use Rattle.lists.specs.Places.{WordPlaces}
+use Rattle.lists.specs.Names.{NamesRead, namesBehind}
+use Rattle.faults.specs.TextFault.{textFault}
+use Rattle.rules.specs.declared.RulesStep.{RulesStep}
+use Rattle.rules.specs.declared.RulesStep.the-variants.{Fault, Known}
+use Rattle.rules.specs.Forms.{between}
+use Rattle.rules.specs.Stored.{LineAt}
+use Rattle.rules.specs.Policies.{policyOn}
+
+-- what a line, as it was read, gives after the rules before
+unfoldable pub stepOf : Book → Rules → Maybe RulesLine → Step Rules
+stepOf b r line = formStep line (λ x. faultOr (rulesFault b r x) (addRule r x))
+
+-- what the words hold after a line: nothing is said after a fault, else the rules with the line
+abbrev pub Stepped : Bytes → List ℕ → RulesStep → Step Rules → Type 0
+Stepped text words (Fault n) s = s ≡ fault n
+Stepped text words (Known c) s = (s ≡ known (rulesAt text words c)) × Fits text words c
+
+-- a category's line with its lists
+pub record CategoryGiven (text : Bytes) (words : List ℕ) (c : RulesCounts) (s : Bytes) (base p q a o : ℕ) : Type 0 where
+  pub fits : Fits text words c
+  pub short : length text ≤ 16384
+  pub line : LineAt text base s
+  pub places : WordPlaces s 0 p q
+  pub actors : NamesRead
+  pub over : NamesRead
+  pub actors-are : namesBehind s a ≡ just actors
+  pub over-are : namesBehind s o ≡ just over
+
+-- what it gives, in every book
+abbrev pub CategoryStepped : Bytes → List ℕ → List ℕ → RulesCounts → Bytes → ℕ → ℕ → ℕ → ℕ → RulesStep → Type 0
+CategoryStepped text words words′ c s p q a o r =
+    (b : Book) (x y : NamesRead) → namesBehind s a ≡ just x → namesBehind s o ≡ just y → Stepped text words′ r (stepOf b (rulesAt text words c) (just (category (between s p q) (x .names) (y .names))))
+
+-- a policy's line with the fault of its text as a query, in some book
+pub record PolicyGiven (text : Bytes) (words : List ℕ) (c : RulesCounts) (s : Bytes) (base p q t u number : ℕ) : Type 0 where
+  pub fits : Fits text words c
+  pub short : length text ≤ 16384
+  pub line : LineAt text base s
+  pub places : WordPlaces s 0 p q
+  pub some : t ≤ u
+  pub inside : u ≤ length s
+  pub book : Book
+  pub is : number ≡ textFault book (between s t u)
+
+-- what it gives, in every book in which its text has this fault
+abbrev pub PolicyStepped : Bytes → List ℕ → List ℕ → RulesCounts → Bytes → ℕ → ℕ → ℕ → ℕ → ℕ → RulesStep → Type 0
+PolicyStepped text words words′ c s p q t u number r =
+    (b : Book) → number ≡ textFault b (between s t u) → Stepped text words′ r (stepOf b (rulesAt text words c) (policyOn (between s p q) (between s t u)))

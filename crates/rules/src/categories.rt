@@ -1,0 +1,63 @@
+// A category's line more in the tables.
+ghost use mathlib.Core.Path.{_≡_};
+ghost use Prim.Native.Nat.{_+_, _≤_};
+ghost use lib.ListN.{length};
+ghost use Rattle.model.specs.Choice.{just};
+ghost use Rattle.lists.specs.Names.{NamesRead, namesBehind};
+ghost use Rattle.rules.specs.Stored.{NamesRoom, NamesStored, CategoryClear, CategoryAdded};
+use items::Piece;
+use lists::LIST_DEPTH;
+use lists::places;
+use ranks::ACTORS;
+use ranks::CATEGORIES;
+use ranks::CATEGORY_WORDS;
+use ranks::OVER;
+use ranks::RulesCounts;
+use ranks::lower;
+use ranks::stores;
+use tables::names::NAME_LENGTHS;
+
+// Stores the names of a list one after another, the line beginning at the place `base` of the rules' text, and says how many they are.
+fn store_names(words: &mut [u32], at: usize, s: &[u8], from: usize, base: usize) -> usize
+    requires { ⌜ NamesRoom (now words) at (now s) from × (base + length (now s) ≤ 16384) ⌝ }
+    ensures { λ r. ⌜ ((x : NamesRead) → namesBehind (now (s .entry)) from ≡ just x → (r ≡ length (x .names)) × NamesStored (now (words .entry)) (now (words .exit)) at (now (s .entry)) base (x .names)) ⌝ }
+{
+    let mut n = 0;
+    let mut i = from;
+    while i < s.len() {
+        let Piece::At(p, q) = places::next_name(s, i, LIST_DEPTH) else {
+            return n;
+        };
+        stores::store_name(words, at + n, base + p, q - p);
+        n += 1;
+        i = q;
+    }
+    n
+}
+
+// Adds a category: its name from p to q of the line, its actors' names from a on, the names of those it is over from o on.
+pub fn add_category(
+    text: &[u8],
+    words: &mut [u32],
+    counts: RulesCounts,
+    s: &[u8],
+    base: usize,
+    p: usize,
+    q: usize,
+    a: usize,
+    o: usize,
+) -> RulesCounts
+    requires { ⌜ CategoryClear (now text) (now words) counts (now s) base p q a o ⌝ }
+    ensures { λ r. ⌜ CategoryAdded (now (text .entry)) (now (words .entry)) (now (words .exit)) counts (now (s .entry)) p q a o r ⌝ }
+{
+    let k = counts.categories;
+    let actors = store_names(words, CATEGORIES + CATEGORY_WORDS * k + ACTORS, s, a, base);
+    let over = store_names(words, CATEGORIES + CATEGORY_WORDS * k + OVER, s, o, base);
+    let set = lower::lower_set(text, words, k, over);
+    let name = ((base + p) * NAME_LENGTHS + (q - p)) as u32;
+    stores::store_category(words, k, name, actors, over, set);
+    RulesCounts {
+        categories: k + 1,
+        policies: counts.policies,
+    }
+}

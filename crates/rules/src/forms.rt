@@ -1,0 +1,82 @@
+// The forms of the rules' lines.
+ghost use mathlib.Core.Bool.{false};
+ghost use Rattle.model.specs.Choice.{andThen};
+ghost use Rattle.model.specs.Items.{lineItems};
+ghost use Rattle.model.specs.ReadRules.{categoryLine, policyLine, rulesLine};
+ghost use Rattle.items.specs.Rest.{formAt};
+ghost use Rattle.rules.specs.Forms.{NamesList, FormRead};
+use crate::RulesForm;
+use items::Piece;
+use items::forms;
+use lists::LINE_DEPTH;
+use lists::places;
+use lists::scans;
+use text::End;
+use text::compare;
+
+// (HEAD NAME...): the place behind its head, and the place behind it.
+fn names_list(s: &[u8], from: usize, head: &[u8]) -> Piece
+    ensures { λ r. ⌜ NamesList (now (head .entry)) (now (s .entry)) from r ⌝ }
+{
+    let End::At(a) = places::headed(s, from, head) else {
+        return Piece::None;
+    };
+    let End::At(e) = scans::names_end(s, a) else {
+        return Piece::None;
+    };
+    Piece::At(a, e)
+}
+
+// NAME (actors WORD...) (over CATEGORY...), behind the line's first word.
+fn category_form(s: &[u8], from: usize) -> RulesForm
+    ensures { λ r. ⌜ FormRead (now (s .entry)) (formAt false from (now (s .entry)) categoryLine) r ⌝ }
+{
+    let Piece::At(p, q) = places::next_name(s, from, LINE_DEPTH) else {
+        return RulesForm::None;
+    };
+    let Piece::At(a, e) = names_list(s, q, b"actors") else {
+        return RulesForm::None;
+    };
+    let Piece::At(o, f) = names_list(s, e, b"over") else {
+        return RulesForm::None;
+    };
+    if forms::form_closes(s, f) {
+        return RulesForm::Category(p, q, a, o);
+    }
+    RulesForm::None
+}
+
+// CATEGORY "QUERY", behind the line's first word.
+fn policy_form(s: &[u8], from: usize) -> RulesForm
+    ensures { λ r. ⌜ FormRead (now (s .entry)) (formAt false from (now (s .entry)) policyLine) r ⌝ }
+{
+    let Piece::At(p, q) = places::next_name(s, from, LINE_DEPTH) else {
+        return RulesForm::None;
+    };
+    let Piece::At(t, u) = places::next_quoted(s, q, LINE_DEPTH) else {
+        return RulesForm::None;
+    };
+    if forms::form_closes(s, u + 1) {
+        return RulesForm::Policy(p, q, t, u);
+    }
+    RulesForm::None
+}
+
+// The form of a line by its first word.
+pub fn rules_form(s: &[u8]) -> RulesForm
+    ensures { λ r. ⌜ FormRead (now (s .entry)) (andThen (lineItems (now (s .entry))) rulesLine) r ⌝ }
+{
+    let End::At(i) = forms::open_form(s) else {
+        return RulesForm::None;
+    };
+    let Piece::At(p, q) = places::next_word(s, i, true, LINE_DEPTH) else {
+        return RulesForm::None;
+    };
+    if compare::same_bytes(&s[p..q], b"category") {
+        return category_form(s, q);
+    }
+    if compare::same_bytes(&s[p..q], b"policy") {
+        return policy_form(s, q);
+    }
+    RulesForm::None
+}

@@ -1,0 +1,30 @@
+// The rules' lines: their forms, their faults, and what they add to the tables.
+pub mod categories;
+pub mod forms;
+pub mod load;
+pub mod policies;
+pub mod steps;
+pub mod tests;
+
+use model::Refusal;
+use ranks::RulesCounts;
+
+// The form of a line, by places of the line. A category: its name's start and end, and the places behind the heads of its actors and of those it is over.
+// A policy: its category's start and end, and those of the text between the quotes.
+pub enum RulesForm {
+    Category(usize, usize, usize, usize),
+    Policy(usize, usize, usize, usize),
+    None,
+}
+
+// What one line gives: its fault, in the paper's numbers, or the counts with it.
+pub enum RulesStep {
+    Fault(u32),
+    Known(RulesCounts),
+}
+
+// What reading the rules gives: the counts of their tables, or a refusal.
+pub enum RulesLoad {
+    Loaded(RulesCounts),
+    Refused(Refusal),
+}

@@ -1,0 +1,119 @@
+// A policy's line: its lowest fault, by that of its text as a query; and the line more in the tables.
+ghost use mathlib.Core.Path.{_≡_};
+ghost use mathlib.Core.Bool.{not};
+ghost use Prim.Native.Nat.{_+_, _-_, _≤_, _<_};
+ghost use lib.ListN.{length};
+ghost use lib.Dec.{ltb};
+ghost use Rattle.model.specs.Book.{Book};
+ghost use Rattle.model.specs.Names.{mem};
+ghost use Rattle.model.specs.Rules.{categoryNames};
+ghost use Rattle.model.specs.ReadRules.{hasPolicy};
+ghost use Rattle.ranks.specs.View.{rulesAt};
+ghost use Rattle.ranks.specs.Fits.{Within, Fits};
+ghost use Rattle.ranks.specs.Enforced.{hasOne};
+ghost use Rattle.lists.specs.Places.{WordPlaces};
+ghost use Rattle.faults.specs.TextFault.{textFault};
+ghost use Rattle.rules.specs.Forms.{between};
+ghost use Rattle.rules.specs.Policies.{lineNumber, policyOn, combined, PolicyClear, PolicyAdded};
+use crate::tests::LIMIT_PASSED;
+use crate::tests::NOT_DECLARED;
+use crate::tests::SECOND_TIME;
+use ranks::CATEGORY_NAMES;
+use ranks::RulesCounts;
+use ranks::policies;
+use ranks::stores;
+
+// "Query, policy text and request 2,048 bytes each."
+pub const MAX_POLICY_BYTES: usize = 2048;
+
+// The faults of a text as a query, in the paper's numbers: no query, a value or relation of another type.
+pub const NO_FORM: u32 = 3;
+
+pub const OTHER_TYPE: u32 = 6;
+
+// The lowest fault of a policy's line, by its own faults and that of its text.
+fn lowest_of(unknown: bool, second: bool, long: bool, fault: u32) -> u32
+    ensures { λ r. ⌜ r ≡ combined unknown second long fault ⌝ }
+{
+    if fault == NO_FORM {
+        return NO_FORM;
+    }
+    if unknown {
+        return NOT_DECLARED;
+    }
+    if fault == NOT_DECLARED {
+        return NOT_DECLARED;
+    }
+    if second {
+        return SECOND_TIME;
+    }
+    if fault == SECOND_TIME {
+        return SECOND_TIME;
+    }
+    if fault == OTHER_TYPE {
+        return OTHER_TYPE;
+    }
+    if long {
+        return LIMIT_PASSED;
+    }
+    fault
+}
+
+// Whether the category of a number has a policy already; none has the number of how many there are.
+fn has_policy(words: &[u32], counts: RulesCounts, m: usize) -> bool
+    requires { ⌜ Within (now words) counts ⌝ }
+    ensures { λ r. ⌜ r ≡ hasOne (now (words .entry)) counts m ⌝ }
+{
+    policies::policy_place(words, counts, m) < counts.policies
+}
+
+// The lowest fault of a policy's line, or 0: its category's name from p to q of the line, its text from t to u, and the fault of that text as a query.
+pub fn policy_fault(
+    text: &[u8],
+    words: &[u32],
+    counts: RulesCounts,
+    s: &[u8],
+    p: usize,
+    q: usize,
+    t: usize,
+    u: usize,
+    fault: u32,
+) -> u32
+    requires { ⌜ Fits (now text) (now words) counts × WordPlaces (now s) 0 p q × (t ≤ u) × (u ≤ length (now s)) ⌝ }
+    ensures { λ r. ⌜ ((b : Book) → fault ≡ textFault b (between (now (s .entry)) t u)
+        → r ≡ lineNumber b (rulesAt (now (text .entry)) (now (words .entry)) counts) (policyOn (between (now (s .entry)) p q) (between (now (s .entry)) t u))) ⌝ }
+{
+    let count = counts.categories;
+    let m = tables::names::find_name(text, words, CATEGORY_NAMES, count, &s[p..q]);
+    lowest_of(
+        count <= m,
+        has_policy(words, counts, m),
+        MAX_POLICY_BYTES < u - t,
+        fault,
+    )
+}
+
+// Adds a policy: its category's name from p to q of the line, its text from t to u, the line beginning at the place `base` of the rules' text.
+pub fn add_policy(
+    text: &[u8],
+    words: &mut [u32],
+    counts: RulesCounts,
+    s: &[u8],
+    base: usize,
+    p: usize,
+    q: usize,
+    t: usize,
+    u: usize,
+) -> RulesCounts
+    requires { ⌜ PolicyClear (now text) (now words) counts (now s) base p q t u ⌝ }
+    ensures { λ r. ⌜ PolicyAdded (now (text .entry)) (now (words .entry)) (now (words .exit)) counts (now (s .entry)) p q t u r ⌝ }
+{
+    let count = counts.categories;
+    let m = tables::names::find_name(text, words, CATEGORY_NAMES, count, &s[p..q]);
+    let i = counts.policies;
+    stores::store_policy(words, i, m, base + t, u - t);
+    RulesCounts {
+        categories: count,
+        policies: i + 1,
+    }
+}
