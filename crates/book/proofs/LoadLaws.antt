@@ -1,18 +1,15 @@
--- Reading line by line: the first line's step, then the rest; and a book of no lines.
+-- A book of no lines, and what a line of a book gives.
 use Prim.Native.Nat.{ℕ, _+_, _-_, _≤_, _<_}
 use mathlib.Core.Path.{_≡_, refl, sym, ap, _∙_, subst}
-use mathlib.Core.List.{List, [], _∷_}
-use mathlib.Core.Bool.{Bool, true, false}
+use mathlib.Core.List.{List}
 use native.Mathlib.Omega.{arith}
 use lib.ListN.{length, take, drop, length-drop}
 use lib.Seq.{length-take-le}
 use borrow.Author.Tests.{lt-ltb, le-ltb}
-use Rattle.facts.specs.Tests.{either, below-or-not}
 use Rattle.model.specs.Bytes.{Bytes}
 use Rattle.model.specs.Choice.{nothing, andThen}
 use Rattle.model.specs.Lists.{sum}
-use Rattle.model.specs.Refusal.{Outcome, accepted, refusal}
-use Rattle.model.specs.Lines.{Line, Step, fault, known, formStep, stepThen, readLines, linesOf}
+use Rattle.model.specs.Lines.{Step, fault, known, formStep}
 use Rattle.model.specs.Items.{lineItems}
 use Rattle.model.specs.Forms.{formOf}
 use Rattle.model.specs.Book.{Book, emptyBook, entryCount}
@@ -20,10 +17,7 @@ use Rattle.model.specs.BookLines.{bookLine}
 use Rattle.model.specs.ReadBook.{bookStep}
 use Rattle.model.specs.Answers.{partOf}
 use Rattle.model.specs.Service.{ones}
-use Rattle.text.specs.Places.{past}
-use Rattle.text.specs.Lines.{isInLine}
-use Rattle.text.proofs.PlaceLaws.{past-on, past-within}
-use Rattle.text.proofs.LineLaws.{lines-none, lines-ended, lines-last}
+use Rattle.text.specs.Lines.{lineAt}
 use Rattle.tables.specs.declared.BookCounts.{BookCounts}
 use Rattle.tables.specs.Listed.{listed}
 use Rattle.tables.specs.Layout.{bookWords}
@@ -36,7 +30,7 @@ use Rattle.lines.specs.declared.LineStep.{LineStep}
 use Rattle.lines.specs.declared.LineStep.the-variants.{Fault, Known}
 use Rattle.lines.specs.Steps.{stepOf, Stepped}
 use Rattle.lines.specs.Forms.{formStepOf, FormAsked}
-use Rattle.book.specs.Loaded.{lineAt, LineAsked}
+use Rattle.book.specs.Loaded.{LineAsked}
 
 pub empty-is : (text : Bytes) (words : List ℕ) → bookAt text words noCounts ≡ emptyBook
 unfolding bookAt emptyBook attrsAt namesAt listed
@@ -56,34 +50,6 @@ empty-fits text words room = record {
   of-rels = λ i l. absurd (omega arith);
   counted = ap entryCount (empty-is text words);
 }
-
-module _ (text : Bytes) (at to : ℕ) (e : to ≡ past isInLine text at) (l : at < length text) where
-  -- the first line from a place on
-  pub first-line : linesOf (drop at text) ≡ lineAt text at to ∷ linesOf (drop (to + 1) text)
-  unfolding lineAt
-  first-line = either (below-or-not to (length text))
-      (λ m. rw (lt-ltb to (length text) m) (lines-ended text at to e m))
-      (λ m. rw (le-ltb to (length text) m, lines-none text (to + 1) (omega arith)) (lines-last text at to e l m))
-
-  pub line-forward : at ≤ to
-  line-forward = omega (arith, e, past-on isInLine text at)
-
-  pub line-inside : to ≤ length text
-  line-inside = omega (arith, e, past-within isInLine text at (omega arith))
-
-  module _ (n : ℕ) (b : Book) where
-    pub lines-fault : (k : ℕ) → bookStep b (lineAt text at to) ≡ fault k → readLines 1 bookStep n b (linesOf (drop at text)) ≡ refusal k 1 n
-    unfolding readLines stepThen
-    lines-fault k h = rw (first-line, h)
-
-    pub lines-known : (b′ : Book) → bookStep b (lineAt text at to) ≡ known b′
-        → readLines 1 bookStep n b (linesOf (drop at text)) ≡ readLines 1 bookStep (n + 1) b′ (linesOf (drop (to + 1) text))
-    unfolding readLines stepThen
-    lines-known b′ h = rw (first-line, h)
-
-pub lines-over : (text : Bytes) (at n : ℕ) (b : Book) → length text ≤ at → readLines 1 bookStep n b (linesOf (drop at text)) ≡ accepted b
-unfolding readLines
-lines-over text at n b h = rw (lines-none text at h)
 
 -- a last line without a line feed: 3
 pub line-open : (text : Bytes) (from to : ℕ) (b : Book) → length text ≤ to → bookStep b (lineAt text from to) ≡ fault 3

@@ -1,24 +1,18 @@
 -- A whole book: what the words hold after it, accepted or refused.
-use Prim.Native.Nat.{ℕ, _-_, _≤_, _<_}
+use Prim.Native.Nat.{ℕ, _≤_}
 use mathlib.Core.Path.{_≡_}
 use mathlib.Core.List.{List}
 use lib.ListN.{length}
-use lib.Dec.{ltb}
 use Rattle.model.specs.Bytes.{Bytes}
 use Rattle.model.specs.Refusal.{Outcome, accepted, refused}
-use Rattle.model.specs.Lines.{Line}
 use Rattle.model.specs.Book.{Book}
 use Rattle.model.specs.Service.{ones}
-use Rattle.model.specs.Answers.{partOf, refusalOf}
+use Rattle.model.specs.Answers.{refusalOf}
 use Rattle.tables.specs.declared.BookCounts.{BookCounts}
 use Rattle.tables.specs.View.{bookAt}
 use Rattle.tables.specs.Fits.{Fits}
 use Rattle.book.specs.declared.BookLoad.{BookLoad}
 use Rattle.book.specs.declared.BookLoad.the-variants as load
-
--- the line of a text from its start to its line feed, or to the end of the text
-unfoldable pub lineAt : Bytes → ℕ → ℕ → Line
-lineAt text from to = record { bytes = partOf text from (to - from); ended = ltb to (length text) }
 
 -- accepted, the words hold the book; refused, they are all ones
 abbrev pub Loaded : Bytes → List ℕ → BookLoad → Outcome Book → Type 0

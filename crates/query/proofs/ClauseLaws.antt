@@ -1,5 +1,5 @@
 -- Conditions by numbers: what they name is there, and each is the model's clause.
-use Prim.Native.Nat.{ℕ, suc, _+_, _<_, _≤_}
+use Prim.Native.Nat.{ℕ, _+_, _<_, _≤_}
 use mathlib.Core.Path.{_≡_, refl, sym, ap, ap₂, subst, _∙_}
 use mathlib.Core.List.{List, [], _∷_, _++_, map, append-nil, append-assoc}
 use mathlib.Core.Bool.{Bool, true, false, _&&_}
@@ -11,9 +11,9 @@ use Rattle.model.specs.Choice.{pick}
 use Rattle.model.specs.Lists.{all, joined}
 use Rattle.model.specs.Names.{mem, place}
 use Rattle.model.specs.Book.{Book, attrNames}
-use Rattle.model.specs.QueryText.{Condition, differ, demand}
+use Rattle.model.specs.QueryText.{Condition, differ}
 use Rattle.model.specs.Pattern.{Clause, excluded, vertexHas, edgeHas, clauseOf}
-use Rattle.model.specs.Answers.{nameAt, relationOf, valueOf, clauseIn}
+use Rattle.model.specs.Answers.{nameAt, relationOf, clauseIn}
 use Rattle.model.specs.declared.Requirement.{Requirement}
 use Rattle.model.specs.declared.Condition.{Condition as ConditionData}
 use Rattle.model.specs.declared.Condition.the-variants.{Excluded, OfVertex, OfEdge}

@@ -5,7 +5,7 @@ use mathlib.Core.Logic.{_⊎_, inl, inr, ⊎-elim}
 use mathlib.Core.List.{List, [], _∷_, _++_, append-assoc, map, List·Memᴰ·cases-cons as cases-cons}
 use mathlib.Core.Bool.{Bool, true, false, not, _&&_, _||_}
 use native.Mathlib.Omega.{arith}
-use lib.ListN.{length, length-append}
+use lib.ListN.{length}
 use lib.Dec.{T, ltb, leb, eqb, leb→le}
 use borrow.Author.Tests.{ltb-false, not-false}
 use Rattle.facts.specs.Tests.{and-left}
@@ -25,11 +25,10 @@ use Rattle.model.specs.Graph.{Each}
 use Rattle.model.specs.Query.{vertexNames, edgeNames, edgesOf, conditionsOf}
 use Rattle.model.specs.ReadQuery.{unknown, isDiffer, hasTwice, tooMany}
 use Rattle.model.proofs.Members.{_∈_, is-true, any-i, mem-e, map-e, joined-e, each-e, firsts-e}
-use Rattle.model.proofs.WrittenSigns.{Word}
 use Rattle.model.proofs.WrittenConditions.{Name, WritableValue, WritableCondition}
 use Rattle.model.proofs.WritableSigns.{IfThere, signs-writable}
 use Rattle.model.proofs.WritablePieces.{WritablePiece, pieces-writable}
-use Rattle.pieces.specs.Walk.{Walk, stopped, ahead, orStopped, endsWell, walk, Ordered}
+use Rattle.pieces.specs.Walk.{stopped, ahead, orStopped, endsWell, walk, Ordered}
 use Rattle.pieces.specs.Named.{vertexIn, edgeIn, returnIn, conditionIn, verticesIn, edgesIn, returnsIn, conditionsIn, linksFrom}
 use Rattle.pieces.specs.Faults.{someWhere, undeclaredAt, twiceAt, mistypedAt, fromItselfAt}
 use Rattle.pieces.specs.Steps.{walkAt, spotOf, chainAt}

@@ -10,7 +10,6 @@ use Rattle.model.specs.Choice.{pick}
 use Rattle.model.specs.Lists.{any, joined, placeWhere}
 use Rattle.model.specs.Names.{mem, place}
 use Rattle.model.specs.Grammar.{Piece, start, goes, comes, asks, returns}
-use Rattle.model.specs.Answers.{nameAt}
 use Rattle.model.specs.declared.Part.{Part}
 use Rattle.pieces.specs.Named.{edgeIn, edgesIn}
 use Rattle.pieces.specs.Steps.{pieceOf, StepAt}

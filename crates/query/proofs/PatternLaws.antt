@@ -1,16 +1,14 @@
 -- The vertices, edges, conditions and returned names of a text without a fault are its pattern.
 use Prim.Native.Nat.{ℕ, _+_, _≤_, _<_}
-use mathlib.Core.Path.{_≡_, refl, sym, ap, subst, _∙_}
+use mathlib.Core.Path.{_≡_, sym, ap, subst, _∙_}
 use mathlib.Core.List.{List, [], _∷_, map}
 use native.Mathlib.Omega.{arith}
 use lib.ListN.{length, take, drop, getD, length-take, length-drop}
 use lib.Seq.{getD-take, length-take-le}
 use Rattle.model.specs.Bytes.{Bytes}
-use Rattle.model.specs.Choice.{just}
 use Rattle.model.specs.Lists.{joined}
 use Rattle.model.specs.Book.{Book}
-use Rattle.model.specs.QueryText.{QueryText}
-use Rattle.model.specs.Grammar.{Piece, atStart, queryText}
+use Rattle.model.specs.Grammar.{Piece}
 use Rattle.model.specs.Query.{ChainEdge, vertexNames, edgesOf, edgeNames, conditionsOf}
 use Rattle.model.specs.Pattern.{Edge, edgeOf, clauseOf, patternOf}
 use Rattle.model.specs.Answers.{nameAt, partOf, valueOf, edgeIn, clauseIn, patternIn}
@@ -25,16 +23,14 @@ use Rattle.model.proofs.Members.{_∈_, map-i, map-e}
 use Rattle.model.proofs.Places.{getD-in, length-map}
 use Rattle.tables.specs.declared.BookCounts.{BookCounts}
 use Rattle.tables.specs.View.{bookAt}
-use Rattle.tables.specs.Fits.{Within}
-use Rattle.pieces.specs.Walk.{Ordered}
-use Rattle.pieces.specs.Named.{edgesIn, returnsIn, conditionsIn, linksFrom}
+use Rattle.pieces.specs.Named.{edgesIn, returnsIn, linksFrom}
 use Rattle.pieces.proofs.Trees.{tree-names, returns-same, link-names}
 use Rattle.pieces.proofs.Tests.{vertex-names, edge-names}
 use Rattle.faults.specs.Names.{textStart, textPieces}
 use Rattle.faults.proofs.ScanLaws.{found-bound}
 use Rattle.faults.proofs.FaultLaws.{queryOf, text-ordered}
-use Rattle.writer.specs.Writable.{Limits, countLimits, ConditionFits, PatternFits}
-use Rattle.woven.specs.Given.{noPart, noEdge, noClause, NameFits, ValueFits, ConditionFits as WordsHold, PatternFits as WordsFit, ValueWithin, ConditionWithin, PartsWithin}
+use Rattle.writer.specs.Writable.{Limits, countLimits, ConditionFits}
+use Rattle.woven.specs.Given.{noPart, noEdge, noClause, NameFits, ValueFits, ConditionFits as WordsHold, PatternFits as WordsFit, ValueWithin, ConditionWithin}
 use Rattle.query.specs.declared.vertices.Vertices.{Vertices}
 use Rattle.query.specs.declared.edges.Edges.{Edges}
 use Rattle.query.specs.declared.clauses.Clauses.{Clauses}
@@ -101,13 +97,13 @@ module _ (book : Bytes) (words : List ℕ) (c : BookCounts) (s : Bytes) (asked :
 
   module _ (v : Vertices) (found : Found s v (vertexNamesIn s)) where
     pub edges-asked : EdgesAsked book words c s v
-    edges-asked = record { fits = asked .fits; found = found; few = few .links; declared = clear .declared }
+    edges-asked = record { fits = asked .fits; found = found; few = omega (arith, few .links); declared = clear .declared }
 
     pub clauses-asked : ClausesAsked book words c s v
-    clauses-asked = record { fits = asked .fits; found = found; few = few .conditions; named = clear-known b s clear }
+    clauses-asked = record { fits = asked .fits; found = found; few = omega (arith, few .conditions); named = clear-known b s clear }
 
     pub returns-asked : ReturnsAsked s v
-    returns-asked = record { found = found; few = few .returns; book = b; declared = clear .declared }
+    returns-asked = record { found = found; few = omega (arith, few .returns); book = b; declared = clear .declared }
 
     module _ (e : Edges) (k : Clauses) (r : Returns) (links : EdgesRead b c s v e) (conditions : ClausesRead b (textLimits c v s) s (textClauses s) k) (returned : ReturnsRead s v r)
         (parts-size : length (v .parts) ≡ 8) (edges-size : length (e .edges) ≡ 16) where

@@ -1,7 +1,7 @@
 -- Reading a query: the refusals 1 and 2, then the lowest fault, then the pattern.
 use Prim.Native.Nat.{ℕ}
 use mathlib.Core.Path.{_≡_, refl, sym, ap, subst, _∙_}
-use mathlib.Core.List.{List, [], _∷_}
+use mathlib.Core.List.{[], _∷_}
 use mathlib.Core.Bool.{Bool, true, false}
 use native.Mathlib.Omega.{arith}
 use lib.ListN.{length}
@@ -10,14 +10,13 @@ use Rattle.model.specs.Bytes.{Bytes}
 use Rattle.model.specs.Choice.{pick, Maybe, nothing, just}
 use Rattle.model.specs.Lists.{all}
 use Rattle.model.specs.Lines.{isAllowed, badLine}
-use Rattle.model.specs.Refusal.{Outcome, accepted, refused, refusal, refusedIf, lowest, _if_}
+use Rattle.model.specs.Refusal.{accepted, refused, refusal, refusedIf, lowest, _if_}
 use Rattle.model.specs.Book.{Book}
 use Rattle.model.specs.QueryText.{QueryText}
 use Rattle.model.specs.Grammar.{queryText}
 use Rattle.model.specs.ReadQuery.{queryFault, textOrFault, readQuery}
 use Rattle.model.specs.Answers.{refusalOf}
-use Rattle.model.specs.declared.Verdict.{Verdict}
-use Rattle.model.specs.declared.Verdict.the-variants.{Accepted, Refused}
+use Rattle.model.specs.declared.Verdict.the-variants.{Accepted}
 use Rattle.model.specs.declared.Pattern.{Pattern}
 use Rattle.model.specs.declared.QueryRead.{QueryRead}
 use Rattle.model.proofs.AllowedBytes.{line-allowed}
@@ -28,7 +27,7 @@ use Rattle.text.specs.declared.BytesRead.the-variants.{Allowed, TooLong, BadLin
 use Rattle.text.proofs.LineLaws.{bytes-first}
 use Rattle.faults.specs.TextFault.{numberOr, treeFault, textFault}
 use Rattle.query.specs.PatternRead.{PatternRead}
-use Rattle.query.specs.QueryReads.{noPattern, QueryGiven, QueryReads, RefusedWith}
+use Rattle.query.specs.QueryReads.{QueryGiven, QueryReads, RefusedWith}
 
 -- a query that is refused with a number and a line
 refused-given : (b : Book) (c : BookCounts) (s : Bytes) (number line : ℕ) (r : QueryRead) → readQuery b s ≡ refusal number 3 line → RefusedWith number line r → QueryReads b c s r

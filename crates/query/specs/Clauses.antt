@@ -1,8 +1,8 @@
 -- The conditions of a text by the numbers of what they name.
 use Prim.Native.Nat.{ℕ, _+_, _<_, _≤_}
 use mathlib.Core.Path.{_≡_}
-use mathlib.Core.List.{List, [], _∷_, _++_, map}
-use mathlib.Core.Bool.{Bool, true, false, _&&_}
+use mathlib.Core.List.{List, _++_, map}
+use mathlib.Core.Bool.{Bool, true, _&&_}
 use lib.ListN.{length, take, getD, set}
 use Rattle.model.specs.Bytes.{Bytes}
 use Rattle.model.specs.Choice.{pick}
@@ -12,11 +12,9 @@ use Rattle.model.specs.Book.{Book, attrNames}
 use Rattle.model.specs.QueryText.{Condition, differ, demand}
 use Rattle.model.specs.Pattern.{Clause, clauseOf}
 use Rattle.model.specs.Answers.{nameAt, relationOf, valueOf, clauseIn}
-use Rattle.model.specs.declared.Relation.{Relation as RelationData}
 use Rattle.model.specs.declared.Requirement.{Requirement}
 use Rattle.model.specs.declared.Condition.{Condition as ConditionData}
 use Rattle.model.specs.declared.Condition.the-variants.{Excluded, OfVertex, OfEdge}
-use Rattle.model.specs.declared.Clause.{Clause as ClauseData}
 use Rattle.tables.specs.declared.BookCounts.{BookCounts}
 use Rattle.tables.specs.View.{bookAt}
 use Rattle.tables.specs.Fits.{Fits}

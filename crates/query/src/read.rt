@@ -1,8 +1,4 @@
 // Reading a query: its pattern, or its lowest refusal beside an empty pattern.
-ghost use mathlib.Core.Path.{_≡_};
-ghost use lib.Dec.{T};
-ghost use Rattle.model.specs.Lists.{all};
-ghost use Rattle.model.specs.Lines.{isAllowed};
 ghost use Rattle.tables.specs.View.{bookAt};
 ghost use Rattle.tables.specs.Fits.{Fits};
 ghost use Rattle.query.specs.QueryReads.{QueryReads, TextAsked, RefusedWith};

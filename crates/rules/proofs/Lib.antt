@@ -6,5 +6,4 @@ pub mod CategoryLaws
 pub mod PolicyFaults
 pub mod PolicyStores
 pub mod StepLaws
-pub mod LineReads
 pub mod LoadLaws

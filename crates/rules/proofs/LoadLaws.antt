@@ -18,7 +18,7 @@ use Rattle.model.specs.Rules.{Rules}
 use Rattle.model.specs.ReadRules.{RulesLine, rulesLine, rulesStep, covered}
 use Rattle.model.specs.Answers.{partOf}
 use Rattle.text.specs.Places.{past}
-use Rattle.text.specs.Lines.{isInLine}
+use Rattle.text.specs.Lines.{isInLine, lineAt}
 use Rattle.tables.specs.declared.BookCounts.{BookCounts}
 use Rattle.tables.specs.Listed.{listed}
 use Rattle.ranks.specs.declared.RulesCounts.{RulesCounts}
@@ -32,8 +32,8 @@ use Rattle.rules.specs.declared.RulesStep.{RulesStep}
 use Rattle.rules.specs.declared.RulesStep.the-variants.{Fault, Known}
 use Rattle.rules.specs.Forms.{FormRead, CategoryRead, PolicyRead}
 use Rattle.rules.specs.Steps.{stepOf, Stepped}
-use Rattle.rules.specs.Loaded.{lineAt, noRules, FormAsked, LineAsked, Reading}
-use Rattle.rules.proofs.LineReads.{line-forward, line-inside, lines-fault, lines-known, lines-over}
+use Rattle.rules.specs.Loaded.{noRules, FormAsked, LineAsked, Reading}
+use Rattle.text.proofs.LineReads.{line-forward, line-inside, lines-fault, lines-known, lines-over}
 
 -- rules of no lines
 module _ (text : Bytes) (words : List ℕ) (c : RulesCounts) (none : c .categories ≡ 0) (no-policy : c .policies ≡ 0) where

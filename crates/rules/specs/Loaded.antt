@@ -1,16 +1,15 @@
 -- The rules of a text, line by line: what a line asks, and what the words hold after all lines, accepted or refused.
-use Prim.Native.Nat.{ℕ, _+_, _-_, _≤_}
+use Prim.Native.Nat.{ℕ, _+_, _≤_}
 use mathlib.Core.Path.{_≡_}
 use mathlib.Core.List.{List, []}
 use lib.ListN.{length, drop}
-use lib.Dec.{ltb}
 use Rattle.model.specs.Bytes.{Bytes}
-use Rattle.model.specs.Lines.{Line, readLines, linesOf}
+use Rattle.model.specs.Lines.{readLines, linesOf}
 use Rattle.model.specs.Refusal.{Outcome, accepted, refused}
 use Rattle.model.specs.Book.{Book}
 use Rattle.model.specs.Rules.{Rules}
 use Rattle.model.specs.ReadRules.{rulesStep}
-use Rattle.model.specs.Answers.{partOf, refusalOf}
+use Rattle.model.specs.Answers.{refusalOf}
 use Rattle.tables.specs.declared.BookCounts.{BookCounts}
 use Rattle.tables.specs.Fits.{Fits as BookFits}
 use Rattle.ranks.specs.declared.RulesCounts.{RulesCounts}
@@ -23,10 +22,6 @@ use Rattle.rules.specs.Stored.{LineAt}
 -- the rules of no lines
 abbrev pub noRules : Rules
 noRules = record { categories = []; policies = [] }
-
--- the line of a text from its start to its line feed, or to the end of the text
-unfoldable pub lineAt : Bytes → ℕ → ℕ → Line
-lineAt text from to = record { bytes = partOf text from (to - from); ended = ltb to (length text) }
 
 -- what the form of a line asks, the line beginning at the place base
 pub record FormAsked (book : Bytes) (words : List ℕ) (counts : BookCounts) (text : Bytes) (rules : List ℕ) (c : RulesCounts) (s : Bytes) (base : ℕ) : Type 0 where

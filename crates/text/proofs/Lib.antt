@@ -5,3 +5,4 @@ pub mod NumberLaws
 pub mod QuoteLaws
 pub mod CompareLaws
 pub mod LineLaws
+pub mod LineReads

@@ -1,12 +1,13 @@
 -- Refusals 1 and 2 of a text, and the bytes of a line.
-use Prim.Native.Nat.{ℕ}
+use Prim.Native.Nat.{ℕ, _-_}
 use mathlib.Core.Bool.{Bool, not}
 use lib.ListN.{length}
 use lib.Dec.{ltb, eqb}
 use Rattle.model.specs.Bytes.{Bytes}
 use Rattle.model.specs.Choice.{pick, Maybe, nothing, just}
 use Rattle.model.specs.Refusal.{Outcome, refusal}
-use Rattle.model.specs.Lines.{isAllowed, badLine}
+use Rattle.model.specs.Lines.{isAllowed, badLine, Line}
+use Rattle.model.specs.Answers.{partOf}
 use Rattle.text.specs.Places.{isOther}
 use Rattle.text.specs.declared.BytesRead.{BytesRead}
 use Rattle.text.specs.declared.BytesRead.the-variants.{Allowed, TooLong, BadLine}
@@ -37,3 +38,7 @@ unfoldable pub onBytes : {A : Type 0} → BytesRead → ℕ → (ℕ → ℕ) �
 onBytes Allowed t line o = o
 onBytes TooLong t line o = refusal 1 t 0
 onBytes (BadLine l) t line o = refusal 2 t (line l)
+
+-- the line of a text from its start to its line feed, or to the end of the text
+unfoldable pub lineAt : Bytes → ℕ → ℕ → Line
+lineAt text from to = record { bytes = partOf text from (to - from); ended = ltb to (length text) }

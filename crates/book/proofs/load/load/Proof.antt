@@ -1,5 +1,5 @@
-use Rattle.book.proofs.WholeLaws.{loaded-as}
-use Rattle.book.proofs.WholeLaws.{book-too-long, book-bad-line, book-of-lines, book-short, book-bad-small}
+use Rattle.text.proofs.LineReads.{text-too-long, text-bad-line, text-allowed, text-short, bad-small}
+use Rattle.model.specs.ReadBook.{readBook}
 use Rattle.book.proofs.LoadLaws.{filled-ones}
 use Rattle.book.specs.Loaded.{Loaded}
 use Rattle.model.specs.Answers.{refusalOf}
@@ -34,8 +34,8 @@ same-length c = search needs
 
 -- src/load.rt:40:13
 returns : tie.Need-returns
-unfolding refusal refusalOf
-returns c = (book-too-long (c .before .before .before .before .before .before .before .before .before .args .text .now) _ (c .before .before .before .before .before .before .bytes-read .ensures) (c .before .before .before .before .enum-told .given .1), filled-ones _ _ (c .before .before .fill .ensures))
+unfolding refusal refusalOf readBook
+returns c = (text-too-long 65536 (c .before .before .before .before .before .before .before .before .before .args .text .now) _ (c .before .before .before .before .before .before .bytes-read .ensures) 1 (λ l. l) _ (c .before .before .before .before .enum-told .given .1), filled-ones _ _ (c .before .before .fill .ensures))
 
 -- src/load.rt:46:28
 enum-known-line : tie.Need-enum-known-line
@@ -47,7 +47,7 @@ fill-requires-2 c κs = search needs
 
 -- src/load.rt:51:23
 cast-t12 : tie.Need-cast-t12
-cast-t12 c = omega (arith, book-bad-small (c .before .before .before .before .before .before .before .before .before .before .args .text .now) _ (c .before .before .before .before .before .before .before .bytes-read .ensures) _ (c .before .before .before .before .before .line .given .1))
+cast-t12 c = omega (arith, bad-small 65536 (c .before .before .before .before .before .before .before .before .before .before .args .text .now) _ (c .before .before .before .before .before .before .before .bytes-read .ensures) _ (c .before .before .before .before .before .line .given .1))
 
 -- src/load.rt:48:13
 same-length-2 : tie.Need-same-length-2
@@ -55,8 +55,8 @@ same-length-2 c = search needs
 
 -- src/load.rt:48:13
 returns-2 : tie.Need-returns-2
-unfolding refusal refusalOf
-returns-2 c = (book-bad-line (c .before .before .before .before .before .before .before .before .before .before .args .text .now) _ (c .before .before .before .before .before .before .before .bytes-read .ensures) _ (c .before .before .before .before .before .line .given .1), filled-ones _ _ (c .before .before .fill2 .ensures))
+unfolding refusal refusalOf readBook
+returns-2 c = (text-bad-line 65536 (c .before .before .before .before .before .before .before .before .before .before .args .text .now) _ (c .before .before .before .before .before .before .before .bytes-read .ensures) 1 (λ l. l) _ _ (c .before .before .before .before .before .line .given .1), filled-ones _ _ (c .before .before .fill2 .ensures))
 
 -- src/load.rt:55:37
 enum-told-2 : tie.Need-enum-told-2
@@ -64,7 +64,7 @@ enum-told-2 c = search needs
 
 -- src/load.rt:55:13
 load-lines-requires : tie.Need-load-lines-requires
-load-lines-requires c κs = (book-short (c .before .before .before .before .before .before .args .text .now) _ (c .before .before .before .bytes-read .ensures) (c .before .enum-told2 .given .1), c .before .before .before .before .before .before .pre)
+load-lines-requires c κs = (text-short 65536 (c .before .before .before .before .before .before .args .text .now) _ (c .before .before .before .bytes-read .ensures) (c .before .enum-told2 .given .1), c .before .before .before .before .before .before .pre)
 
 -- src/load.rt:55:13
 same-length-3 : tie.Need-same-length-3
@@ -72,7 +72,8 @@ same-length-3 c = search needs
 
 -- src/load.rt:55:13
 returns-3 : tie.Need-returns-3
-returns-3 c = rw (book-of-lines (c .before .before .before .before .before .before .before .before .before .args .text .now) _ (c .before .before .before .before .before .before .bytes-read .ensures) (c .before .before .before .before .enum-told2 .given .1)) (c .before .before .load-lines .ensures)
+unfolding readBook
+returns-3 c = rw (text-allowed 65536 (c .before .before .before .before .before .before .before .before .before .args .text .now) _ (c .before .before .before .before .before .before .bytes-read .ensures) 1 (λ l. l) _ (c .before .before .before .before .enum-told2 .given .1)) (c .before .before .load-lines .ensures)
 
 pub load-spec : {M : Type 1} → statement M
 load-spec =

@@ -1,7 +1,7 @@
 use Rattle.model.specs.Answers.{refusalOf}
 use Rattle.model.specs.Refusal.{refusal}
-use Rattle.book.proofs.LoadLaws.{empty-is, empty-fits, line-forward, line-inside, lines-fault, lines-known, lines-over, step-refuses, step-adds, filled-ones}
-use Rattle.book.specs.Loaded.{lineAt}
+use Rattle.book.proofs.LoadLaws.{empty-is, empty-fits, step-refuses, step-adds, filled-ones}
+use Rattle.text.proofs.LineReads.{line-forward, line-inside, lines-fault, lines-known, lines-over}
 use Rattle.tables.specs.Fits.{Fits}
 use Rattle.tables.specs.View.{bookAt}
 use Rattle.model.specs.ReadBook.{bookStep}
@@ -58,7 +58,7 @@ same-length c = search needs
 -- src/load.rt:73:17
 returns : tie.Need-returns Inv-loop μ-loop
 unfolding refusal refusalOf
-returns c = (sym (c .before .before .before .before .before .before .before .before .before .before .before .before .before .loop .inv .4) ∙ lines-fault (c .before .before .before .before .before .before .before .before .before .before .before .before .before .before .before .before .before .args .text .now) (c .before .before .before .before .before .before .before .before .before .before .before .before .before .loop .at) _ (c .before .before .before .before .before .before .before .before .before .before .before .line-end .ensures) (c .before .before .before .before .before .before .before .before .before .before .before .before .loop-test .taken) (c .before .before .before .before .before .before .before .before .before .before .before .before .before .loop .line) _ _ (step-refuses (c .before .before .before .before .before .before .before .before .before .before .before .before .before .before .before .before .before .args .text .now) _ _ _ _ (c .before .before .before .before .before .number .given .1) (c .before .before .before .before .before .before .before .before .before .line-step .ensures)), filled-ones _ _ (c .before .before .fill .ensures))
+returns c = (sym (c .before .before .before .before .before .before .before .before .before .before .before .before .before .loop .inv .4) ∙ lines-fault (c .before .before .before .before .before .before .before .before .before .before .before .before .before .before .before .before .before .args .text .now) (c .before .before .before .before .before .before .before .before .before .before .before .before .before .loop .at) _ (c .before .before .before .before .before .before .before .before .before .before .before .line-end .ensures) (c .before .before .before .before .before .before .before .before .before .before .before .before .loop-test .taken) 1 bookStep (c .before .before .before .before .before .before .before .before .before .before .before .before .before .loop .line) _ _ (step-refuses (c .before .before .before .before .before .before .before .before .before .before .before .before .before .before .before .before .before .args .text .now) _ _ _ _ (c .before .before .before .before .before .number .given .1) (c .before .before .before .before .before .before .before .before .before .line-step .ensures)), filled-ones _ _ (c .before .before .fill .ensures))
 
 -- src/load.rt:79:29
 enum-known-more : tie.Need-enum-known-more Inv-loop μ-loop
@@ -79,7 +79,7 @@ loop-less c = omega (arith, line-forward (c .before .before .before .before .bef
 -- src/load.rt:68:5
 loop-again : tie.Need-loop-again Inv-loop μ-loop
 loop-again c = let s = step-adds (c .before .before .before .before .before .before .before .before .before .before .before .before .before .args .text .now) _ _ _ _ (c .before .more .given .1) (c .before .before .before .before .before .line-step .ensures) in
-    (search needs, s .1, omega (arith, line-inside (c .before .before .before .before .before .before .before .before .before .before .before .before .before .args .text .now) (c .before .before .before .before .before .before .before .before .before .loop .at) _ (c .before .before .before .before .before .before .before .line-end .ensures) (c .before .before .before .before .before .before .before .before .loop-test .taken)), omega (arith, c .before .before .before .before .before .before .before .before .before .loop .inv .3, line-forward (c .before .before .before .before .before .before .before .before .before .before .before .before .before .args .text .now) (c .before .before .before .before .before .before .before .before .before .loop .at) _ (c .before .before .before .before .before .before .before .line-end .ensures) (c .before .before .before .before .before .before .before .before .loop-test .taken)), sym (lines-known (c .before .before .before .before .before .before .before .before .before .before .before .before .before .args .text .now) (c .before .before .before .before .before .before .before .before .before .loop .at) _ (c .before .before .before .before .before .before .before .line-end .ensures) (c .before .before .before .before .before .before .before .before .loop-test .taken) (c .before .before .before .before .before .before .before .before .before .loop .line) _ _ (s .0)) ∙ c .before .before .before .before .before .before .before .before .before .loop .inv .4)
+    (search needs, s .1, omega (arith, line-inside (c .before .before .before .before .before .before .before .before .before .before .before .before .before .args .text .now) (c .before .before .before .before .before .before .before .before .before .loop .at) _ (c .before .before .before .before .before .before .before .line-end .ensures) (c .before .before .before .before .before .before .before .before .loop-test .taken)), omega (arith, c .before .before .before .before .before .before .before .before .before .loop .inv .3, line-forward (c .before .before .before .before .before .before .before .before .before .before .before .before .before .args .text .now) (c .before .before .before .before .before .before .before .before .before .loop .at) _ (c .before .before .before .before .before .before .before .line-end .ensures) (c .before .before .before .before .before .before .before .before .loop-test .taken)), sym (lines-known (c .before .before .before .before .before .before .before .before .before .before .before .before .before .args .text .now) (c .before .before .before .before .before .before .before .before .before .loop .at) _ (c .before .before .before .before .before .before .before .line-end .ensures) (c .before .before .before .before .before .before .before .before .loop-test .taken) 1 bookStep (c .before .before .before .before .before .before .before .before .before .loop .line) _ _ (s .0)) ∙ c .before .before .before .before .before .before .before .before .before .loop .inv .4)
 
 -- src/load.rt:61:1
 same-length-2 : tie.Need-same-length-2 Inv-loop μ-loop
@@ -87,7 +87,7 @@ same-length-2 c = search needs
 
 -- src/load.rt:61:1
 returns-2 : tie.Need-returns-2 Inv-loop μ-loop
-returns-2 c = (sym (c .before .loop .inv .4) ∙ lines-over (c .before .before .before .before .before .args .text .now) (c .before .loop .at) (c .before .loop .line) _ (c .loop-test .left), c .before .loop .inv .1)
+returns-2 c = (sym (c .before .loop .inv .4) ∙ lines-over (c .before .before .before .before .before .args .text .now) (c .before .loop .at) 1 bookStep (c .before .loop .line) _ (c .loop-test .left), c .before .loop .inv .1)
 
 pub load-lines-spec : {M : Type 1} → statement M
 load-lines-spec =

@@ -1,5 +1,6 @@
 -- `pattern_of` meets its contract. Assumes nothing.
 use mathlib.Core.Path.{_≡_, sym, _∙_}
+use native.Mathlib.Omega.{arith}
 use lib.ListN.{length, length-map}
 use Rattle.query.proofs.PatternLaws.{vertices-asked, edges-asked, clauses-asked, returns-asked, pattern-read}
 use Rattle.query.proofs.pattern.pattern_of.Statement.{statement}
@@ -8,7 +9,7 @@ use Rattle.query.proofs.pattern.pattern_of.Tie as tie
 vertices-of-requires : tie.Need-vertices-of-requires
 vertices-of-requires c κs =
     let a = c .before .before .before .args in
-    vertices-asked (a .book .now) (a .words .now) (a .counts) (a .s .now) (c .before .before .before .pre)
+    omega (arith, vertices-asked (a .book .now) (a .words .now) (a .counts) (a .s .now) (c .before .before .before .pre))
 
 edges-of-requires : tie.Need-edges-of-requires
 edges-of-requires c κs =

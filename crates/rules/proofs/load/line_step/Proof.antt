@@ -1,4 +1,5 @@
 -- `rules::load::line_step` meets its contract. Assumes nothing.
+use native.Mathlib.Omega.{arith}
 use borrow.Author.Needs.{needs}
 use Rattle.model.specs.Answers.{partOf}
 use Rattle.rules.proofs.LoadLaws.{line-open, line-closed, line-asked}
@@ -6,7 +7,7 @@ use Rattle.rules.proofs.load.line_step.Statement.{statement}
 use Rattle.rules.proofs.load.line_step.Tie as tie
 
 returns : tie.Need-returns
-returns c = line-open (c .before .before .before .before .before .args .text .now) (c .before .before .before .before .before .args .from) (c .before .before .before .before .before .args .to) _ _ (c .if1 .taken)
+returns c = line-open (c .before .before .before .before .before .args .text .now) (c .before .before .before .before .before .args .from) (c .before .before .before .before .before .args .to) _ _ (omega (arith, c .if1 .taken))
 
 sub-form-step : tie.Need-sub-form-step
 sub-form-step c = search needs
@@ -25,7 +26,7 @@ same-length c = search needs
 
 returns-2 : tie.Need-returns-2
 unfolding partOf
-returns-2 c = rw (line-closed (c .before .before .before .before .before .before .before .before .before .before .args .text .now) (c .before .before .before .before .before .before .before .before .before .before .args .from) (c .before .before .before .before .before .before .before .before .before .before .args .to) _ _ (c .before .before .before .before .before .if1 .left)) (c .before .before .form-step .ensures)
+returns-2 c = rw (line-closed (c .before .before .before .before .before .before .before .before .before .before .args .text .now) (c .before .before .before .before .before .before .before .before .before .before .args .from) (c .before .before .before .before .before .before .before .before .before .before .args .to) _ _ (omega (arith, c .before .before .before .before .before .if1 .left))) (c .before .before .form-step .ensures)
 
 pub line-step-spec : {M : Type 1} → statement M
 line-step-spec =

@@ -4,7 +4,7 @@ use borrow.Author.Needs.{needs}
 use Rattle.model.specs.Answers.{refusalOf}
 use Rattle.model.specs.ReadRules.{readRules}
 use Rattle.model.specs.Refusal.{refusal}
-use Rattle.rules.proofs.LineReads.{text-too-long, text-bad-line, text-allowed, text-short, bad-small}
+use Rattle.text.proofs.LineReads.{text-too-long, text-bad-line, text-allowed, text-short, bad-small}
 use Rattle.rules.proofs.load.load.Statement.{statement}
 use Rattle.rules.proofs.load.load.Tie as tie
 

@@ -7,7 +7,7 @@ use Rattle.model.specs.Answers.{refusalOf}
 use Rattle.model.specs.Refusal.{refusal}
 use Rattle.tables.specs.View.{bookAt}
 use Rattle.rules.specs.Loaded.{Reading}
-use Rattle.rules.proofs.LineReads.{line-forward, line-inside}
+use Rattle.text.proofs.LineReads.{line-forward, line-inside}
 use Rattle.rules.proofs.LoadLaws.{reading-start, reading-fault, reading-on, reading-done}
 use Rattle.rules.proofs.load.load_lines.Statement.{statement}
 use Rattle.rules.proofs.load.load_lines.Tie as tie

@@ -1,32 +1,32 @@
 -- Reading a text: refusals 1 and 2 first, then line by line, the first line's step and then the rest.
 use Prim.Native.Nat.{ℕ, _+_, _≤_, _<_}
 use mathlib.Core.Path.{_≡_, refl, sym, ap, _∙_}
+use mathlib.Core.Logic.{⊎-elim}
 use mathlib.Core.List.{List, [], _∷_}
 use mathlib.Core.Bool.{Bool, true, false}
 use native.Mathlib.Omega.{arith}
 use lib.ListN.{length, drop}
 use lib.Dec.{ltb}
 use borrow.Author.Tests.{lt-ltb, le-ltb, ltb-false}
-use Rattle.facts.specs.Tests.{either, below-or-not}
 use Rattle.model.specs.Bytes.{Bytes}
 use Rattle.model.specs.Choice.{pick, Maybe, nothing, just}
 use Rattle.model.specs.Refusal.{Outcome, accepted, refusal}
 use Rattle.model.specs.Lines.{Line, Step, fault, known, stepThen, badLine, readLines, linesOf, bytesFirst}
 use Rattle.text.specs.declared.BytesRead.{BytesRead}
 use Rattle.text.specs.declared.BytesRead.the-variants.{Allowed, TooLong, BadLine}
 use Rattle.text.specs.Places.{past}
-use Rattle.text.specs.Lines.{isInLine, onLine, bytesOf, onBytes}
-use Rattle.text.proofs.PlaceLaws.{past-on, past-within}
+use Rattle.text.specs.Lines.{isInLine, onLine, bytesOf, onBytes, lineAt}
+use Rattle.text.proofs.PlaceLaws.{below-or-not, past-on, past-within}
 use Rattle.text.proofs.LineLaws.{lines-none, lines-ended, lines-last, bytes-first, bad-line-small}
-use Rattle.rules.specs.Loaded.{lineAt}
 
 module _ (text : Bytes) (at to : ℕ) (e : to ≡ past isInLine text at) (l : at < length text) where
   -- the first line from a place on
   pub first-line : linesOf (drop at text) ≡ lineAt text at to ∷ linesOf (drop (to + 1) text)
   unfolding lineAt
-  first-line = either (below-or-not to (length text))
+  first-line = ⊎-elim
       (λ m. rw (lt-ltb to (length text) m) (lines-ended text at to e m))
       (λ m. rw (le-ltb to (length text) m, lines-none text (to + 1) (omega arith)) (lines-last text at to e l m))
+      (below-or-not to (length text))
 
   pub line-forward : at ≤ to
   line-forward = omega (arith, e, past-on isInLine text at)
