@@ -1,0 +1,4 @@
+pub mod ToldLaws
+pub mod AnswerLaws
+pub mod CountLaws
+pub mod RequestLaws

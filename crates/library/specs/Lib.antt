@@ -1,0 +1,2 @@
+-- What the exported services' contracts speak of.
+pub mod Told

@@ -1,0 +1,39 @@
+// The query reader and writer on many texts: book.txt, rules.txt, and queries.txt with a query on each line. Prints each query, and what the writer writes for it or the refusal.
+use libc::STDOUT_FILENO;
+
+const BOOK_BYTES: usize = 4096;
+
+const RULES_BYTES: usize = 4096;
+
+const QUERIES_BYTES: usize = 65536;
+
+fn main() {
+    let mut book = [0u8; BOOK_BYTES];
+    let mut rules = [0u8; RULES_BYTES];
+    let mut queries = [0u8; QUERIES_BYTES];
+    let book_length = showing::read_text(b"book.txt", &mut book);
+    let rules_length = showing::read_text(b"rules.txt", &mut rules);
+    let queries_length = showing::read_text(b"queries.txt", &mut queries);
+    print_queries(
+        &book[..book_length],
+        &rules[..rules_length],
+        &queries[..queries_length],
+    );
+}
+
+// Prints the queries, one after another.
+fn print_queries(book: &[u8], rules: &[u8], queries: &[u8]) {
+    let mut at = 0;
+    while at < queries.len() {
+        let to = text::lines::line_end(queries, at);
+        print_query(book, rules, &queries[at..to]);
+        at = to + 1;
+    }
+}
+
+// Prints a query, and what is written for it.
+fn print_query(book: &[u8], rules: &[u8], query: &[u8]) {
+    io::write_all(STDOUT_FILENO, query);
+    io::write_all(STDOUT_FILENO, b"\n  ");
+    showing::readers::print_written(book, rules, query);
+}

@@ -1,0 +1,135 @@
+-- Demand 3, from the contract of `list` alone: the row words hold every row that may be had, each once, ascending, and no other row, then all ones;
+-- the answer is their number; and 14 is answered exactly if they do not fit and every other premise holds.
+use Prim.Native.Nat.{ℕ, _-_, _*_, _<_, _≤_}
+use mathlib.Core.Path.{_≡_, refl, sym, ap, ap₂, subst, _∙_}
+use mathlib.Core.Logic.{_↔_, ⊎-elim}
+use mathlib.Core.List.{List, [], _∷_, _++_}
+use native.Mathlib.Omega.{arith}
+use lib.ListN.{length}
+use lib.Dec.{ltb}
+use borrow.Author.Tests.{lt-ltb, le-ltb}
+use Rattle.model.specs.Bytes.{Bytes, bytesOf}
+use Rattle.model.specs.Choice.{pick}
+use Rattle.model.specs.Lists.{joined}
+use Rattle.model.specs.Refusal.{Outcome, accepted, refused, refusal, onAccept}
+use Rattle.model.specs.Book.{Book}
+use Rattle.model.specs.QueryText.{QueryText}
+use Rattle.model.specs.Rules.{Rules}
+use Rattle.model.specs.Request.{Request}
+use Rattle.model.specs.Service.{ones, rowWords, listRows, listService}
+use Rattle.model.specs.Answers.{listAnswer}
+use Rattle.model.specs.Computing.{computing}
+use Rattle.model.specs.declared.RowsListed.{RowsListed}
+use Rattle.model.proofs.Faults.{returned, need-refused}
+use Rattle.model.proofs.Outcomes.{never, accept-e}
+use Rattle.model.proofs.Refusals.{rowsFor, list-given}
+use Rattle.model.proofs.ListRefusals.{list-14}
+use Rattle.model.proofs.Example as example
+use Rattle.service.proofs.PremiseLaws.{Premises, HadRows, premises-of, had-rows, only-list, rows-given}
+
+-- what the contract of `list` says of a call: rows and work are the lent words before it, rows′ and work′ after it
+pub record Called (book rules query request : Bytes) (rows work rows′ work′ : List ℕ) (r : RowsListed) : Type 0 where
+  pub answer : listAnswer r ≡ listService (length work) (length rows) book rules query request .answer
+  pub rows-left : rows′ ≡ listService (length work) (length rows) book rules query request .rows
+  pub cleared : work′ ≡ ones (length work)
+
+-- the rows stand in the words, one after another, then all ones; the answer is their number
+pub record Listed (list : List (List ℕ)) (words : ℕ) (rows′ : List ℕ) (r : RowsListed) : Type 0 where
+  pub their-number : listAnswer r ≡ accepted (length list)
+  pub rows-then-ones : rows′ ≡ joined (λ row. row) list ++ ones (words - length (joined (λ row. row) list))
+
+-- 14, and every row word is all ones
+pub record DoNotFit (words : ℕ) (rows′ : List ℕ) (r : RowsListed) : Type 0 where
+  pub fourteen : listAnswer r ≡ refused (returned 14 5 0)
+  pub all-ones : rows′ ≡ ones words
+
+module _ (book rules query request : Bytes) (rows work rows′ work′ : List ℕ) (res : RowsListed) (call : Called book rules query request rows work rows′ work′ res) where
+  -- all premises hold, and list is the list of the rows that may be had
+  pub record RowsDue (list : List (List ℕ)) : Type 0 where
+    pub b : Book
+    pub r : Rules
+    pub q : QueryText
+    pub x : Request
+    pub premises : Premises (length work) book rules query request b r q x
+    pub had : HadRows b r q x list
+
+  -- how many row words a list asks for
+  abbrev pub needed : (list : List (List ℕ)) → RowsDue list → ℕ
+  needed list a = length list * length (a .q .returns)
+
+  abbrev found : Outcome (List (List ℕ))
+  found = listRows (length work) (length rows) book rules query request
+
+  -- where the premises hold there is such a list
+  pub rows-that-may-be-had : (b : Book) (r : Rules) (q : QueryText) (x : Request) → Premises (length work) book rules query request b r q x → (list : List (List ℕ)) × HadRows b r q x list
+  rows-that-may-be-had b r q x h = (rowsFor b r q x, had-rows (length work) book rules query request b r q x h)
+
+  given : (list : List (List ℕ)) (a : RowsDue list) → found ≡ pick (ltb (length rows) (needed list a)) (refusal 14 5 0) (accepted list)
+  given list a =
+      let e = only-list (length work) book rules query request (a .b) (a .r) (a .q) (a .x) (a .premises) list (a .had) in
+      rows-given (length work) book rules query request (a .b) (a .r) (a .q) (a .x) (a .premises) (length rows)
+      ∙ ap (λ (l : List (List ℕ)). pick (ltb (length rows) (length l * length (a .q .returns))) (refusal 14 5 0) (accepted l)) (sym e)
+
+  -- the theorem: the rows that may be had are listed if they fit, and 14 is answered if they do not
+  pub listed-if-they-fit : (list : List (List ℕ)) (a : RowsDue list) → needed list a ≤ length rows → Listed list (length rows) rows′ res
+  unfolding listService onAccept rowWords
+  listed-if-they-fit list a l =
+      let e : found ≡ accepted list = given list a ∙ rw (le-ltb (length rows) (needed list a) l) in
+      record { their-number = call .answer ∙ rw e; rows-then-ones = call .rows-left ∙ rw e }
+
+  pub fourteen-if-they-do-not : (list : List (List ℕ)) (a : RowsDue list) → length rows < needed list a → DoNotFit (length rows) rows′ res
+  unfolding listService onAccept rowWords refusal
+  fourteen-if-they-do-not list a l =
+      let e : found ≡ refused (returned 14 5 0) = given list a ∙ rw (lt-ltb (length rows) (needed list a) l) in
+      record { fourteen = call .answer ∙ rw e; all-ones = call .rows-left ∙ rw e }
+
+  -- 14 exactly if they do not fit and every other premise holds
+  pub fourteen-exactly : (listAnswer res ≡ refused (returned 14 5 0)) ↔ ((list : List (List ℕ)) × (a : RowsDue list) × (length rows < needed list a))
+  unfolding listService
+  fourteen-exactly = (
+    λ e. let n = need-refused found (λ rows. accepted (length rows)) (returned 14 5 0) .0 (sym (call .answer) ∙ e) in
+        let f : found ≡ refused (returned 14 5 0) = ⊎-elim (λ d. d) (λ u. never (returned 14 5 0) (length (u .0)) (sym (u .2))) n in
+        let (b, r, q, x, read, u) = list-14 (length work) (length rows) book rules query request .0 f in
+        let h = premises-of (length work) book rules query request b r q x read (u .0) in
+        (rowsFor b r q x, record { b = b; r = r; q = q; x = x; premises = h; had = had-rows (length work) book rules query request b r q x h }, u .1),
+    λ (list, a, l). fourteen-if-they-do-not list a l .fourteen,
+  )
+
+  -- a number exactly if they fit and every premise holds, and it is the number of rows that may be had
+  pub counted-exactly : (n : ℕ) → (listAnswer res ≡ accepted n) ↔ ((list : List (List ℕ)) × (a : RowsDue list) × (needed list a ≤ length rows) × (length list ≡ n))
+  unfolding listService
+  counted-exactly n = (
+    λ e. let (list, f, m) = accept-e found (λ rows. accepted (length rows)) n (sym (call .answer) ∙ e) in
+        let g = list-given (length work) (length rows) book rules query request list f in
+        let h = premises-of (length work) book rules query request (g .b) (g .r) (g .q) (g .x) (g .read) (g .woven) in
+        let a : RowsDue list = record {
+          b = g .b;
+          r = g .r;
+          q = g .q;
+          x = g .x;
+          premises = h;
+          had = subst (λ (l : List (List ℕ)). HadRows (g .b) (g .r) (g .q) (g .x) l) (sym (g .rows-are)) (had-rows (length work) book rules query request (g .b) (g .r) (g .q) (g .x) h);
+        } in
+        let same : length list ≡ n = cc in
+        (list, a, g .fits, same),
+    λ (list, a, l, m). listed-if-they-fit list a l .their-number ∙ ap accepted m,
+  )
+
+-- Not vacuous: the paper's texts meet the premises,
+premises-example : Premises 16384 (bytesOf example.book) (bytesOf example.rules) (bytesOf example.query) (bytesOf example.request) example.theBook example.theRules example.theQuery example.theRequest
+unfolding computing
+premises-example = premises-of 16384 (bytesOf example.book) (bytesOf example.rules) (bytesOf example.query) (bytesOf example.request) example.theBook example.theRules example.theQuery example.theRequest
+    (record {
+      rules-before = record { book-before = record { memory-whole = omega arith; book-read = example.book-read }; rules-read = example.rules-read };
+      query-read = example.query-read;
+      request-read = example.request-read;
+    }) refl
+
+-- and a call on them, with two row words lent, answers one row: that of S5, then all ones
+row-example : (rows work rows′ work′ : List ℕ) (res : RowsListed) → length rows ≡ 2 → length work ≡ 16384
+    → Called (bytesOf example.book) (bytesOf example.rules) (bytesOf example.query) (bytesOf example.request) rows work rows′ work′ res → (listAnswer res ≡ accepted 1) × (rows′ ≡ 2 ∷ 4294967295 ∷ [])
+unfolding computing
+row-example rows work rows′ work′ res m n call = (
+  call .answer ∙ ap₂ (λ (i j : ℕ). listService i j (bytesOf example.book) (bytesOf example.rules) (bytesOf example.query) (bytesOf example.request) .answer) n m,
+  call .rows-left ∙ ap₂ (λ (i j : ℕ). listService i j (bytesOf example.book) (bytesOf example.rules) (bytesOf example.query) (bytesOf example.request) .rows) n m,
+)

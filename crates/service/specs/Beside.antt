@@ -1,0 +1,47 @@
+-- The answers of the readers of queries and requests, with what stands beside a refusal: an empty pattern, no category and no identities.
+use mathlib.Core.Path.{_≡_}
+use Rattle.model.specs.Bytes.{Bytes}
+use Rattle.model.specs.Refusal.{Outcome}
+use Rattle.model.specs.Book.{Book}
+use Rattle.model.specs.Pattern.{Pattern}
+use Rattle.model.specs.Service.{RequestAnswer}
+use Rattle.model.specs.Answers.{queryAnswer, requestAnswer}
+use Rattle.model.specs.declared.Refusal.{Refusal}
+use Rattle.model.specs.declared.Verdict.{Verdict}
+use Rattle.model.specs.declared.Verdict.the-variants.{Accepted, Refused}
+use Rattle.model.specs.declared.QueryRead.{QueryRead}
+use Rattle.model.specs.declared.RequestRead.{RequestRead}
+use Rattle.query.specs.QueryReads.{noPattern}
+use Rattle.request.specs.Stored.{noIdentities}
+
+-- the whole answer that is a refusal
+abbrev pub refusedQuery : Refusal → QueryRead
+refusedQuery x = record { verdict = Refused x; pattern = noPattern }
+
+abbrev pub refusedRequest : Refusal → RequestRead
+refusedRequest x = record { verdict = Refused x; category = 0; identities = noIdentities; count = 0 }
+
+-- an answer that is a refusal is that one
+abbrev pub QueryBy : QueryRead → Verdict → Type 0
+QueryBy r Accepted = Unit {0}
+QueryBy r (Refused x) = r ≡ refusedQuery x
+
+abbrev pub RequestBy : RequestRead → Verdict → Type 0
+RequestBy r Accepted = Unit {0}
+RequestBy r (Refused x) = r ≡ refusedRequest x
+
+abbrev pub EmptyBeside : QueryRead → Type 0
+EmptyBeside r = QueryBy r (r .verdict)
+
+abbrev pub NoneBeside : RequestRead → Type 0
+NoneBeside r = RequestBy r (r .verdict)
+
+-- a query's answer says an outcome
+pub record QuerySays (o : Outcome Pattern) (b : Book) (s : Bytes) (r : QueryRead) : Type 0 where
+  pub answer : queryAnswer b s r ≡ o
+  pub beside : EmptyBeside r
+
+-- a request's answer says an outcome
+pub record RequestSays (o : Outcome RequestAnswer) (s : Bytes) (r : RequestRead) : Type 0 where
+  pub answer : requestAnswer s r ≡ o
+  pub beside : NoneBeside r

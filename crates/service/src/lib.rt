@@ -1,0 +1,130 @@
+// The services: each takes its texts and the lent buffers, and answers or refuses. That of the book alone stands in the crate `book`.
+ghost use mathlib.Core.Path.{_≡_};
+ghost use lib.ListN.{length};
+ghost use Rattle.model.specs.ReadBook.{readBook};
+ghost use Rattle.model.specs.Service.{ones, rulesService, queryService, requestService, writerService, listService};
+ghost use Rattle.model.specs.Answers.{bookOf, rulesAnswer, queryAnswer, requestAnswer, writerAnswer, listAnswer};
+ghost use Rattle.service.specs.Beside.{EmptyBeside, NoneBeside};
+
+mod listing; // listing.rt: the rows that may be had, text by text
+mod query_reader; // query_reader.rt: a query behind its book
+mod query_writer; // query_writer.rt: a written query behind its texts
+mod request_reader; // request_reader.rt: a request behind its book and its rules
+mod rules_reader; // rules_reader.rt: rules behind their book
+
+use book::TOO_LITTLE;
+use book::WORK_WORDS;
+use model::QueryRead;
+use model::QueryWritten;
+use model::Refusal;
+use model::RequestRead;
+use model::RowsListed;
+use model::RulesRead;
+
+// Refusals in the paper's numbers: "rows times Return names exceed the row buffer's words", "written query longer than its buffer or than 2,048 bytes".
+pub const NO_ROOM: u32 = 14;
+
+// Reads rules and answers their counts of categories and policies, or a refusal. The working memory ends all ones.
+pub fn read_rules(book: &[u8], rules: &[u8], work: &mut [u32]) -> RulesRead
+    ensures answer { λ r. ⌜ rulesAnswer r ≡ rulesService (length (now (work .entry))) (now (book .entry)) (now (rules .entry)) .answer ⌝ }
+    ensures cleared { λ _. ⌜ now (work .exit) ≡ ones (length (now (work .entry))) ⌝ }
+{
+    if work.len() < WORK_WORDS {
+        words::fill(work, 0);
+        return RulesRead::Refused(Refusal {
+            number: TOO_LITTLE,
+            text: 0,
+            line: 0,
+        });
+    }
+    let read = rules_reader::from_texts(book, rules, work);
+    words::fill(work, 0);
+    read
+}
+
+// Reads a query and answers its pattern, or a refusal beside an empty one. The working memory ends all ones.
+pub fn read_query(book: &[u8], query: &[u8], work: &mut [u32]) -> QueryRead
+    ensures answer { λ r. ⌜ queryAnswer (bookOf (readBook (now (book .entry)))) (now (query .entry)) r ≡ queryService (length (now (work .entry))) (now (book .entry)) (now (query .entry)) .answer ⌝ }
+    ensures beside { λ r. ⌜ EmptyBeside r ⌝ }
+    ensures cleared { λ _. ⌜ now (work .exit) ≡ ones (length (now (work .entry))) ⌝ }
+{
+    if work.len() < WORK_WORDS {
+        words::fill(work, 0);
+        return query_reader::refused(Refusal {
+            number: TOO_LITTLE,
+            text: 0,
+            line: 0,
+        });
+    }
+    let read = query_reader::from_texts(book, query, work);
+    words::fill(work, 0);
+    read
+}
+
+// Reads a request and answers its category and its identities, or a refusal beside none. The working memory ends all ones.
+pub fn read_request(book: &[u8], rules: &[u8], request: &[u8], work: &mut [u32]) -> RequestRead
+    ensures answer { λ r. ⌜ requestAnswer (now (request .entry)) r ≡ requestService (length (now (work .entry))) (now (book .entry)) (now (rules .entry)) (now (request .entry)) .answer ⌝ }
+    ensures beside { λ r. ⌜ NoneBeside r ⌝ }
+    ensures cleared { λ _. ⌜ now (work .exit) ≡ ones (length (now (work .entry))) ⌝ }
+{
+    if work.len() < WORK_WORDS {
+        words::fill(work, 0);
+        return request_reader::refused(Refusal {
+            number: TOO_LITTLE,
+            text: 0,
+            line: 0,
+        });
+    }
+    let read = request_reader::from_texts(book, rules, request, work);
+    words::fill(work, 0);
+    read
+}
+
+// Writes a query in front of the text buffer and answers its length, or a refusal, which leaves the buffer as it is.
+// The working memory ends all ones.
+pub fn write_query(
+    book: &[u8],
+    rules: &[u8],
+    query: &[u8],
+    text: &mut [u8],
+    work: &mut [u32],
+) -> QueryWritten
+    ensures answer { λ r. ⌜ writerAnswer r ≡ writerService (length (now (work .entry))) (now (text .entry)) (now (book .entry)) (now (rules .entry)) (now (query .entry)) .answer ⌝ }
+    ensures text { λ _. ⌜ now (text .exit) ≡ writerService (length (now (work .entry))) (now (text .entry)) (now (book .entry)) (now (rules .entry)) (now (query .entry)) .text ⌝ }
+    ensures cleared { λ _. ⌜ now (work .exit) ≡ ones (length (now (work .entry))) ⌝ }
+{
+    if work.len() < WORK_WORDS {
+        words::fill(work, 0);
+        return QueryWritten::Refused(Refusal {
+            number: TOO_LITTLE,
+            text: 0,
+            line: 0,
+        });
+    }
+    let written = query_writer::from_texts(book, rules, query, text, work);
+    words::fill(work, 0);
+    written
+}
+
+// Lists the rows that may be had in the row words and answers their number, or a refusal.
+// The row words past the rows end all ones, and so does the working memory.
+pub fn list(
+    book: &[u8],
+    rules: &[u8],
+    query: &[u8],
+    request: &[u8],
+    rows: &mut [u32],
+    work: &mut [u32],
+) -> RowsListed
+    ensures answer { λ r. ⌜ listAnswer r ≡ listService (length (now (work .entry))) (length (now (rows .entry))) (now (book .entry)) (now (rules .entry)) (now (query .entry)) (now (request .entry)) .answer ⌝ }
+    ensures rows { λ _. ⌜ now (rows .exit) ≡ listService (length (now (work .entry))) (length (now (rows .entry))) (now (book .entry)) (now (rules .entry)) (now (query .entry)) (now (request .entry)) .rows ⌝ }
+    ensures cleared { λ _. ⌜ now (work .exit) ≡ ones (length (now (work .entry))) ⌝ }
+{
+    if work.len() < WORK_WORDS {
+        words::fill(work, 0);
+        return listing::refuse(TOO_LITTLE, 0, 0, rows);
+    }
+    let listed = listing::from_texts(book, rules, query, request, rows, work);
+    words::fill(work, 0);
+    listed
+}
