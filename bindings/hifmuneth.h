@@ -1,0 +1,104 @@
+/* Hifmuneth: the station list for C. The library is target/staticlib/liblibrary.a, made by `rt staticlib library`.
+ *
+ * Every function takes its texts as a pointer and a length in bytes, and its buffers as a pointer and a length in words or bytes. It
+ * returns true if it accepts; the numbers of a refusal are then 0. If it returns false, *number, *text and *line are the refusal, and
+ * every other number is 0. Whatever it answers, the working memory ends all ones. No function keeps a pointer, allocates memory or fails
+ * in any other way.
+ *
+ * What a caller owes: every pointer is valid, aligned, and not NULL (also where its length is 0); no two of the buffers and numbers
+ * that a call writes overlap, and none overlaps a text; no other thread uses them during the call. The deepest search was measured to
+ * need about 120 KB of stack.
+ */
+#ifndef HIFMUNETH_H
+#define HIFMUNETH_H
+
+#include <stdbool.h>
+#include <stddef.h>
+#include <stdint.h>
+
+#ifdef __cplusplus
+extern "C" {
+#endif
+
+/* Working memory, in words of 32 bits. With fewer words every function refuses with 15. */
+#define HIFMUNETH_WORK_WORDS 16384
+
+/* How much fits: bytes of the texts, and counts. */
+#define HIFMUNETH_BOOK_BYTES 65536
+#define HIFMUNETH_RULES_BYTES 16384
+#define HIFMUNETH_QUERY_BYTES 2048
+#define HIFMUNETH_REQUEST_BYTES 2048
+#define HIFMUNETH_NODES 256
+#define HIFMUNETH_RELATIONSHIPS 1024
+#define HIFMUNETH_ENTRIES 2048
+#define HIFMUNETH_CATEGORIES 16
+#define HIFMUNETH_IDENTITIES 8
+#define HIFMUNETH_RETURN_NAMES 4
+
+/* The texts of a refusal: *text is one of these, or 0 for refusal 15. */
+#define HIFMUNETH_BOOK 1
+#define HIFMUNETH_RULES 2
+#define HIFMUNETH_QUERY 3
+#define HIFMUNETH_REQUEST 4
+#define HIFMUNETH_WOVEN 5
+
+/* A row word past the rows: all ones, which is no node. */
+#define HIFMUNETH_NO_NODE UINT32_C(0xffffffff)
+
+/* Reads a book and tells how many nodes, relationships and attribute entries it has. */
+bool hifmuneth_read_book(const uint8_t *book, size_t book_length,
+                         uint32_t *work, size_t work_words,
+                         size_t *nodes, size_t *relationships, size_t *entries,
+                         uint32_t *number, uint32_t *text, uint32_t *line);
+
+/* Reads rules over a book and tells how many categories and policies they have. */
+bool hifmuneth_read_rules(const uint8_t *book, size_t book_length,
+                          const uint8_t *rules, size_t rules_length,
+                          uint32_t *work, size_t work_words,
+                          size_t *categories, size_t *policies,
+                          uint32_t *number, uint32_t *text, uint32_t *line);
+
+/* Reads a query over a book and tells how many vertices, edges, conditions and Return names its pattern has. The whole pattern can be
+ * had as a text, by hifmuneth_write_query. */
+bool hifmuneth_read_query(const uint8_t *book, size_t book_length,
+                          const uint8_t *query, size_t query_length,
+                          uint32_t *work, size_t work_words,
+                          size_t *vertices, size_t *edges, size_t *conditions, size_t *return_names,
+                          uint32_t *number, uint32_t *text, uint32_t *line);
+
+/* Reads a request over a book and rules and tells its category's number (from 0, in the order of the rules) and its identities, in the
+ * order of the request. Identity i has three numbers: identities[3 * i] is where its actor's name starts in the request,
+ * identities[3 * i + 1] that name's length, identities[3 * i + 2] the number of its node. What is past the count is 0. */
+bool hifmuneth_read_request(const uint8_t *book, size_t book_length,
+                            const uint8_t *rules, size_t rules_length,
+                            const uint8_t *request, size_t request_length,
+                            uint32_t *work, size_t work_words,
+                            size_t *category, size_t *count, size_t identities[3 * HIFMUNETH_IDENTITIES],
+                            uint32_t *number, uint32_t *text, uint32_t *line);
+
+/* Writes a query into the text buffer in the one form that reads back as the same pattern, and tells its length in bytes. Bytes past it
+ * are unchanged; a refusal changes none. */
+bool hifmuneth_write_query(const uint8_t *book, size_t book_length,
+                           const uint8_t *rules, size_t rules_length,
+                           const uint8_t *query, size_t query_length,
+                           uint8_t *out, size_t out_length,
+                           uint32_t *work, size_t work_words,
+                           size_t *length,
+                           uint32_t *number, uint32_t *text, uint32_t *line);
+
+/* Lists every row that may be had, each once, ascending, and tells how many. The rows stand in the row words from the first on, one after
+ * another, a word for each Return name: the number of its node. Row words past them are all ones; after a refusal all of them are. */
+bool hifmuneth_list(const uint8_t *book, size_t book_length,
+                    const uint8_t *rules, size_t rules_length,
+                    const uint8_t *query, size_t query_length,
+                    const uint8_t *request, size_t request_length,
+                    uint32_t *rows, size_t row_words,
+                    uint32_t *work, size_t work_words,
+                    size_t *count,
+                    uint32_t *number, uint32_t *text, uint32_t *line);
+
+#ifdef __cplusplus
+}
+#endif
+
+#endif

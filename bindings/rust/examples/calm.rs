@@ -1,0 +1,28 @@
+//! The worked example: which of ana's stations tilt by less than 50?
+const BOOK: &[u8] = b"(vattr kind str)
+(vattr rate int)
+(label runs)
+(label feeds)
+(node ana)
+(node hub (kind 'hub'))
+(node S5 (rate 40))
+(node S6)
+(rel runs ana hub)
+(rel feeds S5 hub)
+(rel feeds S6 hub)
+";
+const RULES: &[u8] = b"(category view (actors requestor) (over))
+(policy view \"Match (requestor)-[r:runs]->(h) Return h\")
+";
+const QUERY: &[u8] = b"Match (requestor)-[a:runs]->(h)<-[b:feeds]-(s) Where s.rate < 50 Return s";
+const REQUEST: &[u8] = b"(request view (id requestor ana))\n";
+
+fn main() -> Result<(), hifmuneth::Refusal> {
+    println!("{:?}", hifmuneth::read_book(BOOK)?);
+    println!("{:?}", hifmuneth::read_request(BOOK, RULES, REQUEST)?);
+    println!("{}", String::from_utf8_lossy(&hifmuneth::write_query(BOOK, RULES, QUERY)?));
+    for row in hifmuneth::list(BOOK, RULES, QUERY, REQUEST, 1024)? {
+        println!("{row:?}");
+    }
+    Ok(())
+}

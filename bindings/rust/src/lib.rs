@@ -1,0 +1,119 @@
+//! The proved station list for Rust.
+//!
+//! The functions of this module allocate what they need. Those of [`lent`] work in the caller's buffers and allocate nothing.
+//!
+//! ```text
+//! for row in hifmuneth::list(book, rules, query, request, 1024)? { .. }
+//! ```
+use std::{error, fmt, ops::Range};
+
+pub mod lent;
+pub mod raw;
+
+/// Working memory, in words of 32 bits. With fewer words every function refuses with 15.
+pub const WORK_WORDS: usize = 16_384;
+/// How many bytes fit: book, rules, query or policy, request.
+pub const BOOK_BYTES: usize = 65_536;
+pub const RULES_BYTES: usize = 16_384;
+pub const QUERY_BYTES: usize = 2_048;
+pub const REQUEST_BYTES: usize = 2_048;
+/// A row word past the rows: all ones, which is no node.
+pub const NO_NODE: u32 = u32::MAX;
+
+/// Why a service refuses: the number of the table, the text (1 book, 2 rules, 3 query, 4 request, 5 woven pattern), the line.
+#[derive(Clone, Copy, Debug, PartialEq, Eq)]
+pub struct Refusal {
+    pub number: u32,
+    pub text: u32,
+    pub line: u32,
+}
+
+impl fmt::Display for Refusal {
+    fn fmt(&self, f: &mut fmt::Formatter) -> fmt::Result {
+        write!(f, "(refused {} text {} line {})", self.number, self.text, self.line)
+    }
+}
+
+impl error::Error for Refusal {}
+
+/// What a book has.
+#[derive(Clone, Copy, Debug, PartialEq, Eq)]
+pub struct BookCounts {
+    pub nodes: usize,
+    pub relationships: usize,
+    pub entries: usize,
+}
+
+/// What rules have.
+#[derive(Clone, Copy, Debug, PartialEq, Eq)]
+pub struct RulesCounts {
+    pub categories: usize,
+    pub policies: usize,
+}
+
+/// What a query's pattern has.
+#[derive(Clone, Copy, Debug, PartialEq, Eq)]
+pub struct QueryCounts {
+    pub vertices: usize,
+    pub edges: usize,
+    pub conditions: usize,
+    pub return_names: usize,
+}
+
+/// An identity: where its actor's name stands in the request, and the number of its node.
+#[derive(Clone, Debug, PartialEq, Eq)]
+pub struct Identity {
+    pub actor: Range<usize>,
+    pub node: usize,
+}
+
+/// What a request gives: its category's number, from 0 in the order of the rules, and its identities in its own order.
+#[derive(Clone, Debug, PartialEq, Eq)]
+pub struct Request {
+    pub category: usize,
+    pub identities: Vec<Identity>,
+}
+
+fn work() -> Vec<u32> {
+    vec![0; WORK_WORDS]
+}
+
+/// Reads a book.
+pub fn read_book(book: &[u8]) -> Result<BookCounts, Refusal> {
+    lent::read_book(book, &mut work())
+}
+
+/// Reads rules over a book.
+pub fn read_rules(book: &[u8], rules: &[u8]) -> Result<RulesCounts, Refusal> {
+    lent::read_rules(book, rules, &mut work())
+}
+
+/// Reads a query over a book. [`write_query`] gives the whole pattern as a text.
+pub fn read_query(book: &[u8], query: &[u8]) -> Result<QueryCounts, Refusal> {
+    lent::read_query(book, query, &mut work())
+}
+
+/// Reads a request over a book and rules.
+pub fn read_request(book: &[u8], rules: &[u8], request: &[u8]) -> Result<Request, Refusal> {
+    let mut words = [0; lent::IDENTITY_WORDS];
+    let (category, count) = lent::read_request(book, rules, request, &mut words, &mut work())?;
+    let identities = words.chunks(3).take(count).map(|i| Identity { actor: i[0]..i[0] + i[1], node: i[2] }).collect();
+    Ok(Request { category, identities })
+}
+
+/// Writes a query in the one form that reads back as the same pattern.
+pub fn write_query(book: &[u8], rules: &[u8], query: &[u8]) -> Result<Vec<u8>, Refusal> {
+    let mut text = vec![0; QUERY_BYTES];
+    let length = lent::write_query(book, rules, query, &mut text, &mut work())?;
+    text.truncate(length);
+    Ok(text)
+}
+
+/// Lists every row that may be had, each once, ascending; a row has the node's number for each Return name. Refused with 14 if the rows do
+/// not fit so many words, a word for each node.
+pub fn list(book: &[u8], rules: &[u8], query: &[u8], request: &[u8], row_words: usize) -> Result<Vec<Vec<u32>>, Refusal> {
+    let (mut rows, mut work) = (vec![0; row_words], work());
+    let count = lent::list(book, rules, query, request, &mut rows, &mut work)?;
+    let width = lent::read_query(book, query, &mut work)?.return_names;
+    Ok(rows.chunks(width).take(count).map(|row| row.to_vec()).collect())
+}

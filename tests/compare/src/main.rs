@@ -1,0 +1,58 @@
+//! Compares the proved library with plain Rust.
+//!
+//! `compare [SEED] [COUNT]`: random cases. `compare vectors FOLDER`: the sets of a folder of vectors.
+mod cases;
+mod check;
+mod damage;
+mod limits;
+mod patterns;
+mod random;
+mod tally;
+mod vectors;
+mod world;
+
+use std::{env, panic, process, time::Instant};
+
+const CASES: u64 = 12_000;
+
+/// One case, from its own seed; a failure shows the texts.
+fn run(seed: u64, tally: &mut tally::Tally) -> bool {
+    let mut r = random::Random::new(seed.wrapping_mul(0x2545_f491_4f6c_dd1d));
+    let texts = cases::case(&mut r);
+    let done = panic::catch_unwind(panic::AssertUnwindSafe(|| {
+        let expected = check::expect(&texts);
+        let mut c = check::Check { texts: &texts, expected: &expected, random: &mut r };
+        c.readers();
+        c.writer();
+        c.list(tally);
+        tally.case(&expected);
+    }));
+    if done.is_err() {
+        println!("case {seed} differs:");
+        for (name, t) in [("book", &texts.book), ("rules", &texts.rules), ("query", &texts.query), ("request", &texts.request)] {
+            println!("--- {name}, {} bytes\n{}", t.len(), String::from_utf8_lossy(&t[..t.len().min(3000)]));
+        }
+    }
+    done.is_ok()
+}
+
+fn main() {
+    let args: Vec<String> = env::args().skip(1).collect();
+    if args.first().map(String::as_str) == Some("vectors") {
+        process::exit(!vectors::run(args.get(1).expect("a folder")) as i32);
+    }
+    let seed = args.first().map_or(1, |s| s.parse().expect("a seed"));
+    let count = args.get(1).map_or(CASES, |s| s.parse().expect("a count"));
+    let (start, mut tally) = (Instant::now(), tally::Tally::default());
+    for i in seed..seed + count {
+        let began = Instant::now();
+        if !run(i, &mut tally) {
+            process::exit(1);
+        }
+        if began.elapsed().as_millis() > 1000 {
+            println!("case {i} took {:?}", began.elapsed());
+        }
+    }
+    tally.print();
+    println!("all agree, from seed {seed}, in {:.1} s", start.elapsed().as_secs_f64());
+}

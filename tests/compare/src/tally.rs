@@ -1,0 +1,79 @@
+//! What the cases covered, so that it can be seen.
+use crate::check::Expected;
+use plain::list::asked;
+use plain::query::Clause;
+use plain::text::{Refusal, Value};
+use std::collections::BTreeMap;
+
+#[derive(Default)]
+pub struct Tally {
+    pub cases: usize,
+    answers: BTreeMap<&'static str, BTreeMap<u32, usize>>,
+    calls: BTreeMap<u32, usize>,
+    seen: BTreeMap<&'static str, usize>,
+    rows: usize,
+    most: usize,
+}
+
+impl Tally {
+    fn answer<T>(&mut self, service: &'static str, answer: &Result<T, Refusal>) {
+        let number = answer.as_ref().err().map_or(0, |r| r.number);
+        *self.answers.entry(service).or_default().entry(number).or_default() += 1;
+    }
+
+    pub fn list<T>(&mut self, answer: &Result<T, Refusal>) {
+        *self.calls.entry(answer.as_ref().err().map_or(0, |r| r.number)).or_default() += 1;
+    }
+
+    fn see(&mut self, what: &'static str, there: bool) {
+        *self.seen.entry(what).or_default() += there as usize;
+    }
+
+    pub fn case(&mut self, e: &Expected) {
+        self.cases += 1;
+        self.answer("book", &e.book);
+        self.answer("rules", &e.rules);
+        self.answer("query", &e.query);
+        self.answer("request", &e.request);
+        self.answer("write", &e.written);
+        self.answer("list", &e.rows);
+        let (Ok(b), Ok(r), Ok(q), Ok(x), Ok(rows)) = (&e.book, &e.rules, &e.query, &e.request, &e.rows) else { return };
+        self.rows += rows.len();
+        self.most = self.most.max(rows.len());
+        let asked = asked(r, x, q);
+        let actor = |i: usize, v: &Vec<u8>| asked[i].pattern.vertices.contains(v) && asked[i].actors.contains(v);
+        let clauses: Vec<&Clause> = asked.iter().flat_map(|a| &a.pattern.clauses).collect();
+        let value = |k: fn(&Value) -> bool| clauses.iter().any(|c| matches!(c, Clause::Vertex(_, _, _, v) | Clause::Edge(_, _, _, v) if k(v)));
+        let edges: Vec<_> = asked.iter().flat_map(|a| &a.pattern.edges).collect();
+        self.see("some row", !rows.is_empty());
+        self.see("two rows or more", rows.len() > 1);
+        self.see("enumerated", e.enumerated);
+        self.see("policies from lower categories", !r.categories[x.category].over.is_empty() && asked.len() > 2);
+        self.see("an actor besides requestor in two patterns", q.vertices.iter().any(|v| v != b"requestor" && actor(0, v) && (1..asked.len()).any(|i| actor(i, v))));
+        self.see("a name in two patterns that is not joined", q.vertices.iter().any(|v| (1..asked.len()).any(|i| asked[i].pattern.vertices.contains(v) && !(actor(0, v) && actor(i, v)))));
+        self.see("number conditions", value(|v| matches!(v, Value::Int(_))));
+        self.see("text conditions", value(|v| matches!(v, Value::Str(_))));
+        self.see("truth conditions", value(|v| matches!(v, Value::Bool(_))));
+        self.see("edge conditions", clauses.iter().any(|c| matches!(c, Clause::Edge(..))));
+        self.see("exclusions", clauses.iter().any(|c| matches!(c, Clause::Excluded(..))));
+        self.see("self-loops", edges.iter().any(|e| e.from == e.to));
+        self.see("more edges than a tree has", asked.iter().any(|a| a.pattern.edges.len() >= a.pattern.vertices.len()));
+        self.see("absent attributes asked for", asked.iter().any(|a| a.pattern.clauses.iter().any(|c| matches!(c, Clause::Vertex(_, at, _, _) if b.nodes.iter().any(|n| n.entries.iter().all(|e| e.0 != *at))))));
+    }
+
+    pub fn print(&self) {
+        println!("{} cases; answers by refusal number, 0 being accepted:", self.cases);
+        for (service, numbers) in &self.answers {
+            println!("  {service:8} {}", listed(numbers));
+        }
+        println!("list calls in buffers of all sizes: {}", listed(&self.calls));
+        println!("rows of accepted lists: {}, most in one {}; accepted lists with", self.rows, self.most);
+        for (what, n) in &self.seen {
+            println!("  {n:6} {what}");
+        }
+    }
+}
+
+fn listed(numbers: &BTreeMap<u32, usize>) -> String {
+    numbers.iter().map(|(n, count)| format!("{n}: {count}")).collect::<Vec<_>>().join(", ")
+}
