@@ -1,5 +1,5 @@
 // The readers and the list on many sets of texts. Each case is a folder with a number; a text that it lacks is the one beside the folders.
-// Prints of each case its name, the answers of the book, rules and request readers, what the query writer writes, and the list.
+// Prints of each case its name, the answers of the book, rules and request readers, what the query writer writes, the list, and the list's answer where no row words are lent.
 ghost use Rattle.io.specs.Counts.{Counts};
 use libc::STDOUT_FILENO;
 use writer::bytes::put_byte;
@@ -72,4 +72,6 @@ fn print_answers(book: &[u8], rules: &[u8], query: &[u8], request: &[u8]) {
     showing::readers::print_request(book, rules, request);
     showing::readers::print_written(book, rules, query);
     showing::print_list(book, rules, query, request);
+    io::write_all(STDOUT_FILENO, b"no row words: ");
+    showing::print_in_no_words(book, rules, query, request);
 }

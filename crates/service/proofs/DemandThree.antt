@@ -43,18 +43,21 @@ pub record DoNotFit (words : ℕ) (rows′ : List ℕ) (r : RowsListed) : Type 0
   pub fourteen : listAnswer r ≡ refused (returned 14 5 0)
   pub all-ones : rows′ ≡ ones words
 
-module _ (book rules query request : Bytes) (rows work rows′ work′ : List ℕ) (res : RowsListed) (call : Called book rules query request rows work rows′ work′ res) where
-  -- all premises hold, and list is the list of the rows that may be had
-  pub record RowsDue (list : List (List ℕ)) : Type 0 where
-    pub b : Book
-    pub r : Rules
-    pub q : QueryText
-    pub x : Request
-    pub premises : Premises (length work) book rules query request b r q x
-    pub had : HadRows b r q x list
+-- all premises hold, and list is the list of the rows that may be had
+pub record RowsDue (work : ℕ) (book rules query request : Bytes) (list : List (List ℕ)) : Type 0 where
+  pub b : Book
+  pub r : Rules
+  pub q : QueryText
+  pub x : Request
+  pub premises : Premises work book rules query request b r q x
+  pub had : HadRows b r q x list
 
-  -- how many row words a list asks for
-  abbrev pub needed : (list : List (List ℕ)) → RowsDue list → ℕ
+module _ (book rules query request : Bytes) (rows work rows′ work′ : List ℕ) (res : RowsListed) (call : Called book rules query request rows work rows′ work′ res) where
+  -- such a list for this call, and how many row words it asks for: rows times Return names
+  abbrev pub Due : List (List ℕ) → Type 0
+  Due list = RowsDue (length work) book rules query request list
+
+  abbrev pub needed : (list : List (List ℕ)) → Due list → ℕ
   needed list a = length list * length (a .q .returns)
 
   abbrev found : Outcome (List (List ℕ))
@@ -64,27 +67,27 @@ module _ (book rules query request : Bytes) (rows work rows′ work′ : List �
   pub rows-that-may-be-had : (b : Book) (r : Rules) (q : QueryText) (x : Request) → Premises (length work) book rules query request b r q x → (list : List (List ℕ)) × HadRows b r q x list
   rows-that-may-be-had b r q x h = (rowsFor b r q x, had-rows (length work) book rules query request b r q x h)
 
-  given : (list : List (List ℕ)) (a : RowsDue list) → found ≡ pick (ltb (length rows) (needed list a)) (refusal 14 5 0) (accepted list)
+  given : (list : List (List ℕ)) (a : Due list) → found ≡ pick (ltb (length rows) (needed list a)) (refusal 14 5 0) (accepted list)
   given list a =
       let e = only-list (length work) book rules query request (a .b) (a .r) (a .q) (a .x) (a .premises) list (a .had) in
       rows-given (length work) book rules query request (a .b) (a .r) (a .q) (a .x) (a .premises) (length rows)
       ∙ ap (λ (l : List (List ℕ)). pick (ltb (length rows) (length l * length (a .q .returns))) (refusal 14 5 0) (accepted l)) (sym e)
 
   -- the theorem: the rows that may be had are listed if they fit, and 14 is answered if they do not
-  pub listed-if-they-fit : (list : List (List ℕ)) (a : RowsDue list) → needed list a ≤ length rows → Listed list (length rows) rows′ res
+  pub listed-if-they-fit : (list : List (List ℕ)) (a : Due list) → needed list a ≤ length rows → Listed list (length rows) rows′ res
   unfolding listService onAccept rowWords
   listed-if-they-fit list a l =
       let e : found ≡ accepted list = given list a ∙ rw (le-ltb (length rows) (needed list a) l) in
       record { their-number = call .answer ∙ rw e; rows-then-ones = call .rows-left ∙ rw e }
 
-  pub fourteen-if-they-do-not : (list : List (List ℕ)) (a : RowsDue list) → length rows < needed list a → DoNotFit (length rows) rows′ res
+  pub fourteen-if-they-do-not : (list : List (List ℕ)) (a : Due list) → length rows < needed list a → DoNotFit (length rows) rows′ res
   unfolding listService onAccept rowWords refusal
   fourteen-if-they-do-not list a l =
       let e : found ≡ refused (returned 14 5 0) = given list a ∙ rw (lt-ltb (length rows) (needed list a) l) in
       record { fourteen = call .answer ∙ rw e; all-ones = call .rows-left ∙ rw e }
 
   -- 14 exactly if they do not fit and every other premise holds
-  pub fourteen-exactly : (listAnswer res ≡ refused (returned 14 5 0)) ↔ ((list : List (List ℕ)) × (a : RowsDue list) × (length rows < needed list a))
+  pub fourteen-exactly : (listAnswer res ≡ refused (returned 14 5 0)) ↔ ((list : List (List ℕ)) × (a : Due list) × (length rows < needed list a))
   unfolding listService
   fourteen-exactly = (
     λ e. let n = need-refused found (λ rows. accepted (length rows)) (returned 14 5 0) .0 (sym (call .answer) ∙ e) in
@@ -96,13 +99,13 @@ module _ (book rules query request : Bytes) (rows work rows′ work′ : List �
   )
 
   -- a number exactly if they fit and every premise holds, and it is the number of rows that may be had
-  pub counted-exactly : (n : ℕ) → (listAnswer res ≡ accepted n) ↔ ((list : List (List ℕ)) × (a : RowsDue list) × (needed list a ≤ length rows) × (length list ≡ n))
+  pub counted-exactly : (n : ℕ) → (listAnswer res ≡ accepted n) ↔ ((list : List (List ℕ)) × (a : Due list) × (needed list a ≤ length rows) × (length list ≡ n))
   unfolding listService
   counted-exactly n = (
     λ e. let (list, f, m) = accept-e found (λ rows. accepted (length rows)) n (sym (call .answer) ∙ e) in
         let g = list-given (length work) (length rows) book rules query request list f in
         let h = premises-of (length work) book rules query request (g .b) (g .r) (g .q) (g .x) (g .read) (g .woven) in
-        let a : RowsDue list = record {
+        let a : Due list = record {
           b = g .b;
           r = g .r;
           q = g .q;

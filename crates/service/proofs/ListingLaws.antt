@@ -34,9 +34,9 @@ use Rattle.search.specs.Rows.{RowsFound}
 use Rattle.service.specs.Behind.{rowsFrom, rowsOfRules, rowsOfQuery, rowsOfTexts, Lists}
 use Rattle.service.proofs.BookLaws.{little, enough}
 
--- rows and row words, as they may be given
-abbrev pub Given : Type 0
-Given = Outcome (List (List ℕ))
+-- rows that may be refused
+abbrev pub RowsGiven : Type 0
+RowsGiven = Outcome (List (List ℕ))
 
 -- a refusal clears the row words
 pub lists-nothing : (number text line : ℕ) (before after : List ℕ) → after ≡ filled 0 before
@@ -45,15 +45,15 @@ unfolding refusal listAnswer refusalOf onAccept rowWords ones
 lists-nothing number text line before after e = record { answer = refl; rows = e ∙ filled-whole before }
 
 -- the same list, of an outcome that is the same
-pub lists-as : (o o′ : Given) (n : ℕ) (after : List ℕ) (r : RowsListed) → o ≡ o′ → Lists o′ n after r → Lists o n after r
-lists-as o o′ n after r e h = subst (λ (x : Given). Lists x n after r) (sym e) h
+pub lists-as : (o o′ : RowsGiven) (n : ℕ) (after : List ℕ) (r : RowsListed) → o ≡ o′ → Lists o′ n after r → Lists o n after r
+lists-as o o′ n after r e h = subst (λ (x : RowsGiven). Lists x n after r) (sym e) h
 
 -- the same list, of row words of the same length
-pub lists-long : (o : Given) (n n′ : ℕ) (after : List ℕ) (r : RowsListed) → n ≡ n′ → Lists o n′ after r → Lists o n after r
+pub lists-long : (o : RowsGiven) (n n′ : ℕ) (after : List ℕ) (r : RowsListed) → n ≡ n′ → Lists o n′ after r → Lists o n after r
 lists-long o n n′ after r e h = subst (λ (m : ℕ). Lists o m after r) (sym e) h
 
 -- the same of a refusal by its three numbers
-pub lists-refused : (o : Given) (q : RefusalData) (n : ℕ) (after : List ℕ) (r : RowsListed) → o ≡ refused (refusalOf q) → Lists (refusal (q .number) (q .text) (q .line)) n after r → Lists o n after r
+pub lists-refused : (o : RowsGiven) (q : RefusalData) (n : ℕ) (after : List ℕ) (r : RowsListed) → o ≡ refused (refusalOf q) → Lists (refusal (q .number) (q .text) (q .line)) n after r → Lists o n after r
 unfolding refusal refusalOf
 lists-refused o q n after r e h = lists-as o _ n after r e h
 

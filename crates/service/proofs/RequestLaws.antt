@@ -1,26 +1,24 @@
 -- The answer of the request's reader, and what is known of a request that was read.
 use Prim.Native.Nat.{ℕ, _≤_, _<_}
 use mathlib.Core.Path.{_≡_, refl, sym, ap, subst, _∙_}
-use mathlib.Core.List.{List, [], _∷_, map}
+use mathlib.Core.List.{List, map}
 use native.Mathlib.Omega.{arith}
 use lib.ListN.{length, take}
-use lib.Dec.{T, ltb}
+use lib.Dec.{ltb}
 use borrow.Author.Tests.{ltb-true}
 use Rattle.model.specs.Bytes.{Bytes}
-use Rattle.model.specs.Names.{twice, place}
+use Rattle.model.specs.Names.{place}
 use Rattle.model.specs.Refusal.{Outcome, accepted, refused, onAccept}
-use Rattle.model.specs.Book.{Book, nodeNames}
+use Rattle.model.specs.Book.{Book}
 use Rattle.model.specs.ReadBook.{readBook}
 use Rattle.model.specs.Rules.{Rules, categoryNames}
-use Rattle.model.specs.Request.{Claim, Identity, Request, requestFault, requestOf, readRequest}
+use Rattle.model.specs.Request.{Request, readRequest}
 use Rattle.model.specs.Service.{RequestAnswer, requestService}
 use Rattle.model.specs.Answers.{refusalOf, identityIn, verdictOf, requestAnswer}
 use Rattle.model.specs.declared.Refusal.{Refusal as RefusalData}
 use Rattle.model.specs.declared.Verdict.{Verdict}
 use Rattle.model.specs.declared.Verdict.the-variants.{Accepted, Refused}
 use Rattle.model.specs.declared.RequestRead.{RequestRead}
-use Rattle.model.proofs.Outcomes.{no-fault}
-use Rattle.model.proofs.AcceptedRequest.{request-accepted}
 use Rattle.tables.specs.declared.BookCounts.{BookCounts}
 use Rattle.tables.specs.View.{nameOf, namesAt, bookAt}
 use Rattle.tables.specs.Fits.{Fits}
@@ -45,18 +43,6 @@ category-place rules table n fits k l =
     let there : ltb (place w ws) (length ws) ≡ mathlib.Core.Bool.true = sym (mem-place w ws) ∙ name-mem rules table names (n .categories) w k l refl in
     let inside : place w ws < n .categories = omega (arith, ltb-true (place w ws) (length ws) there, length-names rules table names (n .categories)) in
     ap (place w) (category-names rules table n) ∙ fits .named .differ (place w ws) k inside l (place-named rules table names (n .categories) w inside)
-
--- no actor of an accepted request has two identities
-pub identities-once : (b : Book) (r : Rules) (s : Bytes) (x : Request) → readRequest b r s ≡ accepted x → T (twice (map (λ (i : Identity). i .actor) (x .identities))) → ⊥
-unfolding requestFault requestOf
-identities-once b r s x e =
-    let h = request-accepted b r s x e in
-    subst (λ (z : Request). T (twice (map (λ (i : Identity). i .actor) (z .identities))) → ⊥) (h .is-request)
-    (λ t. no-fault _ .0 (h .faultless) .1 .0 (subst (λ (l : List Bytes). T (twice l)) (actors (h .line .claims)) t))
-  where
-    actors : (cs : List Claim) → map (λ (i : Identity). i .actor) (map (λ (c : Claim). let i : Identity = record { actor = c .actor; node = place (c .node) (nodeNames b) } in i) cs) ≡ map (λ (c : Claim). c .actor) cs
-    actors [] = refl
-    actors (c ∷ cs) = ap (λ (l : List Bytes). c .actor ∷ l) (actors cs)
 
 module _ (book : Bytes) (words : List ℕ) (k : BookCounts) (rules : Bytes) (table : List ℕ) (n : RulesCounts) (text : Bytes) (r : RequestRead)
     (reads : RequestReads book words k rules table n text r) where

@@ -62,6 +62,27 @@ pub fn print_list(book: &[u8], rules: &[u8], query: &[u8], request: &[u8]) {
     }
 }
 
+// Prints what the list answers where no row words are lent: the row count, or the refusal.
+pub fn print_in_no_words(book: &[u8], rules: &[u8], query: &[u8], request: &[u8]) {
+    let mut rows = [0u32; 1];
+    let mut work = [0u32; WORK_WORDS];
+    match service::list(book, rules, query, request, &mut rows[0..0], &mut work) {
+        RowsListed::Refused(refusal) => {
+            print_refusal(refusal);
+        }
+        RowsListed::Count(count) => {
+            print_header(count);
+        }
+    }
+}
+
+// Prints the header of a list.
+fn print_header(count: usize) {
+    let mut line = [0u8; LINE_BYTES];
+    let end = printing::put_header(count, &mut line, 0);
+    print_line(&line, end);
+}
+
 // Prints a refusal.
 pub fn print_refusal(refusal: Refusal) {
     let mut line = [0u8; LINE_BYTES];
@@ -80,9 +101,7 @@ pub fn print_line(line: &[u8], end: usize) {
 fn print_rows(book: &[u8], query: &[u8], rows: &[u32], count: usize, work: &mut [u32])
     requires { ⌜ 10752 ≤ length (now work) ⌝ }
 {
-    let mut line = [0u8; LINE_BYTES];
-    let end = printing::put_header(count, &mut line, 0);
-    print_line(&line, end);
+    print_header(count);
     let width = service::read_query(book, query, work)
         .pattern
         .counts
