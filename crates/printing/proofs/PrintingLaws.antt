@@ -8,7 +8,8 @@ use native.Mathlib.Omega.{arith}
 use Rattle.model.specs.Bytes.{Bytes, bytesOf}
 use Rattle.model.specs.Book.{nodeNames}
 use Rattle.model.specs.Writing.{eachBehind}
-use Rattle.model.specs.Printed.{rowText}
+use Rattle.model.specs.Lists.{joined}
+use Rattle.model.specs.Printed.{rowText, rowsText}
 use Rattle.tables.specs.Layout as layout
 use Rattle.tables.specs.Listed.{listed}
 use Rattle.tables.specs.View.{nameOf, namesAt, bookAt}
@@ -19,7 +20,7 @@ use Rattle.writer.specs.Pieces.{before, listing}
 use Rattle.writer.specs.Putting.{Puts}
 use Rattle.writer.proofs.PuttingLaws.{puts-then, puts-same}
 use Rattle.writer.proofs.PieceLaws.{before-all, puts-none, puts-one-more}
-use Rattle.printing.specs.Printing.{nameIn, namesText}
+use Rattle.printing.specs.Printing.{headerText, nameIn, namesText}
 
 -- with one text before the first and between two, each stands behind it
 each-behind : (sep : Bytes) (ts : List Bytes) → listing sep sep ts ≡ eachBehind sep ts
@@ -56,3 +57,8 @@ no-name book words counts n h =
     let names : nodeNames (bookAt book words counts) ≡ listed (nameOf book words layout.nodeNames) (counts .nodes) = node-names book words counts in
     let few : length (nodeNames (bookAt book words counts)) ≤ n = rw (names, length-listed (nameOf book words layout.nodeNames) (counts .nodes)) h in
     ap (λ t. bytesOf " " ++ t) (sym (past-end (nodeNames (bookAt book words counts)) n few))
+
+-- the header and then each row's line: what the model says is printed
+pub whole-list : (names : List Bytes) (rows : List (List ℕ)) → headerText (length rows) ++ joined (rowText names) rows ≡ rowsText names rows
+unfolding headerText rowsText
+whole-list names rows = refl
