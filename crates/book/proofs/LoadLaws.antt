@@ -18,12 +18,14 @@ use Rattle.model.specs.ReadBook.{bookStep}
 use Rattle.model.specs.Answers.{partOf}
 use Rattle.model.specs.Service.{ones}
 use Rattle.text.specs.Lines.{lineAt}
+use Rattle.chains.specs.Chains.{cleared}
+use Rattle.chains.proofs.ChainLaws.{length-cleared, cleared-before, cleared-chained, chained-kept}
 use Rattle.tables.specs.declared.BookCounts.{BookCounts}
 use Rattle.tables.specs.Listed.{listed}
-use Rattle.tables.specs.Layout.{bookWords}
-use Rattle.tables.specs.View.{namesAt, attrsAt, bookAt}
+use Rattle.tables.specs.Layout.{nodeHeads, nodeLinks, fromHeads, fromLinks, keys, bookWords}
+use Rattle.tables.specs.View.{namesAt, nodeSlot, attrsAt, relFrom, bookAt}
 use Rattle.tables.specs.Fits.{Fits}
-use Rattle.tables.specs.Stores.{noCounts}
+use Rattle.tables.specs.Stores.{noCounts, withoutChains}
 use Rattle.words.specs.Filled.{filled}
 use Rattle.words.specs.FilledLaws.{length-filled, filled-whole}
 use Rattle.lines.specs.declared.LineStep.{LineStep}
@@ -36,10 +38,14 @@ pub empty-is : (text : Bytes) (words : List ℕ) → bookAt text words noCounts 
 unfolding bookAt emptyBook attrsAt namesAt listed
 empty-is text words = refl
 
-pub empty-fits : (text : Bytes) (words : List ℕ) → bookWords ≤ length words → Fits text words noCounts
-unfolding entryCount emptyBook sum
+pub length-cleared-chains : (words : List ℕ) → length (withoutChains words) ≡ length words
+unfolding withoutChains
+length-cleared-chains words = length-cleared (cleared words nodeHeads keys) fromHeads keys ∙ length-cleared words nodeHeads keys
+
+pub empty-fits : (text : Bytes) (words : List ℕ) → bookWords ≤ length words → Fits text (withoutChains words) noCounts
+unfolding entryCount emptyBook sum withoutChains
 empty-fits text words room = record {
-  room = room;
+  room = rw length-cleared-chains room;
   within = omega arith;
   vattrs = record { inside = λ i l. absurd (omega arith); differ = λ i j l m e. absurd (omega arith) };
   eattrs = record { inside = λ i l. absurd (omega arith); differ = λ i j l m e. absurd (omega arith) };
@@ -48,7 +54,14 @@ empty-fits text words room = record {
   of-nodes = λ i l. absurd (omega arith);
   rels = λ i l. absurd (omega arith);
   of-rels = λ i l. absurd (omega arith);
-  counted = ap entryCount (empty-is text words);
+  counted = ap entryCount (empty-is text (withoutChains words));
+  node-chains =
+      chained-kept (cleared words nodeHeads keys) (withoutChains words) nodeHeads nodeLinks keys (nodeSlot text (withoutChains words)) (nodeSlot text (withoutChains words)) 0
+      (cleared-chained words nodeHeads nodeLinks keys (nodeSlot text (withoutChains words)) (omega arith))
+      (λ k l. cleared-before (cleared words nodeHeads keys) fromHeads keys (nodeHeads + k) (omega arith))
+      (λ i l. absurd (omega arith))
+      (λ i l. refl);
+  rel-chains = cleared-chained (cleared words nodeHeads keys) fromHeads fromLinks keys (relFrom (withoutChains words)) (rw length-cleared (omega arith));
 }
 
 -- a last line without a line feed: 3

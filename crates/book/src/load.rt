@@ -65,6 +65,7 @@ fn load_lines(text: &[u8], words: &mut [u32]) -> BookLoad
     requires { ⌜ (length (now text) ≤ 65536) × (10752 ≤ length (now words)) ⌝ }
     ensures { λ r. ⌜ Loaded (now (text .entry)) (now (words .exit)) r (readLines 1 bookStep 1 emptyBook (linesOf (now (text .entry)))) ⌝ }
 {
+    tables::stores::clear_chains(words);
     let mut at = 0;
     let mut line = 1;
     let mut counts = no_counts();

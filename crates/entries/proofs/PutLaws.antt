@@ -7,7 +7,7 @@ use native.Mathlib.Omega.{arith}
 use lib.ListN.{length, set, length-set}
 use lib.Seq.{getD-set-same, getD-set-other}
 use lib.Dec.{ltb}
-use borrow.Author.Tests.{lt-ltb}
+use borrow.Author.Tests.{lt-ltb, ltb-true}
 use Rattle.model.specs.Bytes.{Bytes}
 use Rattle.model.specs.Choice.{pick}
 use Rattle.model.specs.Values.{Entry}
@@ -70,23 +70,26 @@ module _ (words words′ : List ℕ) (k attribute : ℕ) (value : Value) (put : 
   abbrev stored-words : List ℕ
   stored-words = withEntry words k (attribute * 4 + put .said .kind) (put .said .first) (put .said .second)
 
-  by-room : (P : List ℕ → Type 0) → P stored-words → P words → P words′
-  by-room P p q = subst P (sym (put .put)) (go (ltb k 2048))
+  by-room : (P : List ℕ → Type 0) → (k < 2048 → P stored-words) → P words → P words′
+  by-room P p q = subst P (sym (put .put)) (go (ltb k 2048) refl)
     where
-      go : (t : Bool) → P (pick t stored-words words)
-      go true = p
-      go false = q
+      go : (t : Bool) → ltb k 2048 ≡ t → P (pick t stored-words words)
+      go true e = p (ltb-true k 2048 e)
+      go false e = q
 
   -- nothing that is counted, up to entry k, is changed
   pub put-agrees : (c : BookCounts) → Within c → (n : ℕ) → c .entries + n ≤ k → Agree (pending c n) words words′
   put-agrees c w n l =
+      by-room (Agree (pending c n) words)
+      (λ r.
       let f : Free (pending c n) (entries + 3 * k) = omega arith in
       let g : Free (pending c n) (entries + 3 * k + 1) = omega arith in
       let h : Free (pending c n) (entries + 3 * k + 2) = omega arith in
-      by-room (Agree (pending c n) words) (with-agrees words k (attribute * 4 + put .said .kind) (put .said .first) (put .said .second) (pending c n) f g h) (agree-same (pending c n) words)
+      with-agrees words k (attribute * 4 + put .said .kind) (put .said .first) (put .said .second) (pending c n) f g h)
+      (agree-same (pending c n) words)
 
   pub put-low : (q : ℕ) → q < entries → wordAt words′ q ≡ wordAt words q
-  put-low q l = by-room (λ (x : List ℕ). wordAt x q ≡ wordAt words q) (with-low words k (attribute * 4 + put .said .kind) (put .said .first) (put .said .second) q l) refl
+  put-low q l = by-room (λ (x : List ℕ). wordAt x q ≡ wordAt words q) (λ r. with-low words k (attribute * 4 + put .said .kind) (put .said .first) (put .said .second) q l) refl
 
   put-there : k < 2048 → words′ ≡ stored-words
   put-there l = put .put ∙ rw (lt-ltb k 2048 l)
@@ -127,6 +130,6 @@ module _ (words words′ : List ℕ) (k attribute : ℕ) (value : Value) (put : 
         → EntriesStored text words offset declared (c .entries) es → EntriesStored text words′ offset declared (c .entries) (es ++ (e ∷ []))
     put-stored c w es at s =
         stored-more text words′ offset declared (c .entries) es e
-        (stored-kept text words words′ c offset declared es (put-agrees c w (length es) (omega arith)) (λ i m. put-low (offset + i) (omega arith)) s)
+        (stored-kept text words words′ c offset declared es (put-agrees c w (length es) (omega arith) .tables) (λ i m. put-low (offset + i) (omega arith)) s)
         (rw (← at) put-entry)
         (rw (← at) put-fits)

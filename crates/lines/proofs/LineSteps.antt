@@ -96,7 +96,7 @@ module _ (text line : Bytes) (words : List ℕ) (c : BookCounts) (base from : �
       node-step known n got =
           step-form book _ _ (node-named ∙ got .form (λ es. just (node (partOf line p (q - p)) es)))
           ∙ ap (λ (x : Bytes). stepOf book (node x (got .got))) (sym (piece-named text line words c base from p q f (name-stands line from p q r e h)))
-          ∙ ap (λ (b : Book). stepOf b (node (nameAt text (record { start = base + p; length = q - p })) (got .got))) (sym (book-kept text words words′ c (done .agrees) (f .fits)))
+          ∙ ap (λ (b : Book). stepOf b (node (nameAt text (record { start = base + p; length = q - p })) (got .got))) (sym (book-kept text words words′ c (done .agrees .tables) (f .fits)))
 
   -- (rel LABEL FROM TO (ATTR VALUE)...)
   module _ (r : RelNames) (told : NamesTold line from r) where
@@ -127,7 +127,7 @@ module _ (text line : Bytes) (words : List ℕ) (c : BookCounts) (base from : �
             (sym (name-moved text line base (f .is) (f .inside) x (rel-got .start .inside)) t)
             (sym (name-moved text line base (f .is) (f .inside) y (rel-got .end .inside)) t) (got .got)))
             ∙ ap (λ (b : Book). stepOf b (rel (nameAt text (movedPart base l)) (nameAt text (movedPart base x)) (nameAt text (movedPart base y)) (got .got)))
-            (sym (book-kept text words words′ c (done .agrees) (f .fits)))
+            (sym (book-kept text words words′ c (done .agrees .tables) (f .fits)))
 
 -- the entries that were read
 pub entries-got : (text line : Bytes) (words words′ : List ℕ) (c : BookCounts) (offset declared from : ℕ) (a : EntriesAnswer) (known : EntriesRead)

@@ -120,8 +120,8 @@ module _ (text : Bytes) (words : List ℕ) (c : BookCounts) (fits : Fits text wo
     node-refused n e h = step-fault book (node (nameAt text name) es) n (node-fault ∙ rw (← e) (numbered-fault n h))
 
     pub node-fine : ownerFault (ltb a (c .nodes)) (read .fault) full ≡ 0
-        → (stepOf book (node (nameAt text name) es) ≡ known (bookAt text (withNode words c (name .start * 32 + name .length) (read .count)) (moreNodes c (read .count))))
-        × Fits text (withNode words c (name .start * 32 + name .length) (read .count)) (moreNodes c (read .count))
+        → (stepOf book (node (nameAt text name) es) ≡ known (bookAt text (withNode text words c (name .start * 32 + name .length) (read .count)) (moreNodes c (read .count))))
+        × Fits text (withNode text words c (name .start * 32 + name .length) (read .count)) (moreNodes c (read .count))
     node-fine z =
         let ok = owner-fine (ltb a (c .nodes)) (read .fault) full z in
         let r = or-false (leb 256 (c .nodes)) (ltb 2048 (c .entries + read .count)) (ok .room) in

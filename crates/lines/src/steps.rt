@@ -188,7 +188,7 @@ pub fn add_node(
     if fault != 0 {
         return LineStep::Fault(fault);
     }
-    LineStep::Known(tables::stores::store_node(words, counts, name_word(name), read.count))
+    LineStep::Known(tables::stores::store_node(text, words, counts, name_word(name), read.count))
 }
 
 // (rel LABEL FROM TO (ATTR VALUE)...), its entries being stored behind those counted.

@@ -53,7 +53,7 @@ module _ (text : Bytes) (words : List ℕ) (c : BookCounts) (b : Book) (holds : 
     label-named = rw label-at
 
     label-before : bookAt text (withLabel words c w) c ≡ b
-    label-before = book-kept text words (withLabel words c w) c label-agrees (holds .fits) ∙ holds .is
+    label-before = book-kept text words (withLabel words c w) c (label-agrees .tables) (holds .fits) ∙ holds .is
 
     labels-before : namesAt text (withLabel words c w) labelNames (c .labels) ≡ b .labels
     unfolding bookAt
@@ -75,6 +75,8 @@ module _ (text : Bytes) (words : List ℕ) (c : BookCounts) (b : Book) (holds : 
             rels = λ i l. rel-fits-more (c .labels) (c .labels + 1) (c .nodes) (c .nodes) _ (omega arith) (omega arith) (f .rels i l);
             of-rels = f .of-rels;
             counted = f .counted;
+            node-chains = f .node-chains;
+            rel-chains = f .rel-chains;
           };
           is = rw (names-end text (withLabel words c w) labelNames (c .labels), label-named) (ap (λ (x : Book). addLine x (label (nameIn text w))) label-before);
         }
@@ -106,7 +108,7 @@ module _ (text : Bytes) (words : List ℕ) (c : BookCounts) (b : Book) (holds : 
     attr-fits = fits-kept text words (withAttr words offset count w t) c attr-agrees (holds .fits)
 
     attr-before : bookAt text (withAttr words offset count w t) c ≡ b
-    attr-before = book-kept text words (withAttr words offset count w t) c attr-agrees (holds .fits) ∙ holds .is
+    attr-before = book-kept text words (withAttr words offset count w t) c (attr-agrees .tables) (holds .fits) ∙ holds .is
 
     attr-last :
         attrsAt text (withAttr words offset count w t) offset (count + 1)
@@ -141,6 +143,8 @@ module _ (text : Bytes) (words : List ℕ) (c : BookCounts) (b : Book) (holds : 
             rels = f .rels;
             of-rels = f .of-rels;
             counted = f .counted;
+            node-chains = f .node-chains;
+            rel-chains = f .rel-chains;
           };
           is = rw (attr-last vattrNames (c .vattrs) w t r) (ap (λ (x : Book). addLine x (vattr (nameIn text w) (kindIn t))) e);
         }
@@ -165,6 +169,8 @@ module _ (text : Bytes) (words : List ℕ) (c : BookCounts) (b : Book) (holds : 
             rels = f .rels;
             of-rels = λ i l. entries-fit-more text _ (c .eattrs) (c .eattrs + 1) (c .entries) (c .entries) _ (omega arith) (omega arith) (f .of-rels i l);
             counted = f .counted;
+            node-chains = f .node-chains;
+            rel-chains = f .rel-chains;
           };
           is = rw (attr-last eattrNames (c .eattrs) w t r) (ap (λ (x : Book). addLine x (eattr (nameIn text w) (kindIn t))) e);
         }

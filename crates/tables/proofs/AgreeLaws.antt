@@ -1,4 +1,4 @@
--- Words that agree on all that is counted hold the same book; so a store to a word that is not counted changes nothing.
+-- Words that agree on all that is counted hold the same book, and on the chains have the same chains; so a store to a word that is neither changes nothing.
 use Prim.Native.Nat.{ℕ, _+_, _*_, _/_, _%_, _≤_, _<_}
 use mathlib.Core.Path.{_≡_, refl, sym, ap, _∙_}
 use mathlib.Core.List.{List}
@@ -7,35 +7,72 @@ use lib.ListN.{length, set, length-set}
 use lib.Seq.{getD-set-other}
 use Rattle.model.specs.Bytes.{Bytes}
 use Rattle.model.specs.Book.{Book, entryCount}
+use Rattle.chains.specs.Chains.{Chained}
+use Rattle.chains.specs.Slots.{slotOf}
+use Rattle.chains.proofs.ChainLaws.{chained-kept}
 use Rattle.tables.specs.declared.BookCounts.{BookCounts}
 use Rattle.tables.specs.Listed.{listed}
-use Rattle.tables.specs.Layout.{vattrNames, eattrNames, typesBehind, labelNames, nodeNames, nodeEntries, relationships, relationshipEntries, entries, bookWords}
-use Rattle.tables.specs.View.{wordAt, startPart, countPart, nameOf, namesAt, attrOf, attrsAt, entryHead, entryOf, entriesFrom, entriesIn, nodeOf, labelPart, fromPart, toPart, relWord, relOf, bookAt}
+use Rattle.tables.specs.Layout.{vattrNames, eattrNames, typesBehind, labelNames, nodeNames, nodeEntries, relationships, relationshipEntries, entries, nodeHeads, nodeLinks, fromHeads, fromLinks, keys, bookWords}
+use Rattle.tables.specs.View.{wordAt, startPart, countPart, nameOf, namesAt, attrOf, attrsAt, entryHead, entryOf, entriesFrom, entriesIn, nodeOf, labelPart, fromPart, toPart, relWord, nodeSlot, relFrom, relOf, bookAt}
 use Rattle.tables.specs.Fits.{NamesFit, EntryFits, EntriesFit, RelFits, Within, Fits}
-use Rattle.tables.specs.Agree.{Free, At, Agree}
+use Rattle.tables.specs.Agree.{Free, At, TablesAgree, Agree}
 use Rattle.tables.proofs.ListedLaws.{listed-same}
+
+-- what is true of the words, the chains apart
+pub record TablesFit (text : Bytes) (words : List ℕ) (c : BookCounts) : Type 0 where
+  pub room : bookWords ≤ length words
+  pub within : Within c
+  pub vattrs : NamesFit text words vattrNames (c .vattrs)
+  pub eattrs : NamesFit text words eattrNames (c .eattrs)
+  pub labels : NamesFit text words labelNames (c .labels)
+  pub nodes : NamesFit text words nodeNames (c .nodes)
+  pub of-nodes : (i : ℕ) → i < c .nodes → EntriesFit text words (c .vattrs) (c .entries) (wordAt words (nodeEntries + i))
+  pub rels : (i : ℕ) → i < c .relationships → RelFits (c .labels) (c .nodes) (relWord words i)
+  pub of-rels : (i : ℕ) → i < c .relationships → EntriesFit text words (c .eattrs) (c .entries) (wordAt words (relationshipEntries + i))
+  pub counted : entryCount (bookAt text words c) ≡ c .entries
 
 -- a store to a free place
 pub set-agrees : (c : BookCounts) (words : List ℕ) (p v : ℕ) → Free c p → Agree c words (set words p v)
 set-agrees c words p v f = record {
-  size = length-set words p v;
-  vattrs = λ i l. getD-set-other words p _ v 0 (f .vattrs i l);
-  vattr-types = λ i l. getD-set-other words p _ v 0 (f .vattr-types i l);
-  eattrs = λ i l. getD-set-other words p _ v 0 (f .eattrs i l);
-  eattr-types = λ i l. getD-set-other words p _ v 0 (f .eattr-types i l);
-  labels = λ i l. getD-set-other words p _ v 0 (f .labels i l);
-  nodes = λ i l. getD-set-other words p _ v 0 (f .nodes i l);
-  of-nodes = λ i l. getD-set-other words p _ v 0 (f .of-nodes i l);
-  rels = λ i l. getD-set-other words p _ v 0 (f .rels i l);
-  of-rels = λ i l. getD-set-other words p _ v 0 (f .of-rels i l);
-  heads = λ k l. getD-set-other words p _ v 0 (f .heads k l);
-  firsts = λ k l. getD-set-other words p _ v 0 (f .firsts k l);
-  seconds = λ k l. getD-set-other words p _ v 0 (f .seconds k l);
+  tables = record {
+    size = length-set words p v;
+    vattrs = λ i l. getD-set-other words p _ v 0 (f .vattrs i l);
+    vattr-types = λ i l. getD-set-other words p _ v 0 (f .vattr-types i l);
+    eattrs = λ i l. getD-set-other words p _ v 0 (f .eattrs i l);
+    eattr-types = λ i l. getD-set-other words p _ v 0 (f .eattr-types i l);
+    labels = λ i l. getD-set-other words p _ v 0 (f .labels i l);
+    nodes = λ i l. getD-set-other words p _ v 0 (f .nodes i l);
+    of-nodes = λ i l. getD-set-other words p _ v 0 (f .of-nodes i l);
+    rels = λ i l. getD-set-other words p _ v 0 (f .rels i l);
+    of-rels = λ i l. getD-set-other words p _ v 0 (f .of-rels i l);
+    heads = λ k l. getD-set-other words p _ v 0 (f .heads k l);
+    firsts = λ k l. getD-set-other words p _ v 0 (f .firsts k l);
+    seconds = λ k l. getD-set-other words p _ v 0 (f .seconds k l);
+  };
+  chains = λ q l. getD-set-other words p q v 0 (let b = f .before-chains in omega arith);
+}
+
+-- words that are the same before the chains
+pub low-agrees : (c : BookCounts) (words words′ : List ℕ) → Within c → length words′ ≡ length words → ((p : ℕ) → p < nodeHeads → At words words′ p) → TablesAgree c words words′
+low-agrees c words words′ w e low = record {
+  size = e;
+  vattrs = λ i l. low (vattrNames + i) (omega arith);
+  vattr-types = λ i l. low (vattrNames + typesBehind + i) (omega arith);
+  eattrs = λ i l. low (eattrNames + i) (omega arith);
+  eattr-types = λ i l. low (eattrNames + typesBehind + i) (omega arith);
+  labels = λ i l. low (labelNames + i) (omega arith);
+  nodes = λ i l. low (nodeNames + i) (omega arith);
+  of-nodes = λ i l. low (nodeEntries + i) (omega arith);
+  rels = λ i l. low (relationships + i) (omega arith);
+  of-rels = λ i l. low (relationshipEntries + i) (omega arith);
+  heads = λ k l. low (entries + 3 * k) (omega arith);
+  firsts = λ k l. low (entries + 3 * k + 1) (omega arith);
+  seconds = λ k l. low (entries + 3 * k + 2) (omega arith);
 }
 
 -- words agree with themselves
-pub agree-same : (c : BookCounts) (words : List ℕ) → Agree c words words
-agree-same c words = record {
+pub tables-same : (c : BookCounts) (words : List ℕ) → TablesAgree c words words
+tables-same c words = record {
   size = refl;
   vattrs = λ i l. refl;
   vattr-types = λ i l. refl;
@@ -51,9 +88,12 @@ agree-same c words = record {
   seconds = λ i l. refl;
 }
 
+pub agree-same : (c : BookCounts) (words : List ℕ) → Agree c words words
+agree-same c words = record { tables = tables-same c words; chains = λ p l. refl }
+
 -- what agrees with words that agree
-pub agree-trans : (c : BookCounts) (a b d : List ℕ) → Agree c a b → Agree c b d → Agree c a d
-agree-trans c a b d x y = record {
+pub tables-trans : (c : BookCounts) (a b d : List ℕ) → TablesAgree c a b → TablesAgree c b d → TablesAgree c a d
+tables-trans c a b d x y = record {
   size = y .size ∙ x .size;
   vattrs = λ i l. y .vattrs i l ∙ x .vattrs i l;
   vattr-types = λ i l. y .vattr-types i l ∙ x .vattr-types i l;
@@ -68,6 +108,9 @@ agree-trans c a b d x y = record {
   firsts = λ k l. y .firsts k l ∙ x .firsts k l;
   seconds = λ k l. y .seconds k l ∙ x .seconds k l;
 }
+
+pub agree-trans : (c : BookCounts) (a b d : List ℕ) → Agree c a b → Agree c b d → Agree c a d
+agree-trans c a b d x y = record { tables = tables-trans c a b d (x .tables) (y .tables); chains = λ p l. y .chains p l ∙ x .chains p l }
 
 -- names
 module _ (text : Bytes) (words words′ : List ℕ) (offset count : ℕ) (same : (i : ℕ) → i < count → At words words′ (offset + i)) where
@@ -90,7 +133,7 @@ module _ (text : Bytes) (words words′ : List ℕ) (offset count : ℕ) (same :
   attrs-kept types = listed-same _ _ count (λ i l. rw (name-kept i l, types i l))
 
 -- entries, of attributes declared at an offset
-module _ (text : Bytes) (words words′ : List ℕ) (c : BookCounts) (a : Agree c words words′) where
+module _ (text : Bytes) (words words′ : List ℕ) (c : BookCounts) (a : TablesAgree c words words′) where
   module _ (offset declared : ℕ) (same : (i : ℕ) → i < declared → At words words′ (offset + i)) where
     pub entry-kept : (k : ℕ) → k < c .entries → EntryFits text words declared k → entryOf text words′ offset k ≡ entryOf text words offset k
     unfolding entryOf
@@ -144,8 +187,9 @@ module _ (text : Bytes) (words words′ : List ℕ) (c : BookCounts) (a : Agree 
           listed-same (relOf text words′) (relOf text words) (c .relationships) rel-kept,
         )
 
-    pub fits-kept : Fits text words′ c
-    fits-kept = record {
+    -- the chains apart, what is true of the words
+    pub tables-kept : TablesFit text words′ c
+    tables-kept = record {
       room = rw (a .size) (f .room);
       within = f .within;
       vattrs = names-fit-kept text words words′ vattrNames (c .vattrs) (a .vattrs) (f .vattrs);
@@ -156,4 +200,39 @@ module _ (text : Bytes) (words words′ : List ℕ) (c : BookCounts) (a : Agree 
       rels = λ i l. rw (a .rels i l) (f .rels i l);
       of-rels = λ i l. rw (a .of-rels i l) (entries-fit-kept (c .eattrs) (wordAt words (relationshipEntries + i)) (f .of-rels i l));
       counted = ap entryCount book-kept ∙ f .counted;
+    }
+
+    -- the keys of what is counted
+    pub slot-kept : (i : ℕ) → i < c .nodes → nodeSlot text words i ≡ nodeSlot text words′ i
+    slot-kept i l = ap slotOf (sym (name-kept text words words′ nodeNames (c .nodes) (a .nodes) i l))
+
+    pub from-kept : (i : ℕ) → i < c .relationships → relFrom words i ≡ relFrom words′ i
+    from-kept i l = ap (λ (w : ℕ). fromPart w) (sym (a .rels i l))
+
+    -- chains whose heads and links are the same
+    pub node-chains-kept : ((k : ℕ) → k < keys → At words words′ (nodeHeads + k)) → ((i : ℕ) → i < c .nodes → At words words′ (nodeLinks + i))
+        → Chained words′ nodeHeads nodeLinks keys (nodeSlot text words′) (c .nodes)
+    node-chains-kept g h = chained-kept words words′ nodeHeads nodeLinks keys (nodeSlot text words) (nodeSlot text words′) (c .nodes) (f .node-chains) g h slot-kept
+
+    pub rel-chains-kept : ((k : ℕ) → k < keys → At words words′ (fromHeads + k)) → ((i : ℕ) → i < c .relationships → At words words′ (fromLinks + i))
+        → Chained words′ fromHeads fromLinks keys (relFrom words′) (c .relationships)
+    rel-chains-kept g h = chained-kept words words′ fromHeads fromLinks keys (relFrom words) (relFrom words′) (c .relationships) (f .rel-chains) g h from-kept
+
+-- all that is true of the words
+pub fits-kept : (text : Bytes) (words words′ : List ℕ) (c : BookCounts) → Agree c words words′ → Fits text words c → Fits text words′ c
+fits-kept text words words′ c a f =
+    let t = tables-kept text words words′ c (a .tables) f in
+    record {
+      room = t .room;
+      within = t .within;
+      vattrs = t .vattrs;
+      eattrs = t .eattrs;
+      labels = t .labels;
+      nodes = t .nodes;
+      of-nodes = t .of-nodes;
+      rels = t .rels;
+      of-rels = t .of-rels;
+      counted = t .counted;
+      node-chains = node-chains-kept text words words′ c (a .tables) f (λ k l. a .chains (nodeHeads + k) (omega arith)) (λ i l. a .chains (nodeLinks + i) (omega arith));
+      rel-chains = rel-chains-kept text words words′ c (a .tables) f (λ k l. a .chains (fromHeads + k) (omega arith)) (λ i l. a .chains (fromLinks + i) (omega arith));
     }

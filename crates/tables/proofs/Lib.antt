@@ -1,6 +1,7 @@
 pub mod ListedLaws
 pub mod NameLaws
 pub mod RelationshipLaws
+pub mod Walks
 pub mod ValueLaws
 pub mod AgreeLaws
 pub mod Grow

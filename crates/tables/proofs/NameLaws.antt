@@ -7,11 +7,12 @@ use native.Mathlib.Omega.{arith}
 use lib.ListN.{length, getD, take, drop}
 use lib.Dec.{T, ltb}
 use borrow.Author.Tests.{lt-ltb, le-ltb}
-use Rattle.facts.specs.Tests.{either, equal-or-not, passes→true}
+use Rattle.facts.specs.Tests.{either, equal-or-not, below-or-not, passes→true}
 use Rattle.model.specs.Bytes.{Bytes, same}
 use Rattle.model.specs.Lists.{any, placeWhere}
 use Rattle.model.specs.Names.{mem, place}
 use Rattle.model.specs.Answers.{partOf}
+use Rattle.chains.specs.Slots.{slotOf}
 use Rattle.model.proofs.Decides.{same→eq, same-refl}
 use Rattle.tables.specs.Listed.{listed}
 use Rattle.model.specs.Book.{Book, attrNames, nodeNames}
@@ -19,7 +20,7 @@ use Rattle.tables.specs.declared.BookCounts.{BookCounts}
 use Rattle.tables.specs.Layout as layout
 use Rattle.tables.specs.View.{wordAt, nameIn, nameOf, namesAt, attrOf, attrsAt, nodeOf, bookAt}
 use Rattle.tables.specs.Fits.{Inside, NamesFit}
-use Rattle.tables.proofs.ListedLaws.{listed-more, length-listed, map-listed, getD-listed, scan-found, scan-place, scan-absent, place-inside, place-none, place-passes}
+use Rattle.tables.proofs.ListedLaws.{listed-more, length-listed, map-listed, getD-listed, scan-all, scan-found, scan-place, scan-absent, place-inside, place-none, place-passes}
 
 true→T : (b : Bool) → b ≡ true → T b
 true→T b e = subst T (sym e) tt
@@ -105,11 +106,31 @@ module _ (name text : Bytes) (words : List ℕ) (offset count : ℕ) where
   unfolding place namesAt
   found-none i e none = sym (scan-absent (same name) (nameOf text words offset) count (rw e at none))
 
+  -- among names of which no two are the same, one that is the name is at its place
+  pub found-only : NamesFit text words offset count → (i : ℕ) → i < count → same name (nameOf text words offset i) ≡ true → i ≡ place name (namesAt text words offset count)
+  found-only f i l t =
+      let e = same-equal name (nameOf text words offset i) t in
+      let yes = name-mem text words offset count name i l (sym e) in
+      either (below-or-not (place name (namesAt text words offset count)) count)
+      (λ m. f .differ i (place name (namesAt text words offset count)) l m (sym e ∙ sym (place-named text words offset count name m)))
+      (λ m. let no = place-out text words offset count name m in let z : _≡_ {A = ℕ} 0 1 = cc in absurd (omega arith))
+
+  -- names with another slot are other names
+  pub found-none-in-slot : ((i : ℕ) → i < count → slotOf (nameOf text words offset i) ≡ slotOf name → same name (nameOf text words offset i) ≡ false)
+      → count ≡ place name (namesAt text words offset count)
+  found-none-in-slot h = found-none count refl (scan-all (same name) (nameOf text words offset) count (λ i l. go i l (same name (nameOf text words offset i)) refl))
+    where
+      go : (i : ℕ) → i < count → (b : Bool) → same name (nameOf text words offset i) ≡ b → same name (nameOf text words offset i) ≡ false
+      go i l true e = h i l (ap slotOf (sym (same-equal name (nameOf text words offset i) e)))
+      go i l false e = e
+
+-- the part of the text that a word says
+pub word-slice : (text : Bytes) (w : ℕ) → take (w / 32 + w % 32 - w / 32) (drop (w / 32) text) ≡ nameIn text w
+unfolding nameIn partOf
+word-slice text w = let e : w / 32 + w % 32 - w / 32 ≡ w % 32 = omega arith in rw e
+
 -- the part of the text that a name's word says
 pub name-slice : (text : Bytes) (words : List ℕ) (offset i : ℕ)
     → take (wordAt words (offset + i) / 32 + wordAt words (offset + i) % 32 - wordAt words (offset + i) / 32) (drop (wordAt words (offset + i) / 32) text) ≡ nameOf text words offset i
-unfolding nameOf nameIn partOf
-name-slice text words offset i =
-    let w : ℕ = wordAt words (offset + i) in
-    let e : w / 32 + w % 32 - w / 32 ≡ w % 32 = omega arith in
-    rw e
+unfolding nameOf
+name-slice text words offset i = word-slice text (wordAt words (offset + i))

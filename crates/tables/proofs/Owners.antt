@@ -1,6 +1,7 @@
 -- A store of a node or a relationship, behind the store of its entries, adds its line.
 use Prim.Native.Nat.{ℕ, _+_, _*_, _/_, _%_, _≤_, _<_}
 use mathlib.Core.Path.{_≡_, refl, sym, ap, _∙_}
+use mathlib.Core.Logic.{_≢_}
 use mathlib.Core.List.{List, [], _∷_, _++_, map}
 use native.Mathlib.Omega.{arith}
 use lib.ListN.{length, set, length-set}
@@ -13,16 +14,20 @@ use Rattle.model.specs.Values.{Entry}
 use Rattle.model.specs.Book.{Node, Rel, Book, nodeNames, entryCount}
 use Rattle.model.specs.BookLines.{node, rel}
 use Rattle.model.specs.ReadBook.{addLine}
+use Rattle.chains.specs.Chains.{Chained}
+use Rattle.chains.specs.Slots.{slotOf}
+use Rattle.chains.proofs.ChainLaws.{length-linked, linked-apart, linked-chained, chained-kept}
+use Rattle.chains.proofs.SlotLaws.{slot-small}
 use Rattle.tables.specs.declared.BookCounts.{BookCounts}
 use Rattle.tables.specs.Listed.{listed}
-use Rattle.tables.specs.Layout.{vattrNames, eattrNames, labelNames, nodeNames as nodesAt, nodeEntries, relationships, relationshipEntries, entries}
-use Rattle.tables.specs.View.{wordAt, nameIn, nameOf, entriesFrom, entriesIn, nodeOf, labelPart, fromPart, toPart, relOf, bookAt}
+use Rattle.tables.specs.Layout.{vattrNames, eattrNames, labelNames, nodeNames as nodesAt, nodeEntries, relationships, relationshipEntries, entries, nodeHeads, nodeLinks, fromHeads, fromLinks, keys}
+use Rattle.tables.specs.View.{wordAt, nameIn, nameOf, entriesFrom, entriesIn, nodeOf, labelPart, fromPart, toPart, nodeSlot, relFrom, relOf, bookAt}
 use Rattle.tables.specs.Fits.{EntriesFit, RelFits, Fits, Holds}
-use Rattle.tables.specs.Stores.{moreNodes, moreRels, withNode, withRel, ownEntries, EntriesStored}
+use Rattle.tables.specs.Stores.{moreNodes, moreRels, nodeStored, withNode, relStored, withRel, ownEntries, EntriesStored}
 use Rattle.tables.proofs.ListedLaws.{listed-more, listed-same, map-end, sum-end}
 use Rattle.tables.proofs.NameLaws.{names-fit-more, node-names}
-use Rattle.tables.specs.Agree.{Free, Agree}
-use Rattle.tables.proofs.AgreeLaws.{set-agrees, agree-trans, name-kept, entry-kept, entry-fit-kept, book-kept, fits-kept}
+use Rattle.tables.specs.Agree.{Free, TablesAgree, Agree}
+use Rattle.tables.proofs.AgreeLaws.{TablesFit, set-agrees, low-agrees, tables-trans, agree-trans, name-kept, entry-kept, entry-fit-kept, book-kept, tables-kept, slot-kept, from-kept, node-chains-kept, rel-chains-kept}
 use Rattle.tables.proofs.Grow.{entries-fit-more, rel-fits-more, own-entries, own-fit}
 use Rattle.tables.proofs.Added.{NewName}
 
@@ -31,8 +36,8 @@ abbrev pub pending : BookCounts → ℕ → BookCounts
 pending c n = record { vattrs = c .vattrs; eattrs = c .eattrs; labels = c .labels; nodes = c .nodes; relationships = c .relationships; entries = c .entries + n }
 
 -- words that agree on the pending entries too agree on what is counted
-pub agree-counted : (c : BookCounts) (n : ℕ) (words words′ : List ℕ) → Agree (pending c n) words words′ → Agree c words words′
-agree-counted c n words words′ a = record {
+pub tables-counted : (c : BookCounts) (n : ℕ) (words words′ : List ℕ) → TablesAgree (pending c n) words words′ → TablesAgree c words words′
+tables-counted c n words words′ a = record {
   size = a .size;
   vattrs = a .vattrs;
   vattr-types = a .vattr-types;
@@ -48,9 +53,12 @@ agree-counted c n words words′ a = record {
   seconds = λ k l. a .seconds k (omega arith);
 }
 
+pub agree-counted : (c : BookCounts) (n : ℕ) (words words′ : List ℕ) → Agree (pending c n) words words′ → Agree c words words′
+agree-counted c n words words′ a = record { tables = tables-counted c n words words′ (a .tables); chains = a .chains }
+
 -- entries stored behind those counted are kept by words that agree on them
 pub stored-kept : (text : Bytes) (words words′ : List ℕ) (c : BookCounts) (offset declared : ℕ) (es : List Entry)
-    → Agree (pending c (length es)) words words′
+    → TablesAgree (pending c (length es)) words words′
     → ((i : ℕ) → i < declared → wordAt words′ (offset + i) ≡ wordAt words (offset + i))
     → EntriesStored text words offset declared (c .entries) es → EntriesStored text words′ offset declared (c .entries) es
 unfolding entriesFrom
@@ -82,11 +90,15 @@ module _ (text : Bytes) (words : List ℕ) (c : BookCounts) (b : Book) (holds : 
 
   module _ (w : ℕ) (room : c .nodes < 256) (name : NewName text (nodeNames b) w) (stored : EntriesStored text words vattrNames (c .vattrs) (c .entries) es) where
     abbrev node-words : List ℕ
-    node-words = withNode words c w (length es)
+    node-words = withNode text words c w (length es)
 
-    node-agrees : Agree (pending c (length es)) words node-words
-    unfolding withNode
-    node-agrees =
+    abbrev node-tables : List ℕ
+    node-tables = nodeStored words c w (length es)
+
+    -- the tables first
+    node-stores : Agree (pending c (length es)) words node-tables
+    unfolding nodeStored
+    node-stores =
         let l = holds .fits .within in
         let one : Free (pending c (length es)) (nodesAt + c .nodes) = omega arith in
         let two : Free (pending c (length es)) (nodeEntries + c .nodes) = omega arith in
@@ -94,15 +106,35 @@ module _ (text : Bytes) (words : List ℕ) (c : BookCounts) (b : Book) (holds : 
         (set-agrees (pending c (length es)) words (nodesAt + c .nodes) w one)
         (set-agrees (pending c (length es)) (set words (nodesAt + c .nodes) w) (nodeEntries + c .nodes) (ownEntries c (length es)) two)
 
-    node-at : wordAt node-words (nodesAt + c .nodes) ≡ w
+    -- then the chain: it changes its head and the node's link
+    node-linked : (p : ℕ) → p ≢ nodeHeads + slotOf (nameIn text w) → p ≢ nodeLinks + c .nodes → wordAt node-words p ≡ wordAt node-tables p
     unfolding withNode
+    node-linked p d e = linked-apart node-tables nodeHeads nodeLinks (slotOf (nameIn text w)) (c .nodes) p d e
+
+    node-low : (p : ℕ) → p < nodeHeads → wordAt node-words p ≡ wordAt node-tables p
+    node-low p l = node-linked p (omega arith) (omega arith)
+
+    node-length : length node-words ≡ length node-tables
+    unfolding withNode
+    node-length = length-linked node-tables nodeHeads nodeLinks (slotOf (nameIn text w)) (c .nodes)
+
+    node-agrees : TablesAgree (pending c (length es)) words node-words
+    node-agrees =
+        tables-trans (pending c (length es)) words node-tables node-words (node-stores .tables)
+        (low-agrees (pending c (length es)) node-tables node-words (let l = holds .fits .within in omega arith) node-length node-low)
+
+    node-at : wordAt node-words (nodesAt + c .nodes) ≡ w
+    unfolding nodeStored
     node-at =
-        getD-set-other (set words (nodesAt + c .nodes) w) (nodeEntries + c .nodes) (nodesAt + c .nodes) (ownEntries c (length es)) 0 (omega arith)
+        node-low (nodesAt + c .nodes) (omega arith)
+        ∙ getD-set-other (set words (nodesAt + c .nodes) w) (nodeEntries + c .nodes) (nodesAt + c .nodes) (ownEntries c (length es)) 0 (omega arith)
         ∙ getD-set-same words (nodesAt + c .nodes) w 0 (omega (arith, holds .fits .room))
 
     node-entries-at : wordAt node-words (nodeEntries + c .nodes) ≡ ownEntries c (length es)
-    unfolding withNode
-    node-entries-at = getD-set-same (set words (nodesAt + c .nodes) w) (nodeEntries + c .nodes) (ownEntries c (length es)) 0 (rw length-set (omega (arith, holds .fits .room)))
+    unfolding nodeStored
+    node-entries-at =
+        node-low (nodeEntries + c .nodes) (omega arith)
+        ∙ getD-set-same (set words (nodesAt + c .nodes) w) (nodeEntries + c .nodes) (ownEntries c (length es)) 0 (rw length-set (omega (arith, holds .fits .room)))
 
     node-stored : EntriesStored text node-words vattrNames (c .vattrs) (c .entries) es
     node-stored = stored-kept text words node-words c vattrNames (c .vattrs) es node-agrees (node-agrees .vattrs) stored
@@ -115,11 +147,32 @@ module _ (text : Bytes) (words : List ℕ) (c : BookCounts) (b : Book) (holds : 
     unfolding nodeOf
     node-last = rw (node-named, node-entries-at, own-entries text node-words vattrNames (c .vattrs) c es node-stored few)
 
-    node-counted : Agree c words node-words
-    node-counted = agree-counted c (length es) words node-words node-agrees
+    node-counted : TablesAgree c words node-words
+    node-counted = tables-counted c (length es) words node-words node-agrees
 
-    node-fits : Fits text node-words c
-    node-fits = fits-kept text words node-words c node-counted (holds .fits)
+    node-fits : TablesFit text node-words c
+    node-fits = tables-kept text words node-words c node-counted (holds .fits)
+
+    -- the node is in front of the chain of its slot, and the chains of the relationships are as they were
+    node-chains : Chained node-words nodeHeads nodeLinks keys (nodeSlot text node-words) (c .nodes + 1)
+    unfolding withNode
+    node-chains =
+        linked-chained node-tables nodeHeads nodeLinks (slotOf (nameIn text w)) (c .nodes) keys (nodeSlot text node-words)
+        (omega arith)
+        (omega (arith, node-stores .tables .size, holds .fits .room))
+        (slot-small (nameIn text w))
+        (ap slotOf node-named)
+        (chained-kept words node-tables nodeHeads nodeLinks keys (nodeSlot text words) (nodeSlot text node-words) (c .nodes) (holds .fits .node-chains)
+        (λ k l. node-stores .chains (nodeHeads + k) (omega arith))
+        (λ i l. node-stores .chains (nodeLinks + i) (omega arith))
+        (slot-kept text words node-words c node-counted (holds .fits)))
+
+    node-rel-chains : Chained node-words fromHeads fromLinks keys (relFrom node-words) (c .relationships)
+    node-rel-chains =
+        let small = slot-small (nameIn text w) in
+        rel-chains-kept text words node-words c node-counted (holds .fits)
+        (λ k l. node-linked (fromHeads + k) (omega arith) (omega arith) ∙ node-stores .chains (fromHeads + k) (omega arith))
+        (λ i l. node-linked (fromLinks + i) (omega arith) (omega arith) ∙ node-stores .chains (fromLinks + i) (omega arith))
 
     node-before : bookAt text node-words c ≡ b
     node-before = book-kept text words node-words c node-counted (holds .fits) ∙ holds .is
@@ -128,7 +181,7 @@ module _ (text : Bytes) (words : List ℕ) (c : BookCounts) (b : Book) (holds : 
     unfolding bookAt addLine
     node-is = rw (listed-more (nodeOf text node-words) (c .nodes), node-last) (ap (λ (x : Book). addLine x (node (nameIn text w) es)) node-before)
 
-    pub node-added : Holds text (withNode words c w (length es)) (moreNodes c (length es)) (addLine b (node (nameIn text w) es))
+    pub node-added : Holds text (withNode text words c w (length es)) (moreNodes c (length es)) (addLine b (node (nameIn text w) es))
     node-added =
         let f = node-fits in
         record {
@@ -146,6 +199,8 @@ module _ (text : Bytes) (words : List ℕ) (c : BookCounts) (b : Book) (holds : 
             rels = λ i l. rel-fits-more (c .labels) (c .labels) (c .nodes) (c .nodes + 1) _ (omega arith) (omega arith) (f .rels i l);
             of-rels = λ i l. entries-fit-more text node-words (c .eattrs) (c .eattrs) (c .entries) (c .entries + length es) _ (omega arith) (omega arith) (f .of-rels i l);
             counted = ap entryCount node-is ∙ node-counts b (nameIn text w) es ∙ ap (λ (n : ℕ). n + length es) entries-before;
+            node-chains = node-chains;
+            rel-chains = node-rel-chains;
           };
           is = node-is;
         }
@@ -159,9 +214,13 @@ module _ (text : Bytes) (words : List ℕ) (c : BookCounts) (b : Book) (holds : 
     abbrev rel-words : List ℕ
     rel-words = withRel words c rel-word (length es)
 
-    rel-agrees : Agree (pending c (length es)) words rel-words
-    unfolding withRel
-    rel-agrees =
+    abbrev rel-tables : List ℕ
+    rel-tables = relStored words c rel-word (length es)
+
+    -- the tables first
+    rel-stores : Agree (pending c (length es)) words rel-tables
+    unfolding relStored
+    rel-stores =
         let l = holds .fits .within in
         let one : Free (pending c (length es)) (relationships + c .relationships) = omega arith in
         let two : Free (pending c (length es)) (relationshipEntries + c .relationships) = omega arith in
@@ -170,16 +229,35 @@ module _ (text : Bytes) (words : List ℕ) (c : BookCounts) (b : Book) (holds : 
         (set-agrees (pending c (length es)) words (relationships + c .relationships) rel-word one)
         (set-agrees (pending c (length es)) (set words (relationships + c .relationships) rel-word) (relationshipEntries + c .relationships) (ownEntries c (length es)) two)
 
-    rel-at : wordAt rel-words (relationships + c .relationships) ≡ rel-word
+    -- then the chain: it changes its head and the relationship's link
+    rel-linked : (p : ℕ) → p ≢ fromHeads + fromPart rel-word → p ≢ fromLinks + c .relationships → wordAt rel-words p ≡ wordAt rel-tables p
     unfolding withRel
+    rel-linked p d e = linked-apart rel-tables fromHeads fromLinks (fromPart rel-word) (c .relationships) p d e
+
+    rel-low : (p : ℕ) → p < fromHeads → wordAt rel-words p ≡ wordAt rel-tables p
+    rel-low p l = rel-linked p (omega arith) (omega arith)
+
+    rel-length : length rel-words ≡ length rel-tables
+    unfolding withRel
+    rel-length = length-linked rel-tables fromHeads fromLinks (fromPart rel-word) (c .relationships)
+
+    rel-agrees : TablesAgree (pending c (length es)) words rel-words
+    rel-agrees =
+        tables-trans (pending c (length es)) words rel-tables rel-words (rel-stores .tables)
+        (low-agrees (pending c (length es)) rel-tables rel-words (let l = holds .fits .within in omega arith) rel-length (λ p l. rel-low p (omega arith)))
+
+    rel-at : wordAt rel-words (relationships + c .relationships) ≡ rel-word
+    unfolding relStored
     rel-at =
-        getD-set-other (set words (relationships + c .relationships) rel-word) (relationshipEntries + c .relationships) (relationships + c .relationships) (ownEntries c (length es)) 0 (omega arith)
+        rel-low (relationships + c .relationships) (omega arith)
+        ∙ getD-set-other (set words (relationships + c .relationships) rel-word) (relationshipEntries + c .relationships) (relationships + c .relationships) (ownEntries c (length es)) 0 (omega arith)
         ∙ getD-set-same words (relationships + c .relationships) rel-word 0 (omega (arith, holds .fits .room))
 
     rel-entries-at : wordAt rel-words (relationshipEntries + c .relationships) ≡ ownEntries c (length es)
-    unfolding withRel
+    unfolding relStored
     rel-entries-at =
-        getD-set-same (set words (relationships + c .relationships) rel-word) (relationshipEntries + c .relationships) (ownEntries c (length es)) 0 (rw length-set (omega (arith, holds .fits .room)))
+        rel-low (relationshipEntries + c .relationships) (omega arith)
+        ∙ getD-set-same (set words (relationships + c .relationships) rel-word) (relationshipEntries + c .relationships) (ownEntries c (length es)) 0 (rw length-set (omega (arith, holds .fits .room)))
 
     rel-stored : EntriesStored text rel-words eattrNames (c .eattrs) (c .entries) es
     rel-stored = stored-kept text words rel-words c eattrNames (c .eattrs) es rel-agrees (rel-agrees .eattrs) stored
@@ -208,11 +286,32 @@ module _ (text : Bytes) (words : List ℕ) (c : BookCounts) (b : Book) (holds : 
       own-entries text rel-words eattrNames (c .eattrs) c es rel-stored few,
     )
 
-    rel-counted : Agree c words rel-words
-    rel-counted = agree-counted c (length es) words rel-words rel-agrees
+    rel-counted : TablesAgree c words rel-words
+    rel-counted = tables-counted c (length es) words rel-words rel-agrees
 
-    rel-fits : Fits text rel-words c
-    rel-fits = fits-kept text words rel-words c rel-counted (holds .fits)
+    rel-fits : TablesFit text rel-words c
+    rel-fits = tables-kept text words rel-words c rel-counted (holds .fits)
+
+    -- the relationship is in front of the chain of the node that it leaves, and the chains of the nodes are as they were
+    rel-chains : Chained rel-words fromHeads fromLinks keys (relFrom rel-words) (c .relationships + 1)
+    unfolding withRel
+    rel-chains =
+        linked-chained rel-tables fromHeads fromLinks (fromPart rel-word) (c .relationships) keys (relFrom rel-words)
+        (omega arith)
+        (omega (arith, rel-stores .tables .size, holds .fits .room))
+        (omega arith)
+        (ap (λ (v : ℕ). fromPart v) rel-at)
+        (chained-kept words rel-tables fromHeads fromLinks keys (relFrom words) (relFrom rel-words) (c .relationships) (holds .fits .rel-chains)
+        (λ k l. rel-stores .chains (fromHeads + k) (omega arith))
+        (λ i l. rel-stores .chains (fromLinks + i) (omega arith))
+        (from-kept text words rel-words c rel-counted (holds .fits)))
+
+    rel-node-chains : Chained rel-words nodeHeads nodeLinks keys (nodeSlot text rel-words) (c .nodes)
+    rel-node-chains =
+        let m = holds .fits .within in
+        node-chains-kept text words rel-words c rel-counted (holds .fits)
+        (λ k l. rel-low (nodeHeads + k) (omega arith) ∙ rel-stores .chains (nodeHeads + k) (omega arith))
+        (λ i l. rel-low (nodeLinks + i) (omega arith) ∙ rel-stores .chains (nodeLinks + i) (omega arith))
 
     rel-before : bookAt text rel-words c ≡ b
     rel-before = book-kept text words rel-words c rel-counted (holds .fits) ∙ holds .is
@@ -247,6 +346,8 @@ module _ (text : Bytes) (words : List ℕ) (c : BookCounts) (b : Book) (holds : 
                 (λ e. rw (e, rel-entries-at) (own-fit text rel-words eattrNames (c .eattrs) c es rel-stored few))
                 (λ e. entries-fit-more text rel-words (c .eattrs) (c .eattrs) (c .entries) (c .entries + length es) _ (omega arith) (omega arith) (f .of-rels i (omega arith)));
             counted = ap entryCount rel-is ∙ rel-counts b label from to es ∙ ap (λ (n : ℕ). n + length es) entries-before;
+            node-chains = rel-node-chains;
+            rel-chains = rel-chains;
           };
           is = rel-is;
         }

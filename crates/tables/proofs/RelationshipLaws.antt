@@ -5,7 +5,8 @@ use mathlib.Core.List.{List}
 use mathlib.Core.Bool.{Bool, true, false, _&&_}
 use native.Mathlib.Omega.{arith}
 use lib.Dec.{eqb}
-use borrow.Author.Tests.{eq-eqb, ne-eqb, eqb-true}
+use borrow.Author.Tests.{eq-eqb, eqb-true}
+use Rattle.facts.specs.Tests.{either, equal-or-not}
 use Rattle.model.specs.Bytes.{Bytes, same}
 use Rattle.model.specs.Lists.{any}
 use Rattle.model.specs.Book.{Rel}
@@ -13,9 +14,9 @@ use Rattle.model.specs.ReadBook.{related}
 use Rattle.tables.specs.declared.BookCounts.{BookCounts}
 use Rattle.tables.specs.Listed.{listed}
 use Rattle.tables.specs.Layout.{labelNames}
-use Rattle.tables.specs.View.{nameOf, labelPart, fromPart, toPart, relWord, relOf, bookAt}
+use Rattle.tables.specs.View.{nameOf, labelPart, fromPart, toPart, relWord, relFrom, relOf, bookAt}
 use Rattle.tables.specs.Fits.{Fits}
-use Rattle.tables.proofs.ListedLaws.{scan-none, scan-on, scan-found}
+use Rattle.tables.proofs.ListedLaws.{scan-all, scan-found}
 use Rattle.tables.proofs.NameLaws.{equal-same, same-equal}
 
 -- a relationship runs with label l from x to y
@@ -33,7 +34,7 @@ not-all false b c h = refl
 
 module _ (text : Bytes) (words : List ℕ) (c : BookCounts) (f : Fits text words c)
     (l x y : ℕ) (lin : l < c .labels) (xin : x < c .nodes) (yin : y < c .nodes) where
-  abbrev runs : Rel → Bool
+  abbrev pub runs : Rel → Bool
   runs = runsBetween (nameOf text words labelNames l) x y
 
   runs-yes : (i : ℕ) → relWord words i ≡ l * 65536 + x * 256 + y → runs (relOf text words i) ≡ true
@@ -45,7 +46,7 @@ module _ (text : Bytes) (words : List ℕ) (c : BookCounts) (f : Fits text words
       (eq-eqb _ _ (let q : fromPart (relWord words i) ≡ x = omega arith in q))
       (eq-eqb _ _ (let q : toPart (relWord words i) ≡ y = omega arith in q))
 
-  runs-no : (i : ℕ) → i < c .relationships → (relWord words i ≡ l * 65536 + x * 256 + y → ⊥) → runs (relOf text words i) ≡ false
+  pub runs-no : (i : ℕ) → i < c .relationships → (relWord words i ≡ l * 65536 + x * 256 + y → ⊥) → runs (relOf text words i) ≡ false
   unfolding runsBetween relOf
   runs-no i h n = not-all _ _ _ (λ p q r.
       let a : labelPart (relWord words i) ≡ l = f .labels .differ (labelPart (relWord words i)) l (f .rels i h .label) lin (same-equal _ _ p) in
@@ -53,20 +54,15 @@ module _ (text : Bytes) (words : List ℕ) (c : BookCounts) (f : Fits text words
       let d = eqb-true (toPart (relWord words i)) y r in
       n (omega arith))
 
-  -- a scan of the relationships' words upwards
-  pub related-none : any runs (listed (relOf text words) 0) ≡ false
-  related-none = scan-none runs (relOf text words)
-
-  pub related-on : (i : ℕ) → i < c .relationships → (relWord words i ≡ l * 65536 + x * 256 + y → ⊥)
-      → any runs (listed (relOf text words) i) ≡ false → any runs (listed (relOf text words) (i + 1)) ≡ false
-  related-on i h n before = scan-on runs (relOf text words) i before (runs-no i h n)
-
+  -- a walk along the chain of the node x
   pub related-here : (i : ℕ) → i < c .relationships → relWord words i ≡ l * 65536 + x * 256 + y
       → true ≡ related (bookAt text words c) (nameOf text words labelNames l) x y
   unfolding related bookAt runsBetween
   related-here i h e = sym (scan-found runs (relOf text words) (c .relationships) i h (runs-yes i e))
 
-  pub related-not : (i : ℕ) → i ≡ c .relationships → any runs (listed (relOf text words) i) ≡ false
+  pub related-not : ((i : ℕ) → i < c .relationships → relFrom words i ≡ x → runs (relOf text words i) ≡ false)
       → false ≡ related (bookAt text words c) (nameOf text words labelNames l) x y
   unfolding related bookAt runsBetween
-  related-not i e none = sym (ap (λ (n : ℕ). any runs (listed (relOf text words) n)) (sym e) ∙ none)
+  related-not h = sym (scan-all runs (relOf text words) (c .relationships) (λ i m. either (equal-or-not (relFrom words i) x)
+      (h i m)
+      (λ (_, d). runs-no i m (λ e. let w = f .within in d (omega arith)))))

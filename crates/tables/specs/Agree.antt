@@ -1,14 +1,14 @@
 -- Words that are not counted, and memories that agree on all that is.
-use Prim.Native.Nat.{ℕ, _+_, _*_, _<_}
+use Prim.Native.Nat.{ℕ, _+_, _*_, _≤_, _<_}
 use mathlib.Core.Path.{_≡_}
 use mathlib.Core.Logic.{_≢_}
 use mathlib.Core.List.{List}
 use lib.ListN.{length}
 use Rattle.tables.specs.declared.BookCounts.{BookCounts}
-use Rattle.tables.specs.Layout.{vattrNames, eattrNames, typesBehind, labelNames, nodeNames, nodeEntries, relationships, relationshipEntries, entries}
+use Rattle.tables.specs.Layout.{vattrNames, eattrNames, typesBehind, labelNames, nodeNames, nodeEntries, relationships, relationshipEntries, entries, nodeHeads}
 use Rattle.tables.specs.View.{wordAt}
 
--- a place is that of no word counted
+-- a place is that of no word counted, and of none of a chain
 pub record Free (c : BookCounts) (p : ℕ) : Type 0 where
   pub vattrs : (i : ℕ) → i < c .vattrs → vattrNames + i ≢ p
   pub vattr-types : (i : ℕ) → i < c .vattrs → vattrNames + typesBehind + i ≢ p
@@ -22,13 +22,14 @@ pub record Free (c : BookCounts) (p : ℕ) : Type 0 where
   pub heads : (k : ℕ) → k < c .entries → entries + 3 * k ≢ p
   pub firsts : (k : ℕ) → k < c .entries → entries + 3 * k + 1 ≢ p
   pub seconds : (k : ℕ) → k < c .entries → entries + 3 * k + 2 ≢ p
+  pub before-chains : p < nodeHeads
 
 -- two memories have the same word at a place
 abbrev pub At : List ℕ → List ℕ → ℕ → Type 0
 At words words′ p = wordAt words′ p ≡ wordAt words p
 
--- all words counted are the same in two memories
-pub record Agree (c : BookCounts) (words words′ : List ℕ) : Type 0 where
+-- all words counted in the tables are the same in two memories
+pub record TablesAgree (c : BookCounts) (words words′ : List ℕ) : Type 0 where
   pub size : length words′ ≡ length words
   pub vattrs : (i : ℕ) → i < c .vattrs → At words words′ (vattrNames + i)
   pub vattr-types : (i : ℕ) → i < c .vattrs → At words words′ (vattrNames + typesBehind + i)
@@ -42,3 +43,8 @@ pub record Agree (c : BookCounts) (words words′ : List ℕ) : Type 0 where
   pub heads : (k : ℕ) → k < c .entries → At words words′ (entries + 3 * k)
   pub firsts : (k : ℕ) → k < c .entries → At words words′ (entries + 3 * k + 1)
   pub seconds : (k : ℕ) → k < c .entries → At words words′ (entries + 3 * k + 2)
+
+-- and all words of chains
+pub record Agree (c : BookCounts) (words words′ : List ℕ) : Type 0 where
+  pub tables : TablesAgree c words words′
+  pub chains : (p : ℕ) → nodeHeads ≤ p → At words words′ p

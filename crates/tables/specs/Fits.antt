@@ -1,13 +1,14 @@
--- What is true of the tables' words whenever they hold a book: everything counted stands inside its table, and points inside the text.
+-- What is true of the tables' words whenever they hold a book: everything counted stands inside its table, and points inside the text; and the chains are right.
 use Prim.Native.Nat.{ℕ, _+_, _*_, _/_, _%_, _≤_, _<_}
 use mathlib.Core.Path.{_≡_}
 use mathlib.Core.List.{List}
 use lib.ListN.{length}
 use Rattle.model.specs.Bytes.{Bytes}
 use Rattle.model.specs.Book.{Book, entryCount}
+use Rattle.chains.specs.Chains.{Chained}
 use Rattle.tables.specs.declared.BookCounts.{BookCounts}
-use Rattle.tables.specs.Layout.{vattrNames, eattrNames, labelNames, nodeNames, nodeEntries, relationshipEntries, entries, bookWords}
-use Rattle.tables.specs.View.{wordAt, startPart, countPart, nameOf, entryHead, labelPart, fromPart, toPart, relWord, bookAt}
+use Rattle.tables.specs.Layout.{vattrNames, eattrNames, labelNames, nodeNames, nodeEntries, relationshipEntries, entries, nodeHeads, nodeLinks, fromHeads, fromLinks, keys, bookWords}
+use Rattle.tables.specs.View.{wordAt, startPart, countPart, nameOf, entryHead, labelPart, fromPart, toPart, relWord, nodeSlot, relFrom, bookAt}
 
 -- a part of the text, by its start and length, ends inside it
 abbrev pub Inside : Bytes → ℕ → ℕ → Type 0
@@ -54,6 +55,8 @@ pub record Fits (text : Bytes) (words : List ℕ) (c : BookCounts) : Type 0 wher
   pub rels : (i : ℕ) → i < c .relationships → RelFits (c .labels) (c .nodes) (relWord words i)
   pub of-rels : (i : ℕ) → i < c .relationships → EntriesFit text words (c .eattrs) (c .entries) (wordAt words (relationshipEntries + i))
   pub counted : entryCount (bookAt text words c) ≡ c .entries
+  pub node-chains : Chained words nodeHeads nodeLinks keys (nodeSlot text words) (c .nodes)
+  pub rel-chains : Chained words fromHeads fromLinks keys (relFrom words) (c .relationships)
 
 -- the words hold a book
 pub record Holds (text : Bytes) (words : List ℕ) (c : BookCounts) (b : Book) : Type 0 where

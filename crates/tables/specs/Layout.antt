@@ -34,6 +34,24 @@ relationshipEntries = 1696
 abbrev pub entries : ℕ
 entries = 2720
 
--- all tables together, room for an index included
+-- the chains of the nodes by the slots of their names: 256 heads, and a link for each node
+abbrev pub nodeHeads : ℕ
+nodeHeads = 8864
+
+abbrev pub nodeLinks : ℕ
+nodeLinks = 9120
+
+-- the chains of the relationships by the node that they leave: 256 heads, and a link for each relationship
+abbrev pub fromHeads : ℕ
+fromHeads = 9376
+
+abbrev pub fromLinks : ℕ
+fromLinks = 9632
+
+-- how many keys the chains of either kind have
+abbrev pub keys : ℕ
+keys = 256
+
+-- all tables and chains together
 abbrev pub bookWords : ℕ
 bookWords = 10752

@@ -5,9 +5,11 @@ use mathlib.Core.List.{List}
 use lib.ListN.{length, set}
 use Rattle.model.specs.Bytes.{Bytes}
 use Rattle.model.specs.Values.{Entry}
+use Rattle.chains.specs.Chains.{cleared, linked}
+use Rattle.chains.specs.Slots.{slotOf}
 use Rattle.tables.specs.declared.BookCounts.{BookCounts}
-use Rattle.tables.specs.Layout.{vattrNames, eattrNames, typesBehind, labelNames, nodeNames, nodeEntries, relationships, relationshipEntries, entries}
-use Rattle.tables.specs.View.{entriesFrom}
+use Rattle.tables.specs.Layout.{vattrNames, eattrNames, typesBehind, labelNames, nodeNames, nodeEntries, relationships, relationshipEntries, entries, nodeHeads, nodeLinks, fromHeads, fromLinks, keys}
+use Rattle.tables.specs.View.{nameIn, entriesFrom, fromPart}
 use Rattle.tables.specs.Fits.{EntryFits}
 
 -- the counts of a book of no lines
@@ -30,6 +32,10 @@ moreNodes c n = record { vattrs = c .vattrs; eattrs = c .eattrs; labels = c .lab
 abbrev pub moreRels : BookCounts → ℕ → BookCounts
 moreRels c n = record { vattrs = c .vattrs; eattrs = c .eattrs; labels = c .labels; nodes = c .nodes; relationships = c .relationships + 1; entries = c .entries + n }
 
+-- the words without a node or a relationship in any chain
+unfoldable pub withoutChains : List ℕ → List ℕ
+withoutChains words = cleared (cleared words nodeHeads keys) fromHeads keys
+
 -- a declared attribute at an offset: its name and its type
 unfoldable pub withAttr : List ℕ → ℕ → ℕ → ℕ → ℕ → List ℕ
 withAttr words offset count name type = set (set words (offset + count) name) (offset + typesBehind + count) type
@@ -42,13 +48,19 @@ withLabel words c name = set words (labelNames + c .labels) name
 abbrev pub ownEntries : BookCounts → ℕ → ℕ
 ownEntries c n = c .entries * 4096 + n
 
--- a node with its entries, which stand behind those counted
-unfoldable pub withNode : List ℕ → BookCounts → ℕ → ℕ → List ℕ
-withNode words c name n = set (set words (nodeNames + c .nodes) name) (nodeEntries + c .nodes) (ownEntries c n)
+-- a node with its entries, which stand behind those counted; then it is in the chain of its name's slot
+unfoldable pub nodeStored : List ℕ → BookCounts → ℕ → ℕ → List ℕ
+nodeStored words c name n = set (set words (nodeNames + c .nodes) name) (nodeEntries + c .nodes) (ownEntries c n)
 
--- a relationship with its entries, which stand behind those counted
+unfoldable pub withNode : Bytes → List ℕ → BookCounts → ℕ → ℕ → List ℕ
+withNode text words c name n = linked (nodeStored words c name n) nodeHeads nodeLinks (slotOf (nameIn text name)) (c .nodes)
+
+-- a relationship with its entries, which stand behind those counted; then it is in the chain of the node that it leaves
+unfoldable pub relStored : List ℕ → BookCounts → ℕ → ℕ → List ℕ
+relStored words c w n = set (set words (relationships + c .relationships) w) (relationshipEntries + c .relationships) (ownEntries c n)
+
 unfoldable pub withRel : List ℕ → BookCounts → ℕ → ℕ → List ℕ
-withRel words c w n = set (set words (relationships + c .relationships) w) (relationshipEntries + c .relationships) (ownEntries c n)
+withRel words c w n = linked (relStored words c w n) fromHeads fromLinks (fromPart w) (c .relationships)
 
 -- attribute entry k
 unfoldable pub withEntry : List ℕ → ℕ → ℕ → ℕ → ℕ → List ℕ

@@ -8,6 +8,7 @@ use Rattle.model.specs.Choice.{pick}
 use Rattle.model.specs.Values.{Value, int, str, bool, Kind, ints, strs, bools, Entry}
 use Rattle.model.specs.Book.{Attr, Node, Rel, Book}
 use Rattle.model.specs.Answers.{partOf}
+use Rattle.chains.specs.Slots.{slotOf}
 use Rattle.tables.specs.declared.BookCounts.{BookCounts}
 use Rattle.tables.specs.Listed.{listed}
 use Rattle.tables.specs.Layout.{vattrNames, eattrNames, typesBehind, labelNames, nodeNames, nodeEntries, relationships, relationshipEntries, entries}
@@ -23,6 +24,10 @@ nameIn text w = partOf text (w / 32) (w % 32)
 -- the name of a number in the table at an offset
 unfoldable pub nameOf : Bytes → List ℕ → ℕ → ℕ → Bytes
 nameOf text words offset i = nameIn text (wordAt words (offset + i))
+
+-- the slot of a node's name
+abbrev pub nodeSlot : Bytes → List ℕ → ℕ → ℕ
+nodeSlot text words i = slotOf (nameOf text words nodeNames i)
 
 -- as many names as are counted
 unfoldable pub namesAt : Bytes → List ℕ → ℕ → ℕ → List Bytes
@@ -89,6 +94,10 @@ toPart w = w % 256
 -- the word of the relationship of a number
 abbrev pub relWord : List ℕ → ℕ → ℕ
 relWord words i = wordAt words (relationships + i)
+
+-- the node that the relationship of a number leaves
+abbrev pub relFrom : List ℕ → ℕ → ℕ
+relFrom words i = fromPart (relWord words i)
 
 -- the relationship of a number
 unfoldable pub relOf : Bytes → List ℕ → ℕ → Rel

@@ -33,14 +33,16 @@ pub const RELATIONSHIP_ENTRIES: usize = 1696;
 
 pub const ENTRIES: usize = 2720;
 
-// Room for an index: slots of node names, and the relationships of each node in a chain.
-pub const NODE_SLOTS: usize = 8864;
+// The chains of the nodes by the slots of their names, and of the relationships by the node that they leave.
+pub const NODE_HEADS: usize = 8864;
 
-pub const FIRST_FROM: usize = 9376;
+pub const NODE_LINKS: usize = 9120;
 
-pub const NEXT_FROM: usize = 9632;
+pub const FROM_HEADS: usize = 9376;
 
-// The words of all tables together.
+pub const FROM_LINKS: usize = 9632;
+
+// The words of all tables and chains together.
 pub const BOOK_WORDS: usize = 10752;
 
 // How many of each the tables hold.

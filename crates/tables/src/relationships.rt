@@ -6,6 +6,8 @@ ghost use Rattle.tables.specs.Layout.{labelNames};
 ghost use Rattle.tables.specs.View.{nameOf, bookAt};
 ghost use Rattle.tables.specs.Fits.{Fits};
 use crate::BookCounts;
+use crate::FROM_HEADS;
+use crate::FROM_LINKS;
 use crate::RELATIONSHIPS;
 
 // A relationship's word: label * 65536 + from * 256 + to.
@@ -27,12 +29,13 @@ pub fn is_related(
 {
     let word = (label * NODE_PAIRS + from * NODES + to) as u32;
     let count = counts.relationships;
-    let mut i = 0;
-    while i < count {
+    let mut entry = chains::first(words, FROM_HEADS, from);
+    while 0 < entry {
+        let i = entry - 1;
         if words[RELATIONSHIPS + i] == word {
             return true;
         }
-        i += 1;
+        entry = chains::next(words, FROM_LINKS, i);
     }
     false
 }

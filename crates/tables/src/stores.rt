@@ -1,22 +1,40 @@
 // The stores: one thing more in a table, and in the counts.
 ghost use mathlib.Core.Path.{_≡_};
-ghost use Prim.Native.Nat.{_+_, _*_, _≤_, _<_};
+ghost use Prim.Native.Nat.{_+_, _*_, _/_, _%_, _≤_, _<_};
 ghost use lib.ListN.{length};
-ghost use Rattle.tables.specs.Stores.{moreVattrs, moreEattrs, moreLabels, moreNodes, moreRels, withAttr, withLabel, withNode, withRel, withEntry, ownEntries};
+ghost use Rattle.tables.specs.Fits.{Inside};
+ghost use Rattle.tables.specs.Stores.{moreVattrs, moreEattrs, moreLabels, moreNodes, moreRels, withoutChains, withAttr, withLabel, withNode, withRel, withEntry, ownEntries};
 use crate::BookCounts;
 use crate::ENTRIES;
+use crate::FROM_HEADS;
+use crate::FROM_LINKS;
 use crate::LABEL_NAMES;
 use crate::MAX_NAMES;
+use crate::MAX_NODES;
 use crate::NODE_ENTRIES;
+use crate::NODE_HEADS;
+use crate::NODE_LINKS;
 use crate::NODE_NAMES;
 use crate::RELATIONSHIP_ENTRIES;
 use crate::RELATIONSHIPS;
+use crate::names;
+use crate::relationships::NODES;
+use chains::slots::SLOTS;
 
 // An owner's entries are one word: their start times 4096 and how many they are.
 pub const ENTRY_COUNTS: usize = 4096;
 
 // An attribute entry has three words.
 pub const ENTRY_WORDS: usize = 3;
+
+// No node and no relationship is in any chain.
+pub fn clear_chains(words: &mut [u32])
+    requires { ⌜ 10752 ≤ length (now words) ⌝ }
+    ensures { λ _. ⌜ now (words .exit) ≡ withoutChains (now (words .entry)) ⌝ }
+{
+    chains::clear(words, NODE_HEADS, SLOTS);
+    chains::clear(words, FROM_HEADS, MAX_NODES);
+}
 
 // An attribute's name and type behind those counted at an offset.
 pub fn store_attr(words: &mut [u32], offset: usize, count: usize, name: u32, kind: u32)
@@ -46,15 +64,23 @@ pub fn store_label(words: &mut [u32], counts: BookCounts, name: u32) -> BookCoun
 }
 
 // A node, and that the n entries behind those counted are its own.
-pub fn store_node(words: &mut [u32], counts: BookCounts, name: u32, n: usize) -> BookCounts
-    requires { ⌜ (10752 ≤ length (now words)) × (counts .nodes < 256) × (counts .entries + n ≤ 2048) ⌝ }
-    ensures stored { λ r. ⌜ now (words .exit) ≡ withNode (now (words .entry)) counts name n ⌝ }
+pub fn store_node(
+    text: &[u8],
+    words: &mut [u32],
+    counts: BookCounts,
+    name: u32,
+    n: usize,
+) -> BookCounts
+    requires { ⌜ (10752 ≤ length (now words)) × (counts .nodes < 256) × (counts .entries + n ≤ 2048) × Inside (now text) (name / 32) (name % 32) ⌝ }
+    ensures stored { λ r. ⌜ now (words .exit) ≡ withNode (now (text .entry)) (now (words .entry)) counts name n ⌝ }
     ensures counted { λ r. ⌜ r ≡ moreNodes counts n ⌝ }
 {
     let at = counts.nodes;
     let start = counts.entries;
     words[NODE_NAMES + at] = name;
     words[NODE_ENTRIES + at] = (start * ENTRY_COUNTS + n) as u32;
+    let slot = names::slot_of(text, name);
+    chains::add(words, NODE_HEADS, NODE_LINKS, slot, at);
     BookCounts {
         vattrs: counts.vattrs,
         eattrs: counts.eattrs,
@@ -75,6 +101,8 @@ pub fn store_relationship(words: &mut [u32], counts: BookCounts, word: u32, n: u
     let start = counts.entries;
     words[RELATIONSHIPS + at] = word;
     words[RELATIONSHIP_ENTRIES + at] = (start * ENTRY_COUNTS + n) as u32;
+    let from = word as usize / NODES % NODES;
+    chains::add(words, FROM_HEADS, FROM_LINKS, from, at);
     BookCounts {
         vattrs: counts.vattrs,
         eattrs: counts.eattrs,

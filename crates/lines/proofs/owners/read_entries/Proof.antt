@@ -80,7 +80,7 @@ only-spaces-requires c κs = search needs
 
 -- src/owners.rt:89:21
 same-length : tie.Need-same-length Inv-loop μ-loop
-same-length c = c .before .before .before .before .before .before .loop .inv .agrees .size
+same-length c = c .before .before .before .before .before .before .loop .inv .agrees .tables .size
 
 -- src/owners.rt:89:21
 returns : tie.Need-returns Inv-loop μ-loop
@@ -88,7 +88,7 @@ returns c = record { agrees = c .before .before .before .before .before .before 
 
 -- src/owners.rt:91:17
 same-length-2 : tie.Need-same-length-2 Inv-loop μ-loop
-same-length-2 c = c .before .before .before .before .before .before .loop .inv .agrees .size
+same-length-2 c = c .before .before .before .before .before .before .loop .inv .agrees .tables .size
 
 -- src/owners.rt:91:17
 returns-2 : tie.Need-returns-2 Inv-loop μ-loop
@@ -100,7 +100,7 @@ enum-told c = search needs
 
 -- src/owners.rt:94:17
 same-length-3 : tie.Need-same-length-3 Inv-loop μ-loop
-same-length-3 c = c .before .before .before .loop .inv .agrees .size
+same-length-3 c = c .before .before .before .loop .inv .agrees .tables .size
 
 -- src/owners.rt:94:17
 returns-3 : tie.Need-returns-3 Inv-loop μ-loop

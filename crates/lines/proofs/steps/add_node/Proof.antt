@@ -42,7 +42,7 @@ name-word-requires c κs = search needs
 -- src/steps.rt:171:21
 store-node-requires : tie.Need-store-node-requires
 store-node-requires c κs = let r = owner-room _ _ _ _ _ _ (sym (c .before .before .before .owner-fault .ensures) ∙ c .before .before .if1 .left) (c .before .before .before .before .is-full .ensures) in
-    (c .before .before .before .before .before .before .before .before .before .pre .1 .room, r .0, r .1)
+    (c .before .before .before .before .before .before .before .before .before .pre .1 .room, r .0, r .1, let p = c .before .before .before .before .before .before .before .before .before .pre .0 in omega (arith, c .name-word .ensures, p .inside, p .short))
 
 -- src/steps.rt:159:1
 same-length-2 : tie.Need-same-length-2

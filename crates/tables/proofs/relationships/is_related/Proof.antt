@@ -1,79 +1,63 @@
-use Rattle.tables.proofs.RelationshipLaws.{runsBetween, related-none, related-on, related-here, related-not}
-use Rattle.tables.specs.View.{nameOf, relOf}
-use Rattle.tables.specs.Layout.{labelNames}
-use Rattle.tables.specs.Listed.{listed}
-use Rattle.model.specs.Lists.{any}
+-- `tables::relationships::is_related` meets its contract. The loop's invariant: no relationship from the node before the entry is the one. Assumes nothing.
+use Rattle.tables.proofs.Walks.{RelWalk, rels-first, rels-inside, rels-next, rels-fall, rel-found, rel-absent}
 use native.Mathlib.Omega.{arith}
-use mathlib.Core.Bool.{false}
-use mathlib.Core.Path.{_≡_}
-use Prim.Native.Nat.{_≤_, _-_}
 use borrow.Author.Needs.{needs}
 use Rattle.tables.proofs.relationships.is_related.Statement.{statement}
 use Rattle.tables.proofs.relationships.is_related.Tie as tie
-use Rattle.tables.proofs.relationships.is_related.Reads as reads
-use Rattle.tables.proofs.relationships.is_related.Lts as lts
 
 abbrev Inv-loop : tie.InvT-loop
-Inv-loop text words label from to word count i₀ i = (i ≤ count) × (any (runsBetween (nameOf text words labelNames label) from to) (listed (relOf text words) i) ≡ false)
+Inv-loop text words label from to word count entry₀ entry = RelWalk text words label from to count entry
 
 abbrev μ-loop : tie.MeasureT-loop
-μ-loop text words label from to word count i₀ i = count - i
+μ-loop text words label from to word count entry₀ entry = entry
 
--- src/relationships.rt:20:17
 mul-word : tie.Need-mul-word Inv-loop μ-loop
 mul-word c = search needs
 
--- src/relationships.rt:20:38
 mul-word-2 : tie.Need-mul-word-2 Inv-loop μ-loop
 mul-word-2 c = search needs
 
--- src/relationships.rt:20:17
 add-word : tie.Need-add-word Inv-loop μ-loop
 add-word c = search needs
 
--- src/relationships.rt:20:17
 add-word-2 : tie.Need-add-word-2 Inv-loop μ-loop
 add-word-2 c = search needs
 
--- src/relationships.rt:20:16
 cast-word : tie.Need-cast-word Inv-loop μ-loop
 cast-word c = search needs
 
--- src/relationships.rt:23:5
+first-requires : tie.Need-first-requires Inv-loop μ-loop
+first-requires c κs = search needs
+
 loop-holds : tie.Need-loop-holds Inv-loop μ-loop
-loop-holds c = (omega arith, related-none (c .args .text .now) (c .args .words .now) (c .args .counts) (c .pre .0) (c .args .label) (c .args .from) (c .args .to) (c .pre .1) (c .pre .2) (c .pre .3))
+loop-holds c = let a = c .before .before .before in rels-first (a .args .text .now) (a .args .words .now) (a .args .counts) (a .pre .0) (a .args .label) (a .args .from) (a .args .to) (a .pre .1) (a .pre .2) (a .pre .3) _ (c .first .ensures)
 
--- src/relationships.rt:24:18
+sub-i : tie.Need-sub-i Inv-loop μ-loop
+sub-i c = search needs
+
 add-if1 : tie.Need-add-if1 Inv-loop μ-loop
-add-if1 c = search needs
+add-if1 c = let a = c .before .before .before .before .before in let i = rels-inside (a .args .text .now) (a .args .words .now) (a .args .counts) (a .pre .0) (a .args .label) (a .args .from) (a .args .to) (a .pre .1) (a .pre .2) (a .pre .3) (c .before .loop .entry) (c .loop-test .taken) (c .before .loop .inv) in let m = a .pre .0 .within in omega (arith, a .pre .0 .room)
 
--- src/relationships.rt:24:12
 mul-if1 : tie.Need-mul-if1 Inv-loop μ-loop
-mul-if1 c = search needs
+mul-if1 c = let a = c .before .before .before .before .before in let i = rels-inside (a .args .text .now) (a .args .words .now) (a .args .counts) (a .pre .0) (a .args .label) (a .args .from) (a .args .to) (a .pre .1) (a .pre .2) (a .pre .3) (c .before .loop .entry) (c .loop-test .taken) (c .before .loop .inv) in let m = a .pre .0 .within in omega (arith, a .pre .0 .room)
 
--- src/relationships.rt:24:12
 shared-slice-read-if1 : tie.Need-shared-slice-read-if1 Inv-loop μ-loop
-shared-slice-read-if1 c = search needs
+shared-slice-read-if1 c = let a = c .before .before .before .before .before .before in let i = rels-inside (a .args .text .now) (a .args .words .now) (a .args .counts) (a .pre .0) (a .args .label) (a .args .from) (a .args .to) (a .pre .1) (a .pre .2) (a .pre .3) (c .before .before .loop .entry) (c .before .loop-test .taken) (c .before .before .loop .inv) in let m = a .pre .0 .within in omega (arith, a .pre .0 .room)
 
--- src/relationships.rt:25:13
 returns : tie.Need-returns Inv-loop μ-loop
-returns c = related-here (c .before .before .before .before .args .text .now) (c .before .before .before .before .args .words .now) (c .before .before .before .before .args .counts) (c .before .before .before .before .pre .0) (c .before .before .before .before .args .label) (c .before .before .before .before .args .from) (c .before .before .before .before .args .to) (c .before .before .before .before .pre .1) (c .before .before .before .before .pre .2) (c .before .before .before .before .pre .3) (c .before .before .before .loop .i) (c .before .before .loop-test .taken) (c .if1 .taken)
+returns c = let a = c .before .before .before .before .before .before .before in rel-found (a .args .text .now) (a .args .words .now) (a .args .counts) (a .pre .0) (a .args .label) (a .args .from) (a .args .to) (a .pre .1) (a .pre .2) (a .pre .3) (c .before .before .before .loop .entry) (c .before .before .loop-test .taken) (c .before .before .before .loop .inv) (c .if1 .taken)
 
--- src/relationships.rt:27:9
-add-i : tie.Need-add-i Inv-loop μ-loop
-add-i c = search needs
+next-requires : tie.Need-next-requires Inv-loop μ-loop
+next-requires c κs = let a = c .before .before .before .before .before .before .before in let i = rels-inside (a .args .text .now) (a .args .words .now) (a .args .counts) (a .pre .0) (a .args .label) (a .args .from) (a .args .to) (a .pre .1) (a .pre .2) (a .pre .3) (c .before .before .before .loop .entry) (c .before .before .loop-test .taken) (c .before .before .before .loop .inv) in let m = a .pre .0 .within in omega (arith, a .pre .0 .room)
 
--- src/relationships.rt:23:5
 loop-less : tie.Need-loop-less Inv-loop μ-loop
-loop-less c = search needs
+loop-less c = let a = c .before .before .before .before .before .before .before .before in rels-fall (a .args .text .now) (a .args .words .now) (a .args .counts) (a .pre .0) (a .args .label) (a .args .from) (a .args .to) (a .pre .1) (a .pre .2) (a .pre .3) (c .before .before .before .before .loop .entry) (c .before .before .before .loop-test .taken) (c .before .before .before .before .loop .inv) _ (c .next .ensures)
 
--- src/relationships.rt:23:5
 loop-again : tie.Need-loop-again Inv-loop μ-loop
-loop-again c = (omega arith, related-on (c .before .before .before .before .args .text .now) (c .before .before .before .before .args .words .now) (c .before .before .before .before .args .counts) (c .before .before .before .before .pre .0) (c .before .before .before .before .args .label) (c .before .before .before .before .args .from) (c .before .before .before .before .args .to) (c .before .before .before .before .pre .1) (c .before .before .before .before .pre .2) (c .before .before .before .before .pre .3) (c .before .before .before .loop .i) (c .before .before .loop-test .taken) (c .if1 .left) (c .before .before .before .loop .inv .1))
+loop-again c = let a = c .before .before .before .before .before .before .before .before in rels-next (a .args .text .now) (a .args .words .now) (a .args .counts) (a .pre .0) (a .args .label) (a .args .from) (a .args .to) (a .pre .1) (a .pre .2) (a .pre .3) (c .before .before .before .before .loop .entry) (c .before .before .before .loop-test .taken) (c .before .before .before .before .loop .inv) (c .before .if1 .left) _ (c .next .ensures)
 
--- src/relationships.rt:16:1
 returns-2 : tie.Need-returns-2 Inv-loop μ-loop
-returns-2 c = related-not (c .before .before .args .text .now) (c .before .before .args .words .now) (c .before .before .args .counts) (c .before .before .pre .0) (c .before .before .args .label) (c .before .before .args .from) (c .before .before .args .to) (c .before .before .pre .1) (c .before .before .pre .2) (c .before .before .pre .3) (c .before .loop .i) (omega arith) (c .before .loop .inv .1)
+returns-2 c = let a = c .before .before .before .before .before in rel-absent (a .args .text .now) (a .args .words .now) (a .args .counts) (a .pre .0) (a .args .label) (a .args .from) (a .args .to) (a .pre .1) (a .pre .2) (a .pre .3) (c .before .loop .entry) (omega arith) (c .before .loop .inv)
 
 pub is-related-spec : {M : Type 1} → statement M
 is-related-spec =
@@ -86,12 +70,14 @@ is-related-spec =
     add-word
     add-word-2
     cast-word
+    first-requires
     loop-holds
+    sub-i
     add-if1
     mul-if1
     shared-slice-read-if1
     returns
-    add-i
+    next-requires
     loop-less
     loop-again
     returns-2)

@@ -1,64 +1,64 @@
+-- `tables::stores::store_node` meets its contract. Assumes nothing.
+use Rattle.chains.specs.Chains.{linked}
+use Rattle.tables.specs.Layout.{nodeHeads, nodeLinks}
+use Prim.Native.Nat.{ℕ}
+use mathlib.Core.Path.{refl, ap, _∙_}
 use native.Mathlib.Omega.{arith}
 use lib.ListN.{length-set}
-use Rattle.tables.specs.Stores.{withNode}
+use Rattle.chains.proofs.SlotLaws.{slot-small}
+use Rattle.tables.specs.View.{nameIn}
+use Rattle.tables.specs.Stores.{nodeStored, withNode}
 use borrow.Author.Needs.{needs}
 use Rattle.tables.proofs.stores.store_node.Statement.{statement}
 use Rattle.tables.proofs.stores.store_node.Tie as tie
-use Rattle.tables.proofs.stores.store_node.Reads as reads
-use Rattle.tables.proofs.stores.store_node.Lts as lts
 
--- src/stores.rt:56:11
 add-words : tie.Need-add-words
 add-words c = search needs
 
--- src/stores.rt:56:5
 mul-words : tie.Need-mul-words
 mul-words c = search needs
 
--- src/stores.rt:56:5
 slice-write-words : tie.Need-slice-write-words
 slice-write-words c = search needs
 
--- src/stores.rt:57:33
 mul-words-2 : tie.Need-mul-words-2
 mul-words-2 c = search needs
 
--- src/stores.rt:57:33
 add-words-2 : tie.Need-add-words-2
 add-words-2 c = search needs
 
--- src/stores.rt:57:32
 cast-words : tie.Need-cast-words
 cast-words c = search needs
 
--- src/stores.rt:57:11
 add-words-3 : tie.Need-add-words-3
 add-words-3 c = search needs
 
--- src/stores.rt:57:5
 mul-words-3 : tie.Need-mul-words-3
 mul-words-3 c = search needs
 
--- src/stores.rt:57:5
 slice-write-words-2 : tie.Need-slice-write-words-2
 slice-write-words-2 c = simp length-set (omega arith)
 
--- src/stores.rt:62:16
-add-t7 : tie.Need-add-t7
-add-t7 c = search needs
+slot-of-requires : tie.Need-slot-of-requires
+slot-of-requires c κs = search needs
 
--- src/stores.rt:64:18
-add-t12 : tie.Need-add-t12
-add-t12 c = search needs
+add-requires : tie.Need-add-requires
+add-requires c κs = let s = slot-small (nameIn (c .before .before .before .before .args .text .now) (c .before .before .before .before .args .name)) in simp length-set (omega (arith, c .before .slot-of .ensures))
 
--- src/stores.rt:49:1
+add-t9 : tie.Need-add-t9
+add-t9 c = search needs
+
+add-t10 : tie.Need-add-t10
+add-t10 c = search needs
+
 same-length : tie.Need-same-length
-same-length c = search needs
+same-length c = c .before .words .given ∙ simp length-set
 
--- src/stores.rt:49:1
 returns : tie.Need-returns
-unfolding withNode
-returns c = search needs
+unfolding nodeStored withNode
+returns c =
+    let a = c .before .before .before .before .before .before .before .args in
+    (c .before .before .add .ensures ∙ ap (λ (k : ℕ). linked (nodeStored (a .words .now) (a .counts) (a .name) (a .n)) nodeHeads nodeLinks k (a .counts .nodes)) (c .before .before .before .before .slot-of .ensures), refl)
 
 pub store-node-spec : {M : Type 1} → statement M
 store-node-spec =
@@ -73,7 +73,9 @@ store-node-spec =
     add-words-3
     mul-words-3
     slice-write-words-2
-    add-t7
-    add-t12
+    slot-of-requires
+    add-requires
+    add-t9
+    add-t10
     same-length
     returns)
