@@ -24,7 +24,7 @@ use Rattle.ranks.specs.View.{actorsAt, lowerSet, treeOf, policyText, rulesAt}
 use Rattle.ranks.specs.Enforced.{policyPlace, enforcedBelow}
 use Rattle.woven.specs.declared.WovenCounts.{WovenCounts}
 use Rattle.woven.specs.Tables.{textOf, wovenAt, actorsAt as actorsIn}
-use Rattle.woven.specs.Given.{PartsWithin}
+use Rattle.model.specs.PlainData.{PartsWithin}
 use Rattle.weave.specs.declared.Added.the-variants.{Woven, Passed}
 use Rattle.weave.specs.Adding.{noCounts, TextAdded}
 use Rattle.weave.proofs.OneMore.{Sound}

@@ -20,7 +20,7 @@ use Rattle.ranks.specs.View.{rulesAt}
 use Rattle.ranks.specs.Fits.{Fits as RulesFit}
 use Rattle.woven.specs.declared.WovenCounts.{WovenCounts}
 use Rattle.woven.specs.Tables.{wovenAt}
-use Rattle.woven.specs.Given.{PatternFits}
+use Rattle.model.specs.PlainData.{PatternFits}
 use Rattle.weave.specs.Adding.{Kept}
 use Rattle.weave.specs.Identities.{IdentitiesReady}
 use Rattle.asked.specs.declared.TextPlace.{TextPlace}

@@ -1,9 +1,14 @@
 -- First appearances: every name once, in order.
+use Prim.Native.Nat.{_≤_}
 use mathlib.Core.Path.{_≡_, refl, sym, ap, _∙_}
+use mathlib.Core.Bool.{Bool, true, false}
 use mathlib.Core.Logic.{_⊎_, inl, inr, ⊎-elim}
 use mathlib.Core.List.{List, [], _∷_, _++_, List·Memᴰ·head, List·Memᴰ·tail, List·Memᴰ·append-cases as append-cases, List·Memᴰ·eq-of-singleton as eq-of-singleton}
+use native.Mathlib.Omega.{arith}
+use lib.ListN.{length, length-append}
 use lib.Dec.{T}
 use Rattle.model.specs.Bytes.{Bytes}
+use Rattle.model.specs.Choice.{pick}
 use Rattle.model.specs.Lists.{any}
 use Rattle.model.specs.Names.{mem, twice, addNew, firsts}
 use Rattle.model.proofs.Members.{_∈_, test, is-true, is-false, mem-e, mem-i}
@@ -55,3 +60,13 @@ firsts-once seen [] h t = h t
 firsts-once seen (w ∷ ws) h t = firsts-once (addNew seen w) ws (λ u. ⊎-elim
     (λ k. h (rw (is-true (mem w seen) k) at u))
     (λ k. ⊎-elim h k (twice-behind seen w (rw (is-false (mem w seen) k) at u))) (test (mem w seen))) t
+
+-- there are no fewer names than before
+pub firsts-grow : (seen xs : List Bytes) → length seen ≤ length (firsts seen xs)
+unfolding firsts addNew
+firsts-grow seen [] = omega arith
+firsts-grow seen (x ∷ xs) = let h = firsts-grow (addNew seen x) xs in let g = one (mem x seen) in omega arith
+  where
+    one : (t : Bool) → length seen ≤ length (pick t seen (seen ++ (x ∷ [])))
+    one true = omega arith
+    one false = omega (arith, length-append seen (x ∷ []))

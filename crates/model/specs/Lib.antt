@@ -30,4 +30,5 @@ pub mod Rows
 pub mod Service
 pub mod Printed
 pub mod Answers
+pub mod PlainData
 pub mod Computing

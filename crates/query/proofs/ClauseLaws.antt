@@ -35,7 +35,7 @@ use Rattle.pieces.specs.Steps.{pieceOf, StepAt}
 use Rattle.faults.specs.Names.{foundAt, textStart, textPieces}
 use Rattle.faults.proofs.ScanLaws.{step-list, step-none}
 use Rattle.writer.specs.Writable.{Limits, ConditionFits}
-use Rattle.woven.specs.Given.{noClause, ConditionWithin}
+use Rattle.model.specs.PlainData.{noClause, ConditionWithin}
 use Rattle.query.specs.declared.clauses.Clauses.{Clauses}
 use Rattle.query.specs.Clauses.{known, demandOf, RequirementRead, ConditionBegins, ConditionRead, clausesOf, ClausesRead, ClauseAdded, PieceAdded}
 use Rattle.query.proofs.PartLaws.{taken-more, each-more}

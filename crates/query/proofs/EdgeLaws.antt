@@ -39,7 +39,7 @@ use Rattle.tables.specs.Layout.{labelNames}
 use Rattle.tables.specs.View.{bookAt}
 use Rattle.tables.specs.declared.BookCounts.{BookCounts}
 use Rattle.tables.proofs.NameLaws.{length-names}
-use Rattle.woven.specs.Given.{noEdge}
+use Rattle.model.specs.PlainData.{noEdge}
 use Rattle.query.specs.declared.vertices.Vertices.{Vertices}
 use Rattle.query.specs.declared.edges.Edges.{Edges}
 use Rattle.query.specs.Parts.{Inside, Cut}

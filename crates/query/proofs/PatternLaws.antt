@@ -30,7 +30,7 @@ use Rattle.faults.specs.Names.{textStart, textPieces}
 use Rattle.faults.proofs.ScanLaws.{found-bound}
 use Rattle.faults.proofs.FaultLaws.{queryOf, text-ordered}
 use Rattle.writer.specs.Writable.{Limits, countLimits, ConditionFits}
-use Rattle.woven.specs.Given.{noPart, noEdge, noClause, NameFits, ValueFits, ConditionFits as WordsHold, PatternFits as WordsFit, ValueWithin, ConditionWithin}
+use Rattle.model.specs.PlainData.{noPart, noEdge, noClause, NameFits, ValueFits, ConditionFits as WordsHold, PatternFits as WordsFit, ValueWithin, ConditionWithin}
 use Rattle.query.specs.declared.vertices.Vertices.{Vertices}
 use Rattle.query.specs.declared.edges.Edges.{Edges}
 use Rattle.query.specs.declared.clauses.Clauses.{Clauses}

@@ -11,7 +11,7 @@ use Rattle.model.specs.Lists.{any, joined}
 use Rattle.model.specs.Names.{mem, place, addNew, firsts}
 use Rattle.model.specs.Answers.{nameAt}
 use Rattle.model.specs.declared.Part.{Part}
-use Rattle.model.proofs.FirstNames.{firsts-append}
+use Rattle.model.proofs.FirstNames.{firsts-append, firsts-grow}
 use Rattle.pieces.specs.Named.{vertexIn, verticesIn}
 use Rattle.pieces.specs.Steps.{pieceOf, StepAt}
 use Rattle.pieces.specs.declared.Place.{Place}
@@ -26,8 +26,7 @@ use Rattle.faults.proofs.ScanLaws.{step-list, step-none}
 use Rattle.tables.specs.Listed.{listed}
 use Rattle.tables.proofs.ListedLaws.{scan-none, scan-on, scan-place, scan-absent}
 use Rattle.tables.proofs.NameLaws.{mem-place}
-use Rattle.woven.specs.Given.{noPart}
-use Rattle.woven.proofs.Places.{firsts-grow}
+use Rattle.model.specs.PlainData.{noPart}
 use Rattle.query.specs.declared.vertices.Vertices.{Vertices}
 use Rattle.query.specs.Parts.{Inside, Cut}
 use Rattle.query.specs.Vertices.{vertexNamesIn, namesOf, Found}

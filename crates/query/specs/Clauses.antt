@@ -24,7 +24,7 @@ use Rattle.pieces.specs.Steps.{pieceOf}
 use Rattle.pieces.specs.Named.{conditionIn, edgesIn, conditionsIn}
 use Rattle.faults.specs.Names.{textPieces}
 use Rattle.writer.specs.Writable.{Limits, ConditionFits}
-use Rattle.woven.specs.Given.{noClause, ConditionWithin}
+use Rattle.model.specs.PlainData.{noClause, ConditionWithin}
 use Rattle.query.specs.declared.vertices.Vertices.{Vertices}
 use Rattle.query.specs.declared.clauses.Clauses.{Clauses}
 use Rattle.query.specs.Parts.{ValueCut, ValueBegins}

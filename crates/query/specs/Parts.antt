@@ -7,7 +7,7 @@ use Rattle.model.specs.Answers.{nameAt, valueOf}
 use Rattle.model.specs.declared.Part.{Part}
 use Rattle.model.specs.declared.Value.{Value}
 use Rattle.model.specs.declared.Value.the-variants.{Number, Text, Truth}
-use Rattle.woven.specs.Given.{ValueWithin}
+use Rattle.model.specs.PlainData.{ValueWithin}
 
 -- a part ends within its text, and is as long as the name that stands there
 pub record Inside (s : Bytes) (p : Part) : Type 0 where

@@ -19,7 +19,7 @@ use Rattle.tables.specs.View.{bookAt}
 use Rattle.tables.specs.Fits.{Fits}
 use Rattle.faults.specs.TextFault.{textFault}
 use Rattle.writer.specs.Writable.{countLimits, PatternFits}
-use Rattle.woven.specs.Given.{PartsWithin, PatternFits as WordsFit}
+use Rattle.model.specs.PlainData.{PartsWithin, PatternFits as WordsFit}
 
 -- what is asked of a text: the book is loaded, the text has no fault against it, and its bytes are allowed
 pub record PatternAsked (book : Bytes) (words : List ℕ) (c : BookCounts) (s : Bytes) : Type 0 where

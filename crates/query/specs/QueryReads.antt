@@ -17,7 +17,7 @@ use Rattle.tables.specs.declared.BookCounts.{BookCounts}
 use Rattle.tables.specs.Fits.{Fits}
 use Rattle.text.specs.Lines.{bytesOf}
 use Rattle.text.specs.declared.BytesRead.the-variants.{Allowed}
-use Rattle.woven.specs.Given.{noPart, noEdge, noClause}
+use Rattle.model.specs.PlainData.{noPart, noEdge, noClause}
 use Rattle.query.specs.PatternRead.{PatternRead}
 
 -- the empty pattern

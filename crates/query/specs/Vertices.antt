@@ -8,7 +8,7 @@ use Rattle.model.specs.Names.{firsts}
 use Rattle.model.specs.Answers.{nameAt}
 use Rattle.pieces.specs.Named.{verticesIn}
 use Rattle.faults.specs.Names.{textPieces}
-use Rattle.woven.specs.Given.{noPart}
+use Rattle.model.specs.PlainData.{noPart}
 use Rattle.query.specs.declared.vertices.Vertices.{Vertices}
 use Rattle.query.specs.Parts.{Inside}
 

@@ -15,7 +15,7 @@ use Rattle.model.specs.declared.Condition.the-variants.{Excluded, OfVertex, OfE
 use Rattle.model.specs.declared.Pattern.{Pattern as PatternData}
 use Rattle.woven.specs.declared.WovenCounts.{WovenCounts}
 use Rattle.woven.specs.Tables.{textOf, edgesAt, clausesAt, returnsAt}
-use Rattle.woven.specs.Given.{noEdge, noClause, ConditionFits}
+use Rattle.model.specs.PlainData.{noEdge, noClause, ConditionFits}
 use Rattle.woven.specs.Steps.{renumberedEdge, EdgesReady, EdgesAdded, ReturnsReady, ReturnsAdded}
 use Rattle.woven.specs.ClauseSteps.{renumberedClause, namedClause, ConditionReady, ClausesReady, ClausesAdded}
 use Rattle.weave.specs.Adding.{RestReady, RestAdded}

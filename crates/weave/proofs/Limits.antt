@@ -17,7 +17,7 @@ use Rattle.model.specs.Graph.{Each}
 use Rattle.model.specs.Weave.{Asked, movedEdge, movedClause, isExcluded, wovenTooMany, weave}
 use Rattle.weave.specs.OneMore.{underNames, moreVertices, oneMore}
 use Rattle.woven.proofs.Kept.{keep-append}
-use Rattle.woven.proofs.Places.{firsts-grow}
+use Rattle.model.proofs.FirstNames.{firsts-grow}
 use Rattle.weave.proofs.OneMore.{Sound, weave-keeps}
 
 -- the exclusions and the requirements among clauses

@@ -30,7 +30,7 @@ use Rattle.woven.specs.declared.vertices.Numbers.{Numbers}
 use Rattle.weave.specs.declared.Added.the-variants.{Woven}
 use Rattle.woven.specs.Tables.{textOf, verticesAt, edgesAt, clausesAt, wovenAt}
 use Rattle.weave.specs.OneMore.{underNames, moreVertices, oneMore, ClauseWithin}
-use Rattle.woven.specs.Given.{noEdge, noClause, ConditionFits, PatternFits}
+use Rattle.model.specs.PlainData.{noEdge, noClause, ConditionFits, PatternFits}
 use Rattle.woven.specs.Steps.{renumberedEdge, ownNames, VerticesAdded}
 use Rattle.woven.specs.ClauseSteps.{renumberedClause, namedClause, ExclusionsCounted}
 use Rattle.weave.specs.Adding.{Kept, TextAdded, RestAdded}

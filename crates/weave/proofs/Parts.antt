@@ -18,7 +18,7 @@ use Rattle.model.specs.declared.Condition.{Condition}
 use Rattle.model.specs.declared.Condition.the-variants.{Excluded, OfVertex, OfEdge}
 use Rattle.model.specs.declared.Clause.{Clause}
 use Rattle.model.specs.declared.Pattern.{Pattern as PatternData}
-use Rattle.woven.specs.Given.{noPart, noEdge, noClause, ValueWithin, ConditionWithin, PartsWithin}
+use Rattle.model.specs.PlainData.{noPart, noEdge, noClause, ValueWithin, ConditionWithin, PartsWithin}
 use Rattle.weave.proofs.OneMore.{map-each}
 use Rattle.weave.proofs.OneText.{each-take}
 

@@ -21,7 +21,7 @@ use Rattle.model.proofs.ByNodes.{NamedIn, Named}
 use Rattle.model.proofs.Chains.{chain-ends}
 use Rattle.model.proofs.Places.{at-place, getD-in, length-map}
 use Rattle.weave.specs.OneMore.{underNames, moreVertices, oneMore, ClauseWithin, Ranged}
-use Rattle.woven.proofs.Places.{firsts-grow}
+use Rattle.model.proofs.FirstNames.{firsts-grow}
 use Rattle.weave.proofs.OneMore.{Sound, ranged-under, weave-keeps}
 
 -- what holds of each element holds of each that is made of it

@@ -16,7 +16,7 @@ use Rattle.weave.specs.declared.Added.{Added}
 use Rattle.weave.specs.declared.Added.the-variants.{Woven, Passed}
 use Rattle.woven.specs.Tables.{textOf, edgesAt, clausesAt, returnsAt, wovenAt}
 use Rattle.weave.specs.OneMore.{oneMore}
-use Rattle.woven.specs.Given.{PatternFits}
+use Rattle.model.specs.PlainData.{PatternFits}
 use Rattle.woven.specs.Steps.{renumberedEdge}
 use Rattle.woven.specs.ClauseSteps.{renumberedClause, namedClause}
 

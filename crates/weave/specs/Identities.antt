@@ -18,7 +18,7 @@ use Rattle.bits.specs.Word.{bit}
 use Rattle.tables.specs.Listed.{listed}
 use Rattle.woven.specs.declared.WovenCounts.{WovenCounts}
 use Rattle.woven.specs.Tables.{vertexName, wovenAt, identityAt}
-use Rattle.woven.specs.Given.{noPart}
+use Rattle.model.specs.PlainData.{noPart}
 use Rattle.woven.specs.Steps.{KeptOutside}
 use Rattle.weave.specs.Adding.{Kept}
 

@@ -18,7 +18,7 @@ use Rattle.model.specs.declared.Clause.{Clause as ClauseData}
 use Rattle.tables.proofs.ListedLaws.{listed-more, listed-same, map-end}
 use Rattle.woven.specs.declared.clauses.ClauseWords.{ClauseWords}
 use Rattle.woven.specs.Tables.{textOf, clauseAt, clausesAt}
-use Rattle.woven.specs.Given.{noClause}
+use Rattle.model.specs.PlainData.{noClause}
 use Rattle.woven.specs.Steps.{KeptOutside}
 use Rattle.woven.specs.ClauseSteps.{renumberedClause, ClauseSaid, namedClause, ClausesAdded, oneIfExcluded, ExclusionsCounted}
 use Rattle.woven.proofs.EdgeLaws.{maps-more}

@@ -13,7 +13,7 @@ use Rattle.model.specs.Answers.{partOf, nameAt, edgeIn}
 use Rattle.model.specs.declared.Edge.{Edge as EdgeData}
 use Rattle.tables.proofs.ListedLaws.{listed-more, listed-same, map-end}
 use Rattle.woven.specs.Tables.{textOf, nameOf, edgeAt, edgesAt}
-use Rattle.woven.specs.Given.{noEdge}
+use Rattle.model.specs.PlainData.{noEdge}
 use Rattle.woven.specs.Steps.{KeptOutside, renumberedEdge, EdgeReady, EdgesAdded}
 use Rattle.woven.proofs.NameLaws.{part-of-rest, name-word-says}
 

@@ -1,10 +1,9 @@
 -- Names in order of first appearance: a name that is there keeps its place when others come behind. Assumes nothing.
-use Prim.Native.Nat.{ℕ, suc, _+_, _<_, _≤_}
+use Prim.Native.Nat.{_<_}
 use mathlib.Core.Path.{_≡_, refl, sym, ap, _∙_}
-use mathlib.Core.List.{List, [], _∷_, _++_, append-nil, append-assoc}
+use mathlib.Core.List.{List, [], _∷_, _++_}
 use mathlib.Core.Bool.{Bool, true, false}
-use native.Mathlib.Omega.{arith}
-use lib.ListN.{length, length-append}
+use lib.ListN.{length}
 use lib.Dec.{T}
 use Rattle.model.specs.Bytes.{Bytes, same}
 use Rattle.model.specs.Choice.{pick}
@@ -42,13 +41,3 @@ pub place-firsts : (w : Bytes) (vs ws : List Bytes) → w ∈ vs → place w (fi
 unfolding firsts
 place-firsts w vs [] i = refl
 place-firsts w vs (x ∷ ws) i = place-firsts w (addNew vs x) ws (addNew-old vs x w i) ∙ place-addNew w x vs i
-
--- there are no fewer names than before
-pub firsts-grow : (seen xs : List Bytes) → length seen ≤ length (firsts seen xs)
-unfolding firsts addNew
-firsts-grow seen [] = omega arith
-firsts-grow seen (x ∷ xs) = let h = firsts-grow (addNew seen x) xs in let g = one (mem x seen) in omega arith
-  where
-    one : (t : Bool) → length seen ≤ length (pick t seen (seen ++ (x ∷ [])))
-    one true = omega arith
-    one false = omega (arith, length-append seen (x ∷ []))

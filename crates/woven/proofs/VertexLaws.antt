@@ -16,15 +16,15 @@ use Rattle.model.specs.Answers.{partOf, nameAt}
 use Rattle.model.specs.Weave.{wovenName}
 use Rattle.model.specs.declared.Part.{Part}
 use Rattle.model.proofs.Members.{_∈_, firsts-i}
-use Rattle.model.proofs.FirstNames.{firsts-append}
+use Rattle.model.proofs.FirstNames.{firsts-append, firsts-grow}
 use Rattle.model.proofs.Places.{getD-in, getD-map, length-map}
 use Rattle.tables.proofs.ListedLaws.{listed-more, listed-same, length-listed}
 use Rattle.woven.specs.declared.vertices.Placed.{Placed}
 use Rattle.woven.specs.Tables.{vertexName, verticesAt}
-use Rattle.woven.specs.Given.{noPart}
+use Rattle.model.specs.PlainData.{noPart}
 use Rattle.woven.specs.Steps.{KeptOutside, VertexPlaced, VerticesAdded, ownNames}
 use Rattle.woven.proofs.NameLaws.{part-of-rest}
-use Rattle.woven.proofs.Places.{place-none, place-some, place-behind, place-firsts, firsts-grow}
+use Rattle.woven.proofs.Places.{place-none, place-some, place-behind, place-firsts}
 
 pub length-vertices : (q r : Bytes) (words : List ℕ) (n : ℕ) → length (verticesAt q r words n) ≡ n
 unfolding verticesAt

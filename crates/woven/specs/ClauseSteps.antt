@@ -17,7 +17,7 @@ use Rattle.model.specs.declared.Clause.{Clause as ClauseData}
 use Rattle.woven.specs.declared.clauses.ValueWords.{ValueWords}
 use Rattle.woven.specs.declared.clauses.ClauseWords.{ClauseWords}
 use Rattle.woven.specs.Tables.{textOf, relationAt, valueAt, clauseAt, clausesAt}
-use Rattle.woven.specs.Given.{noClause, RequirementFits}
+use Rattle.model.specs.PlainData.{noClause, RequirementFits}
 use Rattle.woven.specs.Steps.{KeptOutside}
 
 -- words say a value whose text stands from a base on

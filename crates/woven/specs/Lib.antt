@@ -1,5 +1,4 @@
 -- The woven pattern in words: its tables and what they say, what is asked of a pattern, and what storing its parts does.
 pub mod Tables
-pub mod Given
 pub mod Steps
 pub mod ClauseSteps

@@ -15,7 +15,7 @@ use Rattle.model.specs.declared.Edge.{Edge as EdgeData}
 use Rattle.woven.specs.declared.vertices.Placed.{Placed}
 use Rattle.woven.specs.declared.vertices.Numbers.{Numbers}
 use Rattle.woven.specs.Tables.{textOf, vertexName, verticesAt, edgesAt, returnsAt}
-use Rattle.woven.specs.Given.{noPart, noEdge, NameFits}
+use Rattle.model.specs.PlainData.{noPart, noEdge, NameFits}
 
 -- the words stay but those of some tables
 abbrev pub KeptOutside : ℕ → ℕ → List ℕ → List ℕ → Type 0

@@ -4,7 +4,7 @@ ghost use Prim.Native.Nat.{_+_, _*_, _<_, _≤_};
 ghost use lib.ListN.{length};
 ghost use Rattle.model.specs.Answers.{relationOf};
 ghost use Rattle.woven.specs.Tables.{relationAt};
-ghost use Rattle.woven.specs.Given.{ValueFits, RequirementFits};
+ghost use Rattle.model.specs.PlainData.{ValueFits, RequirementFits};
 ghost use Rattle.woven.specs.ClauseSteps.{ValueSaid, RequirementSaid, ConditionReady, ClauseSaid, ClausesReady, ClausesAdded, oneIfExcluded, ExclusionsCounted};
 use crate::CLAUSE_WORDS;
 use crate::CLAUSES;

@@ -1,5 +1,5 @@
 -- `count_exclusions` meets its contract. The loop's invariant: n of the first i clauses are exclusions. Assumes nothing.
-use Rattle.woven.specs.Given.{noClause}
+use Rattle.model.specs.PlainData.{noClause}
 use lib.ListN.{getD, length}
 use Rattle.woven.proofs.ClauseTable.{counted-none, counted-more, one-at-most}
 use Rattle.woven.specs.ClauseSteps.{ExclusionsCounted}

@@ -1,6 +1,6 @@
 -- `value_words` meets its contract, by the value's kind. Assumes nothing.
 use Rattle.woven.proofs.ClauseLaws.{number-said, text-said, true-said, false-said}
-use Rattle.woven.specs.Given.{ValueFits}
+use Rattle.model.specs.PlainData.{ValueFits}
 use native.Mathlib.Omega.{arith}
 use mathlib.Core.Path.{subst}
 use borrow.Author.Needs.{needs}

@@ -1,15 +1,15 @@
--- What is asked of a pattern that is handed in as plain data: numbers within its counts, names that fit their words.
+-- Plain data of answers: what stands past the end of an array, what fits its words, what lies within its text.
 use Prim.Native.Nat.{ℕ, _+_, _<_, _≤_}
 use lib.ListN.{getD}
 use Rattle.model.specs.declared.Value.{Value}
 use Rattle.model.specs.declared.Value.the-variants.{Number, Text, Truth}
 use Rattle.model.specs.declared.Part.{Part}
 use Rattle.model.specs.declared.Edge.{Edge}
 use Rattle.model.specs.declared.Requirement.{Requirement}
 use Rattle.model.specs.declared.Condition.{Condition}
 use Rattle.model.specs.declared.Condition.the-variants.{Excluded, OfVertex, OfEdge}
 use Rattle.model.specs.declared.Clause.{Clause}
 use Rattle.model.specs.declared.Pattern.{Pattern}
 
 -- what stands past the end of an array
 abbrev pub noPart : Part
