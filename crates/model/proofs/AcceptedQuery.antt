@@ -1,7 +1,6 @@
 -- What acceptance of a query says, both ways, and that the names of an accepted query are clear.
 use Prim.Native.Nat.{_≤_}
 use mathlib.Core.Path.{_≡_, refl, ap, subst}
-use mathlib.Core.List.{[], _∷_}
 use mathlib.Core.Bool.{_||_}
 use lib.ListN.{length}
 use lib.Dec.{T}
@@ -9,13 +8,13 @@ use Rattle.model.specs.Bytes.{Bytes}
 use Rattle.model.specs.Choice.{Maybe, nothing, just}
 use Rattle.model.specs.Lists.{any}
 use Rattle.model.specs.Names.{mem, twice}
-use Rattle.model.specs.Refusal.{accepted, refusal, refusedIf, _if_}
+use Rattle.model.specs.Refusal.{accepted, refusal, refusedIf}
 use Rattle.model.specs.Lines.{badLine}
 use Rattle.model.specs.Book.{Book}
 use Rattle.model.specs.QueryText.{QueryText}
 use Rattle.model.specs.Grammar.{queryText}
 use Rattle.model.specs.Query.{vertexNames, edgeNames}
-use Rattle.model.specs.ReadQuery.{hasUndeclared, hasTwice, hasMistyped, tooMany, hasFromItself, queryFault, textOrFault, readQuery}
+use Rattle.model.specs.ReadQuery.{hasTwice, queryFaults, queryFault, textOrFault, readQuery}
 use Rattle.model.proofs.Decides.{or-l, or-r}
 use Rattle.model.proofs.Members.{_∈_, any-i, mem-i}
 use Rattle.model.proofs.ByNodes.{Named}
@@ -58,7 +57,7 @@ pub record ClearNames (q : QueryText) : Type 0 where
 pub clear-names : (b : Book) (q : QueryText) → queryFault b q ≡ nothing → ClearNames q
 unfolding queryFault hasTwice
 clear-names b q e =
-    let h = no-fault ((4 if hasUndeclared b q) ∷ (5 if hasTwice q) ∷ (6 if hasMistyped b q) ∷ (7 if tooMany q) ∷ (8 if hasFromItself q) ∷ []) .0 e in
+    let h = no-fault (queryFaults b q) .0 e in
     let A = twice (edgeNames q) in
     let B = any (λ x. mem x (vertexNames q)) (edgeNames q) in
     let C = twice (q .returns) in

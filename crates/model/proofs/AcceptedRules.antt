@@ -11,15 +11,15 @@ use Rattle.model.specs.Choice.{pick, nothing, just, andThen}
 use Rattle.model.specs.Lists.{isNil, any, keep}
 use Rattle.model.specs.Names.{mem}
 use Rattle.model.specs.Items.{Item, text}
-use Rattle.model.specs.Refusal.{accepted, refusal, onAccept, _if_}
+use Rattle.model.specs.Refusal.{accepted, refusal, onAccept}
 use Rattle.model.specs.Lines.{Line, linesOf, readLines, known, faultOr}
 use Rattle.model.specs.Forms.{asWord, asName, asQuoted, atEnd, formOf}
 use Rattle.model.specs.Book.{Book}
 use Rattle.model.specs.QueryText.{QueryText}
 use Rattle.model.specs.Grammar.{queryText}
-use Rattle.model.specs.ReadQuery.{hasUndeclared, hasTwice, hasMistyped, tooMany, hasFromItself, queryFault, readQuery}
+use Rattle.model.specs.ReadQuery.{hasUndeclared, hasTwice, tooMany, queryFaults, queryFault, readQuery}
 use Rattle.model.specs.Rules.{Category, Policy, Rules, categoryNames, actorsOf, downFrom, enforced}
-use Rattle.model.specs.ReadRules.{RulesLine, category, policy, namesAfter, categoryLine, policyLine, rulesLine, hasPolicy, rulesFault, addRule, rulesStep, covered, readRules}
+use Rattle.model.specs.ReadRules.{RulesLine, category, policy, namesAfter, categoryLine, policyLine, rulesLine, hasPolicy, policyFaults, rulesFault, addRule, rulesStep, covered, readRules}
 use Rattle.model.specs.Request.{Request}
 use Rattle.model.specs.Graph.{Each}
 use Rattle.model.specs.Weave.{Asked, askedPolicies}
@@ -79,13 +79,13 @@ policy-accepted : (b : Book) (r : Rules) (c : Bytes) (k : ℕ) (q : QueryText) �
 unfolding rulesFault queryFault
 policy-accepted b r c k q (t, a, l, e) f =
     let C = not (mem c (categoryNames r)) in
-    let h = no-fault ((4 if C || hasUndeclared b q) ∷ (5 if hasPolicy r c || hasTwice q) ∷ (6 if hasMistyped b q) ∷ (7 if ltb 2048 k || tooMany q) ∷ (8 if hasFromItself q) ∷ []) .0 f in (
+    let h = no-fault (policyFaults b r c k q) .0 f in (
       t,
       accept-query b t q (record {
         short = subst (λ z. z ≤ 2048) (sym l) (nltb→le 2048 k (not-T (ltb 2048 k) (λ u. h .1 .1 .1 .0 (or-l (ltb 2048 k) (tooMany q) u))));
         allowed = allowed-line 1 t a;
         is-text = e;
-        faultless = no-fault ((4 if hasUndeclared b q) ∷ (5 if hasTwice q) ∷ (6 if hasMistyped b q) ∷ (7 if tooMany q) ∷ (8 if hasFromItself q) ∷ []) .1
+        faultless = no-fault (queryFaults b q) .1
             (λ u. h .0 (or-r C (hasUndeclared b q) u), (λ u. h .1 .0 (or-r (hasPolicy r c) (hasTwice q) u), (h .1 .1 .0, (λ u. h .1 .1 .1 .0 (or-r (ltb 2048 k) (tooMany q) u), (h .1 .1 .1 .1 .0, tt)))));
       }),
     )

@@ -56,6 +56,7 @@ pub mod Enforced
 pub mod Tied
 -- refusals: exclusive, complete, in the paper's order
 pub mod Faults
+pub mod LowestFaults
 pub mod TextRefusals
 pub mod Refusals
 pub mod ListRefusals

@@ -9,12 +9,11 @@ use Rattle.model.specs.Bytes.{Bytes}
 use Rattle.model.specs.Choice.{nothing}
 use Rattle.model.specs.Lists.{any, keep, joined}
 use Rattle.model.specs.Names.{mem, twice}
-use Rattle.model.specs.Refusal.{Row, _if_}
 use Rattle.model.specs.Book.{Book, attrNames}
 use Rattle.model.specs.QueryText.{Condition, differ, demand, Match, QueryText}
 use Rattle.model.specs.Grammar.{returns}
 use Rattle.model.specs.Query.{ChainEdge, vertexNames, edgesOf, conditionsOf}
-use Rattle.model.specs.ReadQuery.{Scoped, scoped, unknown, typed, mistyped, isDiffer, fromItself, hasUndeclared, hasTwice, hasMistyped, tooMany, hasFromItself, queryFault}
+use Rattle.model.specs.ReadQuery.{Scoped, scoped, unknown, typed, mistyped, isDiffer, fromItself, hasUndeclared, hasTwice, hasMistyped, tooMany, hasFromItself, queryFaults, queryFault}
 use Rattle.model.proofs.Decides.{and-iff, or-l, or-r, or-cases}
 use Rattle.model.proofs.Members.{_∈_, any-e, any-i, map-e, mem-i, mem-e, firsts-i}
 use Rattle.model.proofs.Chains.{condition-of}
@@ -144,8 +143,8 @@ back-itself q h = ap (any fromItself) (back-conditions q h)
 pub back-fault : (b : Book) (q : QueryText) → NonEmpty (vertexNames q) → queryFault b q ≡ nothing → queryFault b (readBack q) ≡ nothing
 unfolding queryFault
 back-fault b q h e =
-    let r = no-fault (table q) .0 e in
-    no-fault (table (readBack q)) .1 (
+    let r = no-fault (queryFaults b q) .0 e in
+    no-fault (queryFaults b (readBack q)) .1 (
       back-undeclared b q h (r .0),
       (
         subst (λ t. T t → ⊥) (sym (back-twice q)) (r .1 .0),
@@ -155,6 +154,3 @@ back-fault b q h e =
         ),
       ),
     )
-  where
-    table : QueryText → List Row
-    table p = (4 if hasUndeclared b p) ∷ (5 if hasTwice p) ∷ (6 if hasMistyped b p) ∷ (7 if tooMany p) ∷ (8 if hasFromItself p) ∷ []

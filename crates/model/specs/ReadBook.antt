@@ -8,7 +8,7 @@ use Rattle.model.specs.Bytes.{Bytes, same}
 use Rattle.model.specs.Choice.{Maybe, andThen}
 use Rattle.model.specs.Lists.{any, all}
 use Rattle.model.specs.Names.{mem, twice, place}
-use Rattle.model.specs.Refusal.{Outcome, lowest, _if_}
+use Rattle.model.specs.Refusal.{Outcome, Row, lowest, _if_}
 use Rattle.model.specs.Lines.{Line, Step, faultOr, formStep, readLines, linesOf, bytesFirst}
 use Rattle.model.specs.Values.{Entry, ofKind}
 use Rattle.model.specs.Forms.{formOf}
@@ -27,27 +27,39 @@ undeclared ds es = any (λ e. not (mem (e .attr) (attrNames ds))) es
 unfoldable pub related : Book → Bytes → ℕ → ℕ → Bool
 related b l x y = any (λ r. same (r .label) l && eqb (r .from) x && eqb (r .to) y) (b .rels)
 
--- the faults of a declared name: among names declared already
-unfoldable pub nameFault : Bytes → List Bytes → Maybe ℕ
-nameFault n ns = lowest ((5 if mem n ns) ∷ (7 if leb 32 (length ns)) ∷ [])
+-- the table of faults of a declared name: among names declared already
+abbrev pub nameFaults : Bytes → List Bytes → List Row
+nameFaults n ns = (5 if mem n ns) ∷ (7 if leb 32 (length ns)) ∷ []
 
--- the faults of a node line
-unfoldable pub nodeFault : Book → Bytes → List Entry → Maybe ℕ
-nodeFault b n es = lowest
-    ((4 if undeclared (b .vattrs) es)
+-- the lowest of them
+unfoldable pub nameFault : Bytes → List Bytes → Maybe ℕ
+nameFault n ns = lowest (nameFaults n ns)
+
+-- the table of faults of a node line
+abbrev pub nodeFaults : Book → Bytes → List Entry → List Row
+nodeFaults b n es =
+    (4 if undeclared (b .vattrs) es)
     ∷ (5 if mem n (nodeNames b) || twice (map (λ e. e .attr) es))
     ∷ (6 if not (all (suits (b .vattrs)) es))
     ∷ (7 if leb 256 (length (b .nodes)) || ltb 2048 (entryCount b + length es))
-    ∷ [])
+    ∷ []
 
--- the faults of a rel line
-unfoldable pub relFault : Book → Bytes → Bytes → Bytes → List Entry → Maybe ℕ
-relFault b l x y es = lowest
-    ((4 if not (mem l (b .labels)) || not (mem x (nodeNames b)) || not (mem y (nodeNames b)) || undeclared (b .eattrs) es)
+-- the lowest of them
+unfoldable pub nodeFault : Book → Bytes → List Entry → Maybe ℕ
+nodeFault b n es = lowest (nodeFaults b n es)
+
+-- the table of faults of a rel line
+abbrev pub relFaults : Book → Bytes → Bytes → Bytes → List Entry → List Row
+relFaults b l x y es =
+    (4 if not (mem l (b .labels)) || not (mem x (nodeNames b)) || not (mem y (nodeNames b)) || undeclared (b .eattrs) es)
     ∷ (5 if related b l (place x (nodeNames b)) (place y (nodeNames b)) || twice (map (λ e. e .attr) es))
     ∷ (6 if not (all (suits (b .eattrs)) es))
     ∷ (7 if leb 1024 (length (b .rels)) || ltb 2048 (entryCount b + length es))
-    ∷ [])
+    ∷ []
+
+-- the lowest of them
+unfoldable pub relFault : Book → Bytes → Bytes → Bytes → List Entry → Maybe ℕ
+relFault b l x y es = lowest (relFaults b l x y es)
 
 -- the lowest fault of a line after the lines before
 unfoldable pub lineFault : Book → BookLine → Maybe ℕ

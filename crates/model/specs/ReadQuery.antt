@@ -9,7 +9,7 @@ use Rattle.model.specs.Choice.{Maybe, nothing, just}
 use Rattle.model.specs.Lists.{any, keep}
 use Rattle.model.specs.Names.{mem, twice}
 use Rattle.model.specs.Values.{Value, Kind, ints, strs, bools, ofKind}
-use Rattle.model.specs.Refusal.{Outcome, accepted, refusal, refusedIf, lowest, _if_}
+use Rattle.model.specs.Refusal.{Outcome, accepted, refusal, refusedIf, Row, lowest, _if_}
 use Rattle.model.specs.Lines.{bytesFirst}
 use Rattle.model.specs.Book.{Book, Attr, attrNames}
 use Rattle.model.specs.QueryText.{Relation, eq, ne, lt, le, gt, ge, Condition, differ, demand, Match, QueryText}
@@ -86,15 +86,19 @@ tooMany q =
 unfoldable pub hasFromItself : QueryText → Bool
 hasFromItself q = any fromItself (conditionsOf q)
 
--- the lowest fault of a query
-unfoldable pub queryFault : Book → QueryText → Maybe ℕ
-queryFault b q = lowest
-    ((4 if hasUndeclared b q)
+-- the table of faults of a query
+abbrev pub queryFaults : Book → QueryText → List Row
+queryFaults b q =
+    (4 if hasUndeclared b q)
     ∷ (5 if hasTwice q)
     ∷ (6 if hasMistyped b q)
     ∷ (7 if tooMany q)
     ∷ (8 if hasFromItself q)
-    ∷ [])
+    ∷ []
+
+-- the lowest of them
+unfoldable pub queryFault : Book → QueryText → Maybe ℕ
+queryFault b q = lowest (queryFaults b q)
 
 -- a broken grammar is 3
 unfoldable pub textOrFault : Book → Maybe QueryText → Outcome QueryText

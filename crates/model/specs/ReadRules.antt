@@ -9,7 +9,7 @@ use Rattle.model.specs.Choice.{pick, Maybe, nothing, just, andThen}
 use Rattle.model.specs.Lists.{isNil, any, all, each}
 use Rattle.model.specs.Names.{mem, twice}
 use Rattle.model.specs.Items.{Item, itemsOf}
-use Rattle.model.specs.Refusal.{Outcome, accepted, refusal, onAccept, lowest, _if_}
+use Rattle.model.specs.Refusal.{Outcome, accepted, refusal, onAccept, Row, lowest, _if_}
 use Rattle.model.specs.Lines.{Line, Step, readLines, linesOf, bytesFirst, faultOr, formStep}
 use Rattle.model.specs.Forms.{asWord, asName, asQuoted, first, atEnd, formOf}
 use Rattle.model.specs.Book.{Book}
@@ -57,21 +57,29 @@ lacksActor r actors over = any (λ c. mem (c .name) over && not (all (λ a. mem 
 unfoldable pub hasPolicy : Rules → Bytes → Bool
 hasPolicy r c = any (λ p. same (p .category) c) (r .policies)
 
--- the lowest fault of a line after the lines before
-unfoldable pub rulesFault : Book → Rules → RulesLine → Maybe ℕ
-rulesFault b r (category n actors over) = lowest
-    ((4 if not (all (λ c. mem c (categoryNames r)) over))
+-- the table of faults of a category line
+abbrev pub categoryFaults : Rules → Bytes → List Bytes → List Bytes → List Row
+categoryFaults r n actors over =
+    (4 if not (all (λ c. mem c (categoryNames r)) over))
     ∷ (5 if mem n (categoryNames r) || twice actors || twice over)
     ∷ (7 if leb 16 (length (r .categories)) || ltb 8 (length actors))
     ∷ (9 if not (mem (bytesOf "requestor") actors) || lacksActor r actors over)
-    ∷ [])
-rulesFault b r (policy c bytes q) = lowest
-    ((4 if not (mem c (categoryNames r)) || hasUndeclared b q)
+    ∷ []
+
+-- the table of faults of a policy line
+abbrev pub policyFaults : Book → Rules → Bytes → ℕ → QueryText → List Row
+policyFaults b r c bytes q =
+    (4 if not (mem c (categoryNames r)) || hasUndeclared b q)
     ∷ (5 if hasPolicy r c || hasTwice q)
     ∷ (6 if hasMistyped b q)
     ∷ (7 if ltb 2048 bytes || tooMany q)
     ∷ (8 if hasFromItself q)
-    ∷ [])
+    ∷ []
+
+-- the lowest fault of a line after the lines before
+unfoldable pub rulesFault : Book → Rules → RulesLine → Maybe ℕ
+rulesFault b r (category n actors over) = lowest (categoryFaults r n actors over)
+rulesFault b r (policy c bytes q) = lowest (policyFaults b r c bytes q)
 
 -- the rules with a line more
 unfoldable pub addRule : Rules → RulesLine → Rules

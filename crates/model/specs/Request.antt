@@ -7,7 +7,7 @@ use Rattle.model.specs.Choice.{pick, Maybe, nothing, just, andThen}
 use Rattle.model.specs.Lists.{isNil, any, each}
 use Rattle.model.specs.Names.{mem, twice, place}
 use Rattle.model.specs.Items.{Item, itemsOf}
-use Rattle.model.specs.Refusal.{Outcome, accepted, refusal, lowest, _if_}
+use Rattle.model.specs.Refusal.{Outcome, accepted, refusal, Row, lowest, _if_}
 use Rattle.model.specs.Lines.{Line, Step, stepThen, linesOf, bytesFirst, faultOr, formStep}
 use Rattle.model.specs.Forms.{asWord, asName, first, atEnd, formOf}
 use Rattle.model.specs.Book.{Book, nodeNames}
@@ -50,13 +50,17 @@ requestLine is =
     andThen (each claimOf is) (λ cs.
     pick (same w (bytesOf "request")) (just (record { category = c; claims = cs })) nothing)))
 
--- the lowest fault of the request's line
-unfoldable pub requestFault : Book → Rules → RequestLine → Maybe ℕ
-requestFault b r x = lowest
-    ((4 if not (mem (x .category) (categoryNames r)) || any (λ c. not (mem (c .actor) (actorsOf r (x .category))) || not (mem (c .node) (nodeNames b))) (x .claims))
+-- the table of faults of the request's line
+abbrev pub requestFaults : Book → Rules → RequestLine → List Row
+requestFaults b r x =
+    (4 if not (mem (x .category) (categoryNames r)) || any (λ c. not (mem (c .actor) (actorsOf r (x .category))) || not (mem (c .node) (nodeNames b))) (x .claims))
     ∷ (5 if twice (map (λ c. c .actor) (x .claims)))
     ∷ (11 if not (mem (bytesOf "requestor") (map (λ c. c .actor) (x .claims))))
-    ∷ [])
+    ∷ []
+
+-- the lowest of them
+unfoldable pub requestFault : Book → Rules → RequestLine → Maybe ℕ
+requestFault b r x = lowest (requestFaults b r x)
 
 -- the identities by node number
 unfoldable pub requestOf : Book → RequestLine → Request

@@ -8,7 +8,7 @@ use Rattle.model.specs.Bytes.{Bytes}
 use Rattle.model.specs.Choice.{pick, Maybe}
 use Rattle.model.specs.Lists.{any, all, keep, joined, memℕ, below}
 use Rattle.model.specs.Names.{mem, place, firsts}
-use Rattle.model.specs.Refusal.{lowest, _if_}
+use Rattle.model.specs.Refusal.{Row, lowest, _if_}
 use Rattle.model.specs.QueryText.{QueryText}
 use Rattle.model.specs.Pattern.{Pattern, Edge, Clause, excluded, vertexHas, edgeHas, patternOf}
 use Rattle.model.specs.Rules.{Rules, actorsOf, enforced}
@@ -97,9 +97,10 @@ stepsAlong (suc k) p vs = stepsAlong k p (stepAlong p vs)
 unfoldable pub tied : Pattern → List Identity → List ℕ
 tied p ids = stepsAlong (length (p .vertices)) p (withIdentity p ids)
 
--- text 5: 12 and 13
+-- the table of faults of text 5
+abbrev pub wovenFaults : Pattern → List Identity → List Row
+wovenFaults p ids = (12 if wovenTooMany p) ∷ (13 if not (all (λ v. memℕ v (tied p ids)) (below (length (p .vertices))))) ∷ []
+
+-- the lowest of them
 unfoldable pub wovenFault : Pattern → List Identity → Maybe ℕ
-wovenFault p ids = lowest
-    ((12 if wovenTooMany p)
-    ∷ (13 if not (all (λ v. memℕ v (tied p ids)) (below (length (p .vertices)))))
-    ∷ [])
+wovenFault p ids = lowest (wovenFaults p ids)
