@@ -6,6 +6,7 @@ pub mod Cases
 -- the theorems, a file each
 pub mod ExactModels
 pub mod EdgesMet
+pub mod AbsentAttributes
 pub mod RoundTrip
 pub mod Weaving
 pub mod RowsHad

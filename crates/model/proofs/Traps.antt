@@ -35,29 +35,19 @@ lenient = "(category view (actors requestor) (over))\n(policy view \"Match (requ
 abbrev ana : String
 ana = "(request view (id requestor ana))\n"
 
--- An absent attribute is not 0, '' or false: bare (1) has none and is never listed; full (2) has these values.
+-- An absent attribute is not 0: bare (1) has no rate and is never listed; full (2) has the rate 0.
 abbrev absent : String
-absent =
-    "(vattr rate int)\n(vattr kind str)\n(vattr shut bool)\n(eattr since int)\n(label runs)\n(node ana)\n(node bare)\n(node full (rate 0) (kind '') (shut false))\n(rel runs ana bare)\n(rel runs ana full (since 0))\n"
+absent = "(vattr rate int)\n(label runs)\n(node ana)\n(node bare)\n(node full (rate 0))\n(rel runs ana bare)\n(rel runs ana full)\n"
 
--- ana asks for those she runs that meet a requirement which bare has no attribute for
-abbrev asks : String → Case
-asks q = record { book = absent; rules = lenient; query = q; request = ana; rows = (2 ∷ []) ∷ [] }
+-- ana asks for those she runs whose rate differs from 1: bare has no rate; the law is `absent-meets-nothing` of AbsentAttributes
+abbrev absentCase : List Case
+absentCase =
+    record { book = absent; rules = lenient; query = "Match (requestor)-[e:runs]->(s) Where s.rate <> 1 Return s"; request = ana; rows = (2 ∷ []) ∷ [] } ∷ []
 
--- one such query for each type of value, one with <>, one on an edge
-abbrev absentCases : List Case
-absentCases =
-    asks "Match (requestor)-[e:runs]->(s) Where s.rate = 0 Return s"
-    ∷ asks "Match (requestor)-[e:runs]->(s) Where s.rate <> 1 Return s"
-    ∷ asks "Match (requestor)-[e:runs]->(s) Where s.kind = '' Return s"
-    ∷ asks "Match (requestor)-[e:runs]->(s) Where s.shut = false Return s"
-    ∷ asks "Match (requestor)-[e:runs]->(s) Where e.since = 0 Return s"
-    ∷ []
-
--- an absent attribute meets no requirement
-absent-meets-nothing : map run absentCases ≡ map gives absentCases
+-- only full is listed
+absent-example : map run absentCase ≡ map gives absentCase
 unfolding computing
-absent-meets-nothing = refl
+absent-example = refl
 
 -- = <> < <= > >= of 1 and 2, of 2 and 2, of 3 and 2
 relations-of-numbers : map (λ r. compares r 1 2 ∷ compares r 2 2 ∷ compares r 3 2 ∷ []) (eq ∷ ne ∷ lt ∷ le ∷ gt ∷ ge ∷ [])
