@@ -61,6 +61,7 @@ pub mod LowestFaults
 pub mod TextRefusals
 pub mod Refusals
 pub mod ListRefusals
--- computed: two faults at once, the limits of a full book, the traps
+-- computed: two faults at once, the limits of a full book, the traps, whole answers of the request reader
 pub mod RefusalCases
 pub mod Traps
+pub mod RequestAnswerCases

@@ -31,4 +31,6 @@ pub mod Service
 pub mod Printed
 pub mod Answers
 pub mod PlainData
+pub mod RequestPlaces
+pub mod RequestAnswer
 pub mod Computing
