@@ -1,0 +1,3 @@
+-- The reasoning behind the node names' service.
+pub mod PutLaws
+pub mod NameLaws

@@ -1,0 +1,2 @@
+-- What the contract of the node names' service speaks of.
+pub mod Names
