@@ -1,21 +1,22 @@
 -- What acceptance of a query says, both ways, and that the names of an accepted query are clear.
 use Prim.Native.Nat.{_≤_}
 use mathlib.Core.Path.{_≡_, refl, ap, subst}
+use mathlib.Core.Logic.{_≢_}
 use mathlib.Core.Bool.{_||_}
 use lib.ListN.{length}
 use lib.Dec.{T}
-use Rattle.model.specs.Bytes.{Bytes}
+use Rattle.model.specs.Bytes.{Bytes, same}
 use Rattle.model.specs.Choice.{Maybe, nothing, just}
 use Rattle.model.specs.Lists.{any}
 use Rattle.model.specs.Names.{mem, twice}
 use Rattle.model.specs.Refusal.{accepted, refusal, refusedIf}
 use Rattle.model.specs.Lines.{badLine}
 use Rattle.model.specs.Book.{Book}
-use Rattle.model.specs.QueryText.{QueryText}
+use Rattle.model.specs.QueryText.{differ, QueryText}
 use Rattle.model.specs.Grammar.{queryText}
-use Rattle.model.specs.Query.{vertexNames, edgeNames}
-use Rattle.model.specs.ReadQuery.{hasTwice, queryFaults, queryFault, textOrFault, readQuery}
-use Rattle.model.proofs.Decides.{or-l, or-r}
+use Rattle.model.specs.Query.{vertexNames, edgeNames, conditionsOf}
+use Rattle.model.specs.ReadQuery.{fromItself, hasTwice, hasFromItself, queryFaults, queryFault, textOrFault, readQuery}
+use Rattle.model.proofs.Decides.{or-l, or-r, same-refl}
 use Rattle.model.proofs.Members.{_∈_, any-i, mem-i}
 use Rattle.model.proofs.ByNodes.{Named}
 use Rattle.model.proofs.Outcomes.{never, if-e, no-fault, bytes-accepted, accept-bytes}
@@ -47,15 +48,17 @@ unfolding readQuery textOrFault refusedIf
 accept-query b s q h =
     accept-bytes 3 2048 (λ l. 1) s (textOrFault b (queryText s)) q (record { short = h .short; allowed = h .allowed; rest = rw (h .is-text, h .faultless) refl })
 
--- the names of a text are clear: conditions and Return name what stands in the chains, no name is a vertex and an edge, no edge variable stands twice
+-- the names of a text are clear: conditions and Return name what stands in the chains, no name is a vertex and an edge, no edge variable stands twice,
+-- no vertex is excluded from itself
 pub record ClearNames (q : QueryText) : Type 0 where
   pub declared : Named q
   pub apart : (x : Bytes) → x ∈ vertexNames q → x ∈ edgeNames q → ⊥
   pub once : T (twice (edgeNames q)) → ⊥
+  pub differing : (v u : Bytes) → differ v u ∈ conditionsOf q → v ≢ u
 
 -- the names of a text without a fault are clear
 pub clear-names : (b : Book) (q : QueryText) → queryFault b q ≡ nothing → ClearNames q
-unfolding queryFault hasTwice
+unfolding queryFault hasTwice hasFromItself fromItself
 clear-names b q e =
     let h = no-fault (queryFaults b q) .0 e in
     let A = twice (edgeNames q) in
@@ -65,6 +68,7 @@ clear-names b q e =
       declared = named-of b q (h .0);
       apart = λ x v w. h .1 .0 (or-l (A || B) C (or-r A B (any-i (λ z. mem z (vertexNames q)) (edgeNames q) x w (mem-i x (vertexNames q) v))));
       once = λ t. h .1 .0 (or-l (A || B) C (or-l A B t));
+      differing = λ v u m e. h .1 .1 .1 .1 .0 (any-i fromItself (conditionsOf q) (differ v u) m (subst (λ z. T (same v z)) e (same-refl v)));
     }
 
 -- the names of an accepted query are clear

@@ -34,6 +34,7 @@ pub mod AcceptedRequest
 pub mod WovenNames
 pub mod Families
 pub mod WovenParts
+pub mod Exclusions
 pub mod WovenMapping
 pub mod WovenFamily
 -- the written query

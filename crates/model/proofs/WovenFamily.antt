@@ -25,6 +25,7 @@ use Rattle.model.proofs.NumberedMappings.{byName, modelled, SameOnNames
 use Rattle.model.proofs.WovenNames.{woven-actor, AllBeginWithByte}
 use Rattle.model.proofs.Families.{askedOf, Family, familyRow, WovenModel, wovenRow, Weavable}
 use Rattle.model.proofs.WovenParts.{edgesIn, Counted, counted-map, within, Part, verticesOf, wovenVertices, wovenEdges, edges-i, parts-i, vertices-i, woven-returns, vertices-e}
+use Rattle.model.proofs.Exclusions.{woven-apart}
 use Rattle.model.proofs.WovenMapping.{nodeBy, relBy, wovenOf, actorsIn, NodesKept, nodes-kept, mappings-kept}
 
 module _ (vs : List Bytes) (m : Map) where
@@ -90,6 +91,7 @@ module _ (b : Book) (ids : List Identity) (asked : List Asked) (m : Map) (woven 
   parts = parts-i b vs m 0 0 asked in-vs
       (λ i l. each-e (λ v. IsNode b (m .node v)) (below (length vs)) (woven .satisfies .vertices) i (below-i _ i l))
       (edges-i b m (wovenEdges vs 0 asked) (λ i l. each-e (NumberedEdgeHolds b (weave asked) m) (below (length (wovenEdges vs 0 asked))) (woven .satisfies .edges) i (below-i _ i l)))
+      (woven-apart asked weavable)
       (woven .satisfies .clauses)
 
   -- actor vertices have the nodes of the woven vertices of their names

@@ -1,7 +1,7 @@
 -- Satisfaction of the woven pattern, part by part: one statement for each text.
 use Prim.Native.Nat.{ℕ, _+_, _-_, _<_, _≤_}
 use mathlib.Core.Path.{_≡_, refl, sym, subst, subst₂, _∙_, ap}
-use mathlib.Core.Logic.{⊎-elim}
+use mathlib.Core.Logic.{⊎-elim, _≢_}
 use mathlib.Core.List.{List, [], _∷_, _++_, map, List·Memᴰ·head, List·Memᴰ·tail, List·Memᴰ·append-cases as append-cases, Memᴰ·append-left, Memᴰ·append-right}
 use native.Mathlib.Omega.{arith}
 use lib.ListN.{length, getD, length-append, List·getD-append}
@@ -105,7 +105,7 @@ each-left P xs ys h = each-i P xs (λ x m. each-e P (xs ++ ys) h x (Memᴰ·appe
 each-right : {A : Type 0} (P : A → Type 0) (xs ys : List A) → Each P (xs ++ ys) → Each P ys
 each-right P xs ys h = each-i P ys (λ x m. each-e P (xs ++ ys) h x (Memᴰ·append-right xs m))
 
-each-both : {A : Type 0} (P : A → Type 0) (xs ys : List A) → Each P xs → Each P ys → Each P (xs ++ ys)
+pub each-both : {A : Type 0} (P : A → Type 0) (xs ys : List A) → Each P xs → Each P ys → Each P (xs ++ ys)
 each-both P xs ys f g = each-i P (xs ++ ys) (λ x m. ⊎-elim (each-e P xs f x) (each-e P ys g x) (append-cases xs m))
 
 -- the pattern of a text under woven names
@@ -124,17 +124,32 @@ wovenVertices asked = firsts [] (verticesOf 0 asked)
 abbrev pub wovenEdges : List Bytes → ℕ → List Asked → List Edge
 wovenEdges vs k asked = joined (λ p. map (movedEdge vs p) (p .edges)) (named k asked)
 
+-- a clause excludes no vertex from itself
+abbrev pub Apart : Clause → Type 0
+Apart (excluded u v) = u ≢ v
+Apart (vertexHas v a r x) = Unit {0}
+Apart (edgeHas e a r x) = Unit {0}
+
 module _ (b : Book) (vs : List Bytes) (m : Map) where
-  clause-iff : (k n : ℕ) (a : Asked) (c : Clause) → ClauseHolds b m (movedClause vs (namedOne k a) n c) ≡ ClauseHolds b (within vs m k n a) c
+  -- a clause of the woven pattern that excludes no vertex from itself holds within a text
+  clause-within : (k n : ℕ) (a : Asked) (c : Clause) → Apart (movedClause vs (namedOne k a) n c) → ClauseHolds b m (movedClause vs (namedOne k a) n c) → ClauseHolds b (within vs m k n a) c
   unfolding movedClause moved
-  clause-iff k n a (excluded u v) = refl
-  clause-iff k n a (vertexHas v c r x) = refl
-  clause-iff k n a (edgeHas e c r x) = refl
+  clause-within k n a (excluded u v) d h = λ _. h d
+  clause-within k n a (vertexHas v c r x) d h = h
+  clause-within k n a (edgeHas e c r x) d h = h
+
+  -- a clause of a text holds in the woven pattern
+  clause-woven : (k n : ℕ) (a : Asked) (c : Clause) → ClauseHolds b (within vs m k n a) c → ClauseHolds b m (movedClause vs (namedOne k a) n c)
+  unfolding movedClause moved
+  clause-woven k n a (excluded u v) h = λ d. h (λ e. d (ap (moved vs (namedOne k a)) e))
+  clause-woven k n a (vertexHas v c r x) h = h
+  clause-woven k n a (edgeHas e c r x) h = h
 
   part-i : (k n : ℕ) (a : Asked) → ((w : Bytes) → w ∈ map (wovenName k (a .actors)) (vertexNames (a .text)) → w ∈ vs) → ((i : ℕ) → i < length vs → IsNode b (m .node i))
-      → EdgesAt b m n (map (movedEdge vs (namedOne k a)) (patternOf (a .text) .edges)) → Each (ClauseHolds b m) (map (movedClause vs (namedOne k a) n) (patternOf (a .text) .clauses)) → Part b vs m k n a
+      → EdgesAt b m n (map (movedEdge vs (namedOne k a)) (patternOf (a .text) .edges)) → Each Apart (map (movedClause vs (namedOne k a) n) (patternOf (a .text) .clauses))
+      → Each (ClauseHolds b m) (map (movedClause vs (namedOne k a) n) (patternOf (a .text) .clauses)) → Part b vs m k n a
   unfolding patternOf edgeAt movedEdge moved
-  part-i k n a f g h c =
+  part-i k n a f g h d c =
       let p = patternOf (a .text) in
       let ws = map (wovenName k (a .actors)) (vertexNames (a .text)) in
       record {
@@ -142,8 +157,9 @@ module _ (b : Book) (vs : List Bytes) (m : Map) where
             g _ (at-place vs (getD ws i []) (f (getD ws i []) (getD-in ws i [] t)) .0));
         edges = each-i (NumberedEdgeHolds b p (within vs m k n a)) (below (length (p .edges))) (λ i l. let t = below-e _ i l in
             subst (Holds b m (n + i)) (getD-map (movedEdge vs (namedOne k a)) (p .edges) i none none t) (h i (subst (λ z. i < z) (sym (length-map (movedEdge vs (namedOne k a)) (p .edges))) t)));
-        clauses = each-i (ClauseHolds b (within vs m k n a)) (p .clauses) (λ d l. subst (λ z. z) (clause-iff k n a d)
-            (each-e (ClauseHolds b m) (map (movedClause vs (namedOne k a) n) (p .clauses)) c _ (map-i (movedClause vs (namedOne k a) n) (p .clauses) d l)));
+        clauses = each-i (ClauseHolds b (within vs m k n a)) (p .clauses) (λ e l.
+            let i = map-i (movedClause vs (namedOne k a) n) (p .clauses) e l in
+            let cs = map (movedClause vs (namedOne k a) n) (p .clauses) in clause-within k n a e (each-e Apart cs d _ i) (each-e (ClauseHolds b m) cs c _ i));
       }
 
   part-e : (k n : ℕ) (a : Asked) → Part b vs m k n a
@@ -154,24 +170,24 @@ module _ (b : Book) (vs : List Bytes) (m : Map) where
         λ i l. let t : i < length (p .edges) = subst (λ z. i < z) (length-map (movedEdge vs (namedOne k a)) (p .edges)) l in
             subst (Holds b m (n + i)) (sym (getD-map (movedEdge vs (namedOne k a)) (p .edges) i none none t)) (each-e (NumberedEdgeHolds b p (within vs m k n a)) (below (length (p .edges))) (h .edges) i (below-i _ i t)),
         each-i (ClauseHolds b m) (map (movedClause vs (namedOne k a) n) (p .clauses)) (λ d l. let r = map-e (movedClause vs (namedOne k a) n) (p .clauses) d l in
-            subst (ClauseHolds b m) (sym (r .2)) (subst (λ z. z) (sym (clause-iff k n a (r .0))) (each-e (ClauseHolds b (within vs m k n a)) (p .clauses) (h .clauses) (r .0) (r .1)))),
+            subst (ClauseHolds b m) (sym (r .2)) (clause-woven k n a (r .0) (each-e (ClauseHolds b (within vs m k n a)) (p .clauses) (h .clauses) (r .0) (r .1)))),
       )
 
   -- from the woven pattern to the texts
   pub parts-i : (k n : ℕ) (asked : List Asked) → ((w : Bytes) → w ∈ verticesOf k asked → w ∈ vs) → ((i : ℕ) → i < length vs → IsNode b (m .node i))
-      → EdgesAt b m n (wovenEdges vs k asked) → Each (ClauseHolds b m) (movedClauses vs n (named k asked)) → Counted (λ a. a) (Part b vs m) k n asked
+      → EdgesAt b m n (wovenEdges vs k asked) → Each Apart (movedClauses vs n (named k asked)) → Each (ClauseHolds b m) (movedClauses vs n (named k asked)) → Counted (λ a. a) (Part b vs m) k n asked
   unfolding named joined movedClauses patternOf
-  parts-i k n [] f g h c = tt
-  parts-i k n (a ∷ others) f g h c =
+  parts-i k n [] f g h d c = tt
+  parts-i k n (a ∷ others) f g h d c =
       let p = patternOf (a .text) in
       let ws = map (wovenName k (a .actors)) (vertexNames (a .text)) in
       let xs = map (movedEdge vs (namedOne k a)) (p .edges) in
       let ys = wovenEdges vs (k + 1) others in
       let cs = map (movedClause vs (namedOne k a) n) (p .clauses) in
       let ds = movedClauses vs (n + length (p .edges)) (named (k + 1) others) in (
-        part-i k n a (λ w l. f w (Memᴰ·append-left (verticesOf (k + 1) others) l)) g (edges-left b m n xs ys h) (each-left (ClauseHolds b m) cs ds c),
+        part-i k n a (λ w l. f w (Memᴰ·append-left (verticesOf (k + 1) others) l)) g (edges-left b m n xs ys h) (each-left Apart cs ds d) (each-left (ClauseHolds b m) cs ds c),
         parts-i (k + 1) (n + edgesIn a) others (λ w l. f w (Memᴰ·append-right ws l)) g
-            (subst (λ z. EdgesAt b m (n + z) ys) (length-map (movedEdge vs (namedOne k a)) (p .edges)) (edges-right b m n xs ys h)) (each-right (ClauseHolds b m) cs ds c),
+            (subst (λ z. EdgesAt b m (n + z) ys) (length-map (movedEdge vs (namedOne k a)) (p .edges)) (edges-right b m n xs ys h)) (each-right Apart cs ds d) (each-right (ClauseHolds b m) cs ds c),
       )
 
   -- and back
