@@ -8,7 +8,7 @@ use lib.ListN.{length, getD}
 use Rattle.model.specs.Book.{Book}
 use Rattle.model.specs.Request.{Identity}
 use Rattle.model.specs.Graph.{Each}
-use Rattle.model.specs.Satisfies.{Map, Satisfies}
+use Rattle.model.specs.Satisfies.{NumberedMapping, Satisfies}
 use Rattle.model.specs.Weave.{Asked, weave}
 use Rattle.model.specs.MayHave.{Mapped, AllAgree, Identified, MayHave}
 use Rattle.model.proofs.Members.{_∈_}
@@ -33,17 +33,17 @@ familyRow [] = []
 familyRow (h ∷ hs) = map (h .mapping .node) (h .asked .text .returns)
 
 -- a mapping of the woven pattern that keeps the identities
-pub record WovenModel (b : Book) (ids : List Identity) (asked : List Asked) (m : Map) : Type 0 where
+pub record WovenModel (b : Book) (ids : List Identity) (asked : List Asked) (m : NumberedMapping) : Type 0 where
   pub satisfies : Satisfies b (weave asked) m
   pub identified : (i : ℕ) → i < length (weave asked .vertices) → (d : Identity) → d ∈ ids → getD (weave asked .vertices) i [] ≡ d .actor → m .node i ≡ d .node
 
 -- the row of a mapping of the woven pattern
-abbrev pub wovenRow : List Asked → Map → List ℕ
+abbrev pub wovenRow : List Asked → NumberedMapping → List ℕ
 wovenRow asked m = map (m .node) (weave asked .returns)
 
 -- a row of the woven pattern, with the identities given
 pub record WovenRow (b : Book) (ids : List Identity) (asked : List Asked) (row : List ℕ) : Type 0 where
-  pub woven : Map
+  pub woven : NumberedMapping
   pub model : WovenModel b ids asked woven
   pub gives : row ≡ wovenRow asked woven
 

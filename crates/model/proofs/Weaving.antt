@@ -17,7 +17,7 @@ use Rattle.model.specs.Pattern.{Pattern}
 use Rattle.model.specs.Rules.{Rules}
 use Rattle.model.specs.ReadRules.{readRules}
 use Rattle.model.specs.Request.{Identity, Request, readRequest}
-use Rattle.model.specs.Satisfies.{Map}
+use Rattle.model.specs.Satisfies.{NumberedMapping}
 use Rattle.model.specs.Weave.{Asked, askedQuery, askedPolicies, wovenName, weave}
 use Rattle.model.specs.MayHave.{Mapped, MayHave}
 use Rattle.model.specs.Rows.{rowsOf}
@@ -42,9 +42,9 @@ use Rattle.model.proofs.Example.{book, rules, query, request, theBook, 
 -- families and woven mappings correspond: each gives the other, with the same row, and either way back it is the same
 pub record ExactWeaving (b : Book) (ids : List Identity) (asked : List Asked) : Type 0 where
   pub to-woven : (hs : List Mapped) → Family b ids asked hs → WovenModel b ids asked (wovenOf hs) × (wovenRow asked (wovenOf hs) ≡ familyRow hs)
-  pub to-family : (m : Map) → WovenModel b ids asked m → Family b ids asked (familyOf asked m) × (familyRow (familyOf asked m) ≡ wovenRow asked m)
+  pub to-family : (m : NumberedMapping) → WovenModel b ids asked m → Family b ids asked (familyOf asked m) × (familyRow (familyOf asked m) ≡ wovenRow asked m)
   pub family-back : (hs : List Mapped) → Family b ids asked hs → SameFamily (familyOf asked (wovenOf hs)) hs
-  pub woven-back : (m : Map) → WovenModel b ids asked m → SameOnNumbers (weave asked) (wovenOf (familyOf asked m)) m
+  pub woven-back : (m : NumberedMapping) → WovenModel b ids asked m → SameOnNumbers (weave asked) (wovenOf (familyOf asked m)) m
 
 -- texts whose names are clear and whose actors begin with a byte are woven exactly
 weavable-exact : (b : Book) (ids : List Identity) (asked : List Asked) → ((a : Asked) → a ∈ asked → Weavable a) → ((d : Identity) → d ∈ ids → BeginsWithByte (d .actor)) → ExactWeaving b ids asked

@@ -13,7 +13,7 @@ use Rattle.model.specs.Book.{Book}
 use Rattle.model.specs.Query.{vertexNames, edgeNames}
 use Rattle.model.specs.Request.{Identity}
 use Rattle.model.specs.Graph.{Each, IsNode}
-use Rattle.model.specs.Satisfies.{Map, NumberedEdgeHolds, edgeAt}
+use Rattle.model.specs.Satisfies.{NumberedMapping, NumberedEdgeHolds, edgeAt}
 use Rattle.model.specs.Weave.{Asked, wovenName, named, returnsOf, weave}
 use Rattle.model.specs.MayHave.{isActor, Mapped, Agree, AllAgree, Identified}
 use Rattle.model.proofs.Members.{_∈_, each-e, each-i, firsts-i, below-i, place-map, test, is-true, is-false, map-i, firsts-e}
@@ -28,7 +28,7 @@ use Rattle.model.proofs.WovenParts.{edgesIn, Counted, counted-map, with
 use Rattle.model.proofs.Exclusions.{woven-apart}
 use Rattle.model.proofs.WovenMapping.{nodeBy, relBy, wovenOf, actorsIn, NodesKept, nodes-kept, mappings-kept}
 
-module _ (vs : List Bytes) (m : Map) where
+module _ (vs : List Bytes) (m : NumberedMapping) where
   -- each text's part of a mapping of the woven vertices vs, k texts and n edges standing before
   unfoldable pub familyFrom : ℕ → ℕ → List Asked → List Mapped
   familyFrom k n [] = []
@@ -74,10 +74,10 @@ pub vertices-woven : (asked : List Asked) → Counted (λ a. a) (λ k n a. (v : 
 vertices-woven asked = vertices-i (λ a. a) (wovenVertices asked) 0 0 asked (λ x i. firsts-i [] (verticesOf 0 asked) x (subst (λ z. x ∈ verticesOf 0 z) (map-same asked) i))
 
 -- the family of a woven mapping
-abbrev pub familyOf : List Asked → Map → List Mapped
+abbrev pub familyOf : List Asked → NumberedMapping → List Mapped
 familyOf asked m = familyFrom (wovenVertices asked) m 0 0 asked
 
-module _ (b : Book) (ids : List Identity) (asked : List Asked) (m : Map) (woven : WovenModel b ids asked m) (weavable : (a : Asked) → a ∈ asked → Weavable a) where
+module _ (b : Book) (ids : List Identity) (asked : List Asked) (m : NumberedMapping) (woven : WovenModel b ids asked m) (weavable : (a : Asked) → a ∈ asked → Weavable a) where
   -- the woven vertices
   abbrev vs : List Bytes
   vs = wovenVertices asked
@@ -112,7 +112,7 @@ module _ (b : Book) (ids : List Identity) (asked : List Asked) (m : Map) (woven 
   }
 
 -- and its row is the woven mapping's
-pub family-row : (asked : List Asked) (m : Map) → ((a : Asked) → a ∈ asked → Weavable a) → familyRow (familyOf asked m) ≡ wovenRow asked m
+pub family-row : (asked : List Asked) (m : NumberedMapping) → ((a : Asked) → a ∈ asked → Weavable a) → familyRow (familyOf asked m) ≡ wovenRow asked m
 unfolding weave returnsOf named familyFrom
 family-row [] m weavable = refl
 family-row (a ∷ others) m weavable =
@@ -136,7 +136,7 @@ family-again b ids hs family weavable begin = go 0 0 hs (mappings-kept b ids hs 
     vs : List Bytes
     vs = wovenVertices (map askedOf hs)
 
-    m : Map
+    m : NumberedMapping
     m = wovenOf hs
 
     go : (k n : ℕ) (l : List Mapped) → Counted askedOf (λ j i h. SameOnNames (h .asked .text) (byName (h .asked .text) (within vs m j i (h .asked))) (h .mapping)) k n l
@@ -154,7 +154,7 @@ unfolding named joined
 woven-edge-count vs k a others = simp (length-append, length-map)
 
 -- the relationships of a woven mapping, taken apart and woven again
-rels-again : (vs : List Bytes) (m : Map) (k n : ℕ) (asked : List Asked) → ((a : Asked) → a ∈ asked → Weavable a) → (i : ℕ) → n ≤ i → i < n + length (wovenEdges vs k asked)
+rels-again : (vs : List Bytes) (m : NumberedMapping) (k n : ℕ) (asked : List Asked) → ((a : Asked) → a ∈ asked → Weavable a) → (i : ℕ) → n ≤ i → i < n + length (wovenEdges vs k asked)
     → relBy n (familyFrom vs m k n asked) i ≡ m .rel i
 unfolding familyFrom relBy
 rels-again vs m k n [] weavable i l u = absurd (omega (arith, none-woven vs k))
@@ -172,7 +172,7 @@ rels-again vs m k n (a ∷ others) weavable i l u = ⊎-elim
     later u = omega (arith, woven-edge-count vs k a others)
 
 -- taken apart and woven again, a mapping of the woven pattern is the same
-pub woven-again : (b : Book) (ids : List Identity) (asked : List Asked) (m : Map) → WovenModel b ids asked m → ((a : Asked) → a ∈ asked → Weavable a)
+pub woven-again : (b : Book) (ids : List Identity) (asked : List Asked) (m : NumberedMapping) → WovenModel b ids asked m → ((a : Asked) → a ∈ asked → Weavable a)
     → SameOnNumbers (weave asked) (wovenOf (familyOf asked m)) m
 unfolding weave familyFrom twice
 woven-again b ids asked m woven weavable = (λ i l. subst (λ z. nodeBy 0 fam (getD (wovenVertices z) i []) ≡ m .node i) (sym one) (node i l), λ i l. rels-again vs m 0 0 asked weavable i (omega arith) (omega arith))

@@ -15,7 +15,7 @@ use Rattle.model.specs.Query.{vertexNames, edgeNames}
 use Rattle.model.specs.Pattern.{patternOf}
 use Rattle.model.specs.Request.{Identity}
 use Rattle.model.specs.Graph.{IsNode}
-use Rattle.model.specs.Satisfies.{Map, NumberedEdgeHolds, Satisfies, edgeAt}
+use Rattle.model.specs.Satisfies.{NumberedMapping, NumberedEdgeHolds, Satisfies, edgeAt}
 use Rattle.model.specs.Weave.{wovenName, named, returnsOf, weave}
 use Rattle.model.specs.MayHave.{isActor, Mapped, Agree, AllAgree, Identified}
 use Rattle.model.proofs.Members.{_∈_, test, is-true, is-false, each-e, each-i, map-i, mem-e, mem-i, firsts-i, firsts-e, below-e, place-map}
@@ -106,7 +106,7 @@ rels-kept k n (h ∷ hs) = (
 )
 
 -- the woven mapping of a family
-abbrev pub wovenOf : List Mapped → Map
+abbrev pub wovenOf : List Mapped → NumberedMapping
 wovenOf hs = record { node = λ i. nodeBy 0 hs (getD (wovenVertices (map askedOf hs)) i []); rel = relBy 0 hs }
 
 module _ (b : Book) (ids : List Identity) (hs : List Mapped) (family : Family b ids (map askedOf hs) hs)

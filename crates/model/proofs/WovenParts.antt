@@ -15,7 +15,7 @@ use Rattle.model.specs.Query.{vertexNames}
 use Rattle.model.specs.Pattern.{Pattern, Edge, Clause, excluded, vertexHas, edgeHas, patternOf}
 use Rattle.model.specs.Graph.{Each, IsNode}
 use Rattle.model.specs.Models.{EdgeHolds}
-use Rattle.model.specs.Satisfies.{Map, edgeAt, NumberedEdgeHolds, ClauseHolds, Satisfies}
+use Rattle.model.specs.Satisfies.{NumberedMapping, edgeAt, NumberedEdgeHolds, ClauseHolds, Satisfies}
 use Rattle.model.specs.Weave.{Asked, wovenName, named, moved, movedEdge, movedClause, movedClauses, returnsOf}
 use Rattle.model.specs.MayHave.{Mapped}
 use Rattle.model.proofs.Members.{_∈_, test, each-e, each-i, map-i, map-e, below-i, below-e, place-map}
@@ -51,11 +51,11 @@ counted-asked P k n [] f = tt
 counted-asked P k n (h ∷ hs) f = (f .0, counted-asked P (k + 1) (n + edgesIn (h .asked)) hs (f .1))
 
 -- the map of a text's pattern within a map of the woven pattern
-abbrev pub within : List Bytes → Map → ℕ → ℕ → Asked → Map
+abbrev pub within : List Bytes → NumberedMapping → ℕ → ℕ → Asked → NumberedMapping
 within vs m k n a = record { node = λ i. m .node (place (getD (map (wovenName k (a .actors)) (vertexNames (a .text))) i []) vs); rel = λ i. m .rel (n + i) }
 
 -- a text's pattern is satisfied within a map of the woven pattern
-abbrev pub Part : Book → List Bytes → Map → ℕ → ℕ → Asked → Type 0
+abbrev pub Part : Book → List Bytes → NumberedMapping → ℕ → ℕ → Asked → Type 0
 Part b vs m k n a = Satisfies b (patternOf (a .text)) (within vs m k n a)
 
 -- the edge where there is none
@@ -63,30 +63,30 @@ abbrev none : Edge
 none = record { name = []; label = []; from = 0; to = 0 }
 
 -- an edge has its relationship, which is that of number i
-abbrev pub Holds : Book → Map → ℕ → Edge → Type 0
+abbrev pub Holds : Book → NumberedMapping → ℕ → Edge → Type 0
 Holds b m i e = EdgeHolds b (m .rel i) (e .label) (m .node (e .from)) (m .node (e .to))
 
 -- the edges of a list have theirs, counted from n
-abbrev pub EdgesAt : Book → Map → ℕ → List Edge → Type 0
+abbrev pub EdgesAt : Book → NumberedMapping → ℕ → List Edge → Type 0
 EdgesAt b m n es = (i : ℕ) → i < length es → Holds b m (n + i) (getD es i none)
 
 -- counted from the first
-pub edges-e : (b : Book) (m : Map) (es : List Edge) → EdgesAt b m 0 es → (i : ℕ) → i < length es → Holds b m i (getD es i none)
+pub edges-e : (b : Book) (m : NumberedMapping) (es : List Edge) → EdgesAt b m 0 es → (i : ℕ) → i < length es → Holds b m i (getD es i none)
 edges-e b m es h i l = let e : 0 + i ≡ i = omega arith in subst (λ z. Holds b m z (getD es i none)) e (h i l)
 
 -- and from the first
-pub edges-i : (b : Book) (m : Map) (es : List Edge) → ((i : ℕ) → i < length es → Holds b m i (getD es i none)) → EdgesAt b m 0 es
+pub edges-i : (b : Book) (m : NumberedMapping) (es : List Edge) → ((i : ℕ) → i < length es → Holds b m i (getD es i none)) → EdgesAt b m 0 es
 edges-i b m es h i l = let e : i ≡ 0 + i = omega arith in subst (λ z. Holds b m z (getD es i none)) e (h i l)
 
-edges-left : (b : Book) (m : Map) (n : ℕ) (xs ys : List Edge) → EdgesAt b m n (xs ++ ys) → EdgesAt b m n xs
+edges-left : (b : Book) (m : NumberedMapping) (n : ℕ) (xs ys : List Edge) → EdgesAt b m n (xs ++ ys) → EdgesAt b m n xs
 edges-left b m n xs ys h i l = subst (Holds b m (n + i)) (List·getD-append xs ys none i l) (h i (omega (arith, length-append xs ys)))
 
-edges-right : (b : Book) (m : Map) (n : ℕ) (xs ys : List Edge) → EdgesAt b m n (xs ++ ys) → EdgesAt b m (n + length xs) ys
+edges-right : (b : Book) (m : NumberedMapping) (n : ℕ) (xs ys : List Edge) → EdgesAt b m n (xs ++ ys) → EdgesAt b m (n + length xs) ys
 edges-right b m n xs ys h i l =
     let e : n + (length xs + i) ≡ n + length xs + i = omega arith in
     subst₂ (Holds b m) e (getD-append-add xs ys i none) (h (length xs + i) (omega (arith, length-append xs ys)))
 
-edges-both : (b : Book) (m : Map) (n : ℕ) (xs ys : List Edge) → EdgesAt b m n xs → EdgesAt b m (n + length xs) ys → EdgesAt b m n (xs ++ ys)
+edges-both : (b : Book) (m : NumberedMapping) (n : ℕ) (xs ys : List Edge) → EdgesAt b m n xs → EdgesAt b m (n + length xs) ys → EdgesAt b m n (xs ++ ys)
 edges-both b m n xs ys f g i l = ⊎-elim
     (λ t. let c = ltb→lt i (length xs) t in subst (Holds b m (n + i)) (sym (List·getD-append xs ys none i c)) (f i c))
     (λ t. let c : length xs ≤ i = lt-not i (length xs) t in
@@ -130,7 +130,7 @@ Apart (excluded u v) = u ≢ v
 Apart (vertexHas v a r x) = Unit {0}
 Apart (edgeHas e a r x) = Unit {0}
 
-module _ (b : Book) (vs : List Bytes) (m : Map) where
+module _ (b : Book) (vs : List Bytes) (m : NumberedMapping) where
   -- a clause of the woven pattern that excludes no vertex from itself holds within a text
   clause-within : (k n : ℕ) (a : Asked) (c : Clause) → Apart (movedClause vs (namedOne k a) n c) → ClauseHolds b m (movedClause vs (namedOne k a) n c) → ClauseHolds b (within vs m k n a) c
   unfolding movedClause moved
@@ -228,7 +228,7 @@ vertices-i of vs k n (x ∷ l) f =
     )
 
 -- the nodes of the woven Return vertices are those of the first text's Return names
-pub woven-returns : (vs : List Bytes) (m : Map) (f : Bytes → ℕ) (a : Asked) (others : List Asked) → Named (a .text)
+pub woven-returns : (vs : List Bytes) (m : NumberedMapping) (f : Bytes → ℕ) (a : Asked) (others : List Asked) → Named (a .text)
     → ((v : Bytes) → v ∈ vertexNames (a .text) → m .node (place (wovenName 0 (a .actors) v) vs) ≡ f v)
     → map (m .node) (returnsOf vs (named 0 (a ∷ others))) ≡ map f (a .text .returns)
 unfolding returnsOf named patternOf moved

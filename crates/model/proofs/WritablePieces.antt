@@ -12,7 +12,7 @@ use Rattle.model.specs.Values.{Value, bool}
 use Rattle.model.specs.Forms.{neverNames, nameOf, truthOf}
 use Rattle.model.specs.Signs.{Sign, word, whole, text, mark, broken, isWord, isMark, signName, signValue, next, expect}
 use Rattle.model.specs.QueryText.{differ, demand}
-use Rattle.model.specs.Grammar.{Piece, start, goes, comes, asks, returns, Spot, atStart, inChain, inWhere, inReturn, spotAfter, relationOf, vertexAt, startAt, linkAt, conditionAt, returnAt, pieceAt, endsAt, pieces}
+use Rattle.model.specs.Grammar.{Piece, start, goes, comes, asks, returns, Spot, atStart, inChain, inWhere, inReturn, spotAfter, signRelation, vertexAt, startAt, linkAt, conditionAt, returnAt, pieceAt, endsAt, pieces}
 use Rattle.model.specs.Graph.{Each}
 use Rattle.model.proofs.Members.{test, is-true, is-false}
 use Rattle.model.proofs.WrittenConditions.{Name, WritableValue, WritableCondition}
@@ -98,8 +98,8 @@ condition-writable ts h =
     pick-case (IfThere PieceGot) (isMark (bytesOf "<>") t) _ _
     (λ z. next-name PieceGot ts (λ u ts. just (record { got = asks (differ x u); size = 4 })) h (λ u ts nu h. (nx, nu)))
     (pick-case (IfThere PieceGot) (isMark (bytesOf ".") t) _ nothing
-    (λ z. next-name PieceGot ts (λ a ts. next relationOf ts (λ r ts. next signValue ts (λ v ts. just (record { got = asks (demand x a r v); size = 6 })))) h
-    (λ a ts na h. next-any PieceGot relationOf ts (λ r ts. next signValue ts (λ v ts. just (record { got = asks (demand x a r v); size = 6 }))) h
+    (λ z. next-name PieceGot ts (λ a ts. next signRelation ts (λ r ts. next signValue ts (λ v ts. just (record { got = asks (demand x a r v); size = 6 })))) h
+    (λ a ts na h. next-any PieceGot signRelation ts (λ r ts. next signValue ts (λ v ts. just (record { got = asks (demand x a r v); size = 6 }))) h
     (λ r ts h. next-value PieceGot ts (λ v ts. just (record { got = asks (demand x a r v); size = 6 })) h (λ v ts nv h. (nx, na, nv))))) tt)))
 
 return-writable : (ts : List Sign) → Each WritableSign ts → IfThere PieceGot (returnAt ts)

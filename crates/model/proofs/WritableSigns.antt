@@ -132,4 +132,4 @@ signs-writable c k zero (b ∷ s) h =
     let u = pick-iff (isAllowed b) (all isAllowed s) .1 h .1 in
     let g = signAt c b s in
     pick-case (Each WritableSign) (eqb b 32 || eqb b 10) _ _ (λ t. signs-writable c false 0 s u)
-    (pick-case WritableSign (k && wordy (g .got)) broken (g .got) (λ t. tt) (sign-writable c b s u), signs-writable (Rattle.model.specs.Signs.inChain c (g .got)) (wordy (g .got)) (g .size - 1) s u)
+    (pick-case WritableSign (k && wordy (g .got)) broken (g .got) (λ t. tt) (sign-writable c b s u), signs-writable (Rattle.model.specs.Signs.chainBehind c (g .got)) (wordy (g .got)) (g .size - 1) s u)

@@ -13,7 +13,7 @@ use Rattle.model.specs.Words.{between, isLetter, isDigit, isWordByte, ru
 use Rattle.model.specs.Lines.{isAllowed}
 use Rattle.model.specs.Values.{Value, int, str, bool}
 use Rattle.model.specs.Forms.{neverNames, nameOf}
-use Rattle.model.specs.Signs.{Sign, word, whole, text, mark, marks, begins, markAt, digitNext, signAt, isWord, wordy, inChain, signs}
+use Rattle.model.specs.Signs.{Sign, word, whole, text, mark, marks, begins, markAt, digitNext, signAt, isWord, wordy, chainBehind, signs}
 use Rattle.model.specs.QueryText.{Relation, eq, ne, lt, le, gt, ge, Condition, differ, demand}
 use Rattle.model.specs.Writing.{valueText, relationText, demandText}
 use Rattle.model.proofs.Members.{is-false, any-i}
@@ -36,8 +36,8 @@ not-keyword v h = (
   is-false (same v (bytesOf "Return")) (λ t. subst T h (any-i (same v) neverNames (bytesOf "Return") (List·Memᴰ·tail (List·Memᴰ·tail (List·Memᴰ·tail (List·Memᴰ·head refl)))) t)),
 )
 
-chain-stays : (c : Bool) (v : Bytes) → Name v → inChain c (word v) ≡ c
-unfolding inChain isWord
+chain-stays : (c : Bool) (v : Bytes) → Name v → chainBehind c (word v) ≡ c
+unfolding chainBehind isWord
 chain-stays true v h = let n = not-keyword v (h .1) in rw (n .0, n .1, n .2)
 chain-stays false v h = let n = not-keyword v (h .1) in rw (n .0)
 
@@ -85,7 +85,7 @@ valueSign (bool true) = word (bytesOf "true")
 valueSign (bool false) = word (bytesOf "false")
 
 lex-value : (v : Value) (s : Bytes) → WritableValue v → Follows s → signs false false 0 (valueText v ++ s) ≡ valueSign v ∷ signs false false 0 s
-unfolding valueText isLetter isWordByte isDigit between all inChain isWord same
+unfolding valueText isLetter isWordByte isDigit between all chainBehind isWord same
 lex-value (int n) s h f = lex-whole n s h (follows-digit f) ∙ ap (λ x. whole n ∷ x) (needs-no-space f)
 lex-value (str t) s h f = rw append-assoc (lex-text t s (h .0) (h .1))
 lex-value (bool true) s h f = lex-word false (bytesOf "true") s (tt, tt, omega arith) (follows-word f) ∙ ap (λ x. word (bytesOf "true") ∷ x) (needs-no-space f)
@@ -107,7 +107,7 @@ conditionSigns (differ v u) = word v ∷ mark (bytesOf "<>") ∷ word u ∷ []
 conditionSigns (demand x a r v) = word x ∷ mark (bytesOf ".") ∷ word a ∷ mark (relationText r) ∷ valueSign v ∷ []
 
 lex-relation : (r : Relation) (s : Bytes) → signs false true 0 (32 ∷ (relationText r ++ (32 ∷ s))) ≡ mark (relationText r) ∷ signs false false 0 s
-unfolding signs signAt isLetter isDigit between markAt marks begins wordy relationText inChain isWord digitNext
+unfolding signs signAt isLetter isDigit between markAt marks begins wordy relationText chainBehind isWord digitNext
 lex-relation eq s = refl
 lex-relation ne s = refl
 lex-relation lt s = refl
@@ -128,11 +128,11 @@ unfolding run
 ends-word b s e = rw e
 
 lex-not : (s : Bytes) → signs false true 0 (32 ∷ 60 ∷ 62 ∷ 32 ∷ s) ≡ mark (bytesOf "<>") ∷ signs false false 0 s
-unfolding signs signAt isLetter isDigit between markAt marks begins wordy inChain isWord digitNext
+unfolding signs signAt isLetter isDigit between markAt marks begins wordy chainBehind isWord digitNext
 lex-not s = refl
 
 lex-dot : (s : Bytes) → signs false true 0 (46 ∷ s) ≡ mark (bytesOf ".") ∷ signs false false 0 s
-unfolding signs signAt isLetter isDigit between markAt marks begins wordy inChain isWord digitNext
+unfolding signs signAt isLetter isDigit between markAt marks begins wordy chainBehind isWord digitNext
 lex-dot s = refl
 
 -- a written condition gives its signs

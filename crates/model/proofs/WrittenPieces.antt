@@ -9,7 +9,7 @@ use Rattle.model.specs.Values.{Value, int, str, bool}
 use Rattle.model.specs.Forms.{truthOf}
 use Rattle.model.specs.Signs.{Sign, word, mark, isWord, isMark, signName, signValue, next, expect}
 use Rattle.model.specs.QueryText.{Relation, eq, ne, lt, le, gt, ge, Condition, differ, demand}
-use Rattle.model.specs.Grammar.{Piece, start, goes, asks, returns, atStart, inChain as inMatch, inWhere, inReturn, spotAfter, relationOf, vertexAt, startAt, linkAt, conditionAt, returnAt, pieceAt, endsAt, pieces}
+use Rattle.model.specs.Grammar.{Piece, start, goes, asks, returns, atStart, inChain, inWhere, inReturn, spotAfter, signRelation, vertexAt, startAt, linkAt, conditionAt, returnAt, pieceAt, endsAt, pieces}
 use Rattle.model.specs.Writing.{relationText}
 use Rattle.model.specs.Graph.{Each}
 use Rattle.model.proofs.WrittenConditions.{Name, name-is, valueSign, WritableCondition, conditionSigns}
@@ -20,24 +20,24 @@ abbrev pub matchPieces : WrittenMatch → List Piece
 matchPieces (vertexMatch v) = start v ∷ []
 matchPieces (edgeMatch u e l v) = start u ∷ goes e l v ∷ []
 
-piece-start : (v : Bytes) (ts : List Sign) (qs : List Piece) → Name v → pieces inMatch 0 ts ≡ just qs
-    → (pieces atStart 0 (matchSigns (vertexMatch v) ++ ts) ≡ just (start v ∷ qs)) × (pieces inMatch 0 (matchSigns (vertexMatch v) ++ ts) ≡ just (start v ∷ qs))
+piece-start : (v : Bytes) (ts : List Sign) (qs : List Piece) → Name v → pieces inChain 0 ts ≡ just qs
+    → (pieces atStart 0 (matchSigns (vertexMatch v) ++ ts) ≡ just (start v ∷ qs)) × (pieces inChain 0 (matchSigns (vertexMatch v) ++ ts) ≡ just (start v ∷ qs))
 unfolding pieces pieceAt startAt vertexAt expect next signName isMark isWord same andThen spotAfter
 piece-start v ts qs h e = (rw (name-is v h, e) refl, rw (name-is v h, e) refl)
 
-piece-goes : (e l v : Bytes) (ts : List Sign) (qs : List Piece) → Name e → Name l → Name v → pieces inMatch 0 ts ≡ just qs
-    → pieces inMatch 0 (mark (bytesOf "-") ∷ mark (bytesOf "[") ∷ word e ∷ mark (bytesOf ":") ∷ word l ∷ mark (bytesOf "]") ∷ mark (bytesOf "->") ∷ vertexSigns v ++ ts) ≡ just (goes e l v ∷ qs)
+piece-goes : (e l v : Bytes) (ts : List Sign) (qs : List Piece) → Name e → Name l → Name v → pieces inChain 0 ts ≡ just qs
+    → pieces inChain 0 (mark (bytesOf "-") ∷ mark (bytesOf "[") ∷ word e ∷ mark (bytesOf ":") ∷ word l ∷ mark (bytesOf "]") ∷ mark (bytesOf "->") ∷ vertexSigns v ++ ts) ≡ just (goes e l v ∷ qs)
 unfolding pieces pieceAt linkAt vertexAt expect next signName isMark isWord same andThen spotAfter
 piece-goes e l v ts qs h i j d = rw (name-is e h, name-is l i, name-is v j, d) refl
 
 -- its signs make its pieces
-pub piece-match : (p : WrittenMatch) (ts : List Sign) (qs : List Piece) → AllNames p → pieces inMatch 0 ts ≡ just qs
-    → (pieces atStart 0 (matchSigns p ++ ts) ≡ just (matchPieces p ++ qs)) × (pieces inMatch 0 (matchSigns p ++ ts) ≡ just (matchPieces p ++ qs))
+pub piece-match : (p : WrittenMatch) (ts : List Sign) (qs : List Piece) → AllNames p → pieces inChain 0 ts ≡ just qs
+    → (pieces atStart 0 (matchSigns p ++ ts) ≡ just (matchPieces p ++ qs)) × (pieces inChain 0 (matchSigns p ++ ts) ≡ just (matchPieces p ++ qs))
 piece-match (vertexMatch v) ts qs h e = piece-start v ts qs h e
 piece-match (edgeMatch u d l v) ts qs h e = piece-start u _ _ (h .0) (piece-goes d l v ts qs (h .1) (h .2) (h .3) e)
 
-relation-is : (r : Relation) → relationOf (mark (relationText r)) ≡ just r
-unfolding relationOf relationText isMark same
+relation-is : (r : Relation) → signRelation (mark (relationText r)) ≡ just r
+unfolding signRelation relationText isMark same
 relation-is eq = refl
 relation-is ne = refl
 relation-is lt = refl
@@ -54,7 +54,7 @@ value-is (bool false) = refl
 
 -- the signs of a condition make its piece
 pub piece-condition : (c : Condition) (ts : List Sign) (qs : List Piece) → WritableCondition c → pieces inWhere 0 ts ≡ just qs
-    → (pieces inMatch 0 (word (bytesOf "Where") ∷ conditionSigns c ++ ts) ≡ just (asks c ∷ qs)) × (pieces inWhere 0 (word (bytesOf "AND") ∷ conditionSigns c ++ ts) ≡ just (asks c ∷ qs))
+    → (pieces inChain 0 (word (bytesOf "Where") ∷ conditionSigns c ++ ts) ≡ just (asks c ∷ qs)) × (pieces inWhere 0 (word (bytesOf "AND") ∷ conditionSigns c ++ ts) ≡ just (asks c ∷ qs))
 unfolding pieces pieceAt conditionAt expect next signName isMark isWord same andThen spotAfter
 piece-condition (differ v u) ts qs h e = (rw (name-is v (h .0), name-is u (h .1), e) refl, rw (name-is v (h .0), name-is u (h .1), e) refl)
 piece-condition (demand x a r v) ts qs h e = (rw (name-is x (h .0), name-is a (h .1), relation-is r, value-is v, e) refl, rw (name-is x (h .0), name-is a (h .1), relation-is r, value-is v, e) refl)
@@ -65,7 +65,7 @@ piece-commas [] h = refl
 piece-commas (v ∷ vs) h = rw (name-is v (h .0), piece-commas vs (h .1)) refl
 
 piece-returns : (v : Bytes) (vs : List Bytes) → Each Name (v ∷ vs)
-    → (pieces inMatch 0 (returnSigns (v ∷ vs)) ≡ just (map returns (v ∷ vs))) × (pieces inWhere 0 (returnSigns (v ∷ vs)) ≡ just (map returns (v ∷ vs)))
+    → (pieces inChain 0 (returnSigns (v ∷ vs)) ≡ just (map returns (v ∷ vs))) × (pieces inWhere 0 (returnSigns (v ∷ vs)) ≡ just (map returns (v ∷ vs)))
 unfolding pieces pieceAt returnAt next signName isMark isWord same andThen spotAfter
 piece-returns v vs h = (rw (name-is v (h .0), piece-commas vs (h .1)) refl, rw (name-is v (h .0), piece-commas vs (h .1)) refl)
 
@@ -76,18 +76,18 @@ piece-ands [] ts qs h e = e
 piece-ands (c ∷ cs) ts qs h e = ap (pieces inWhere 0) (append-assoc (andSigns c) (joined andSigns cs) ts) ∙ piece-condition c _ _ (h .0) (piece-ands cs ts qs (h .1) e) .1
 
 piece-rest : (cs : List Condition) (v : Bytes) (vs : List Bytes) → Each WritableCondition cs → Each Name (v ∷ vs)
-    → pieces inMatch 0 (whereSigns cs ++ returnSigns (v ∷ vs)) ≡ just (map asks cs ++ map returns (v ∷ vs))
+    → pieces inChain 0 (whereSigns cs ++ returnSigns (v ∷ vs)) ≡ just (map asks cs ++ map returns (v ∷ vs))
 piece-rest [] v vs h k = piece-returns v vs k .0
 piece-rest (c ∷ cs) v vs h k =
-    ap (λ z. pieces inMatch 0 (word (bytesOf "Where") ∷ z)) (append-assoc (conditionSigns c) (joined andSigns cs) (returnSigns (v ∷ vs)))
+    ap (λ z. pieces inChain 0 (word (bytesOf "Where") ∷ z)) (append-assoc (conditionSigns c) (joined andSigns cs) (returnSigns (v ∷ vs)))
     ∙ piece-condition c _ _ (h .0) (piece-ands cs _ _ (h .1) (piece-returns v vs k .1)) .0
 
-piece-matches : (ps : List WrittenMatch) (ts : List Sign) (qs : List Piece) → Each AllNames ps → pieces inMatch 0 ts ≡ just qs
-    → pieces inMatch 0 (joined matchSigns ps ++ ts) ≡ just (joined matchPieces ps ++ qs)
+piece-matches : (ps : List WrittenMatch) (ts : List Sign) (qs : List Piece) → Each AllNames ps → pieces inChain 0 ts ≡ just qs
+    → pieces inChain 0 (joined matchSigns ps ++ ts) ≡ just (joined matchPieces ps ++ qs)
 unfolding joined
 piece-matches [] ts qs h e = e
 piece-matches (p ∷ ps) ts qs h e =
-    ap (pieces inMatch 0) (append-assoc (matchSigns p) (joined matchSigns ps) ts)
+    ap (pieces inChain 0) (append-assoc (matchSigns p) (joined matchSigns ps) ts)
     ∙ piece-match p _ _ (h .0) (piece-matches ps ts qs (h .1) e) .1
     ∙ ap just (sym (append-assoc (matchPieces p) (joined matchPieces ps) qs))
 

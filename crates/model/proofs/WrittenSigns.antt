@@ -13,7 +13,7 @@ use Rattle.model.specs.Bytes.{Bytes}
 use Rattle.model.specs.Choice.{pick, just, andThen}
 use Rattle.model.specs.Lists.{isNil, all}
 use Rattle.model.specs.Words.{Got, between, isLetter, isDigit, isWordByte, run, before, wordAt, biased, decimal, plainDigits, isWhole, digitsAt, wholeAt, isText, textAt}
-use Rattle.model.specs.Signs.{Sign, word, whole, text, orBroken, digitNext, signAt, isWord, wordy, inChain, signs}
+use Rattle.model.specs.Signs.{Sign, word, whole, text, orBroken, digitNext, signAt, isWord, wordy, chainBehind, signs}
 use Rattle.model.specs.Writing.{digits, wholeText}
 use Rattle.model.proofs.Decides.{and-iff, pick-iff}
 use Rattle.model.proofs.Members.{test, is-true, is-false}
@@ -26,11 +26,11 @@ eqb-no a b h = is-false (eqb a b) (λ t. h (eqb→eq a b t))
 
 -- one sign of size n + 1
 pub signs-step : (c k : Bool) (b : ℕ) (s : Bytes) (g : Sign) (n : ℕ) → (eqb b 32 || eqb b 10) ≡ false → signAt c b s ≡ record { got = g; size = suc n } → (k && wordy g) ≡ false
-    → signs c k 0 (b ∷ s) ≡ g ∷ signs (inChain c g) (wordy g) 0 (drop n s)
+    → signs c k 0 (b ∷ s) ≡ g ∷ signs (chainBehind c g) (wordy g) 0 (drop n s)
 unfolding signs
 signs-step c k b s g n e f d =
     let m : suc n - 1 ≡ n = omega arith in
-    rw (e, f, d, m) (ap (λ r. g ∷ r) (signs-skip (inChain c g) (wordy g) n s))
+    rw (e, f, d, m) (ap (λ r. g ∷ r) (signs-skip (chainBehind c g) (wordy g) n s))
 
 -- a run of bytes that pass ends where the next does not
 pub run-all : (p : ℕ → Bool) (w s : Bytes) → T (all p w) → run p s ≡ [] → run p (w ++ s) ≡ w
@@ -53,14 +53,14 @@ word-sign c b w s h e =
     rw (is-true (isLetter b) (h .0), run-all isWordByte (b ∷ w) s (h .1) e, is-true (leb (suc (length w)) 24) (le→leb (suc (length w)) 24 (omega arith))) refl
 
 -- the sign of a word
-pub lex-word : (c : Bool) (w s : Bytes) → Word w → run isWordByte s ≡ [] → signs c false 0 (w ++ s) ≡ word w ∷ signs (inChain c (word w)) true 0 s
+pub lex-word : (c : Bool) (w s : Bytes) → Word w → run isWordByte s ≡ [] → signs c false 0 (w ++ s) ≡ word w ∷ signs (chainBehind c (word w)) true 0 s
 unfolding wordy
 lex-word c [] s h e = absurd h
 lex-word c (b ∷ w) s h e =
     let l = letter-e b (h .0) in
     let p : b ≢ 32 = λ z. omega arith in
     let q : b ≢ 10 = λ z. omega arith in
-    signs-step c false b (w ++ s) (word (b ∷ w)) (length w) (no-blank b p q) (word-sign c b w s h e) refl ∙ ap (λ r. word (b ∷ w) ∷ signs (inChain c (word (b ∷ w))) true 0 r) (drop-append-seam w s)
+    signs-step c false b (w ++ s) (word (b ∷ w)) (length w) (no-blank b p q) (word-sign c b w s h e) refl ∙ ap (λ r. word (b ∷ w) ∷ signs (chainBehind c (word (b ∷ w))) true 0 r) (drop-append-seam w s)
 
 -- a text value
 pub before-all : (q : ℕ) (t s : Bytes) → T (all (λ b. not (eqb b q)) t) → eqb q q ≡ true → before q (t ++ q ∷ s) ≡ just t
@@ -76,7 +76,7 @@ text-sign t s h a = rw (before-all 39 t s a refl, is-true (isText t) h) refl
 
 -- the sign of a text value
 pub lex-text : (t s : Bytes) → T (isText t) → T (all (λ b. not (eqb b 39)) t) → signs false false 0 (39 ∷ t ++ 39 ∷ s) ≡ text t ∷ signs false false 0 s
-unfolding wordy inChain isWord
+unfolding wordy chainBehind isWord
 lex-text t s h a =
     let e : length t + 2 ≡ suc (length t + 1) = omega arith in
     signs-step false false 39 (t ++ 39 ∷ s) (text t) (length t + 1) refl (text-sign t s h a ∙ (λ i. record { got = text t; size = e i })) refl
@@ -175,7 +175,7 @@ unfolding signAt wholeAt orBroken isLetter between digitNext isDigit
 minus-sign d s g t e = rw (is-true (isDigit d) t, e) refl
 
 lex-plus : (n : ℕ) (ds s : Bytes) → Digits n ds → (n ≡ 0 → ds ≡ 48 ∷ []) → n ≤ 2 ^ 63 - 1 → run isDigit s ≡ [] → signs false false 0 (ds ++ s) ≡ whole (2 ^ 63 + n) ∷ signs false true 0 s
-unfolding wordy inChain isWord biased plainDigits all
+unfolding wordy chainBehind isWord biased plainDigits all
 lex-plus n [] s r z h e = absurd (plain-digits n [] r z)
 lex-plus n (d ∷ ds) s r z h e =
     let t = pick-iff (isDigit d) (all isDigit ds) .1 (r .every) in
@@ -188,7 +188,7 @@ lex-plus n (d ∷ ds) s r z h e =
     ∙ ap (λ x. whole (2 ^ 63 + n) ∷ signs false true 0 x) (drop-append-seam ds s)
 
 lex-minus : (n : ℕ) (ds s : Bytes) → Digits n ds → 0 < n → n ≤ 2 ^ 63 → run isDigit s ≡ [] → signs false false 0 (45 ∷ ds ++ s) ≡ whole (2 ^ 63 - n) ∷ signs false true 0 s
-unfolding wordy inChain isWord biased all
+unfolding wordy chainBehind isWord biased all
 lex-minus n [] s r z h e = absurd (r .first z)
 lex-minus n (d ∷ ds) s r z h e =
     let t = pick-iff (isDigit d) (all isDigit ds) .1 (r .every) in

@@ -6,7 +6,7 @@ use Rattle.model.specs.Bytes.{Bytes, bytesOf, same}
 use Rattle.model.specs.Choice.{pick}
 use Rattle.model.specs.Lists.{isNil, joined}
 use Rattle.model.specs.Words.{between, isLetter, isDigit, isWordByte, run, wordAt}
-use Rattle.model.specs.Signs.{Sign, word, mark, marks, begins, markAt, orBroken, digitNext, signAt, isWord, wordy, inChain, signs}
+use Rattle.model.specs.Signs.{Sign, word, mark, marks, begins, markAt, orBroken, digitNext, signAt, isWord, wordy, chainBehind, signs}
 use Rattle.model.specs.QueryText.{Condition}
 use Rattle.model.specs.Writing.{eachBehind, joinBy}
 use Rattle.model.specs.Graph.{Each}
@@ -37,24 +37,24 @@ matchSigns (vertexMatch v) = word (bytesOf "Match") ∷ vertexSigns v
 matchSigns (edgeMatch u e l v) = word (bytesOf "Match") ∷ vertexSigns u ++ (mark (bytesOf "-") ∷ mark (bytesOf "[") ∷ word e ∷ mark (bytesOf ":") ∷ word l ∷ mark (bytesOf "]") ∷ mark (bytesOf "->") ∷ vertexSigns v)
 
 lex-match-word : (c : Bool) (s : Bytes) → signs c false 0 (bytesOf "Match (" ++ s) ≡ word (bytesOf "Match") ∷ mark (bytesOf "(") ∷ signs true false 0 s
-unfolding signs signAt orBroken wordAt run isWordByte isLetter isDigit between markAt marks begins wordy inChain isWord digitNext same
+unfolding signs signAt orBroken wordAt run isWordByte isLetter isDigit between markAt marks begins wordy chainBehind isWord digitNext same
 lex-match-word true s = refl
 lex-match-word false s = refl
 
 lex-round : (s : Bytes) → signs true true 0 (41 ∷ s) ≡ mark (bytesOf ")") ∷ signs true false 0 s
-unfolding signs signAt isLetter isDigit between markAt marks begins wordy inChain isWord digitNext
+unfolding signs signAt isLetter isDigit between markAt marks begins wordy chainBehind isWord digitNext
 lex-round s = refl
 
 lex-from : (s : Bytes) → signs true true 0 (bytesOf ")-[" ++ s) ≡ mark (bytesOf ")") ∷ mark (bytesOf "-") ∷ mark (bytesOf "[") ∷ signs true false 0 s
-unfolding signs signAt isLetter isDigit between markAt marks begins wordy inChain isWord digitNext
+unfolding signs signAt isLetter isDigit between markAt marks begins wordy chainBehind isWord digitNext
 lex-from s = refl
 
 lex-colon : (s : Bytes) → signs true true 0 (58 ∷ s) ≡ mark (bytesOf ":") ∷ signs true false 0 s
-unfolding signs signAt isLetter isDigit between markAt marks begins wordy inChain isWord digitNext
+unfolding signs signAt isLetter isDigit between markAt marks begins wordy chainBehind isWord digitNext
 lex-colon s = refl
 
 lex-to : (s : Bytes) → signs true true 0 (bytesOf "]->(" ++ s) ≡ mark (bytesOf "]") ∷ mark (bytesOf "->") ∷ mark (bytesOf "(") ∷ signs true false 0 s
-unfolding signs signAt isLetter isDigit between markAt marks begins wordy inChain isWord digitNext
+unfolding signs signAt isLetter isDigit between markAt marks begins wordy chainBehind isWord digitNext
 lex-to s = refl
 
 vertex-match-text : (v s : Bytes) → matchText (vertexMatch v) ++ s ≡ bytesOf "Match (" ++ (v ++ (41 ∷ s))
@@ -94,20 +94,20 @@ lex-matches (p ∷ ps) s h =
     ∙ ap (λ z. matchSigns p ++ z) (lex-matches ps s (h .1)) ∙ sym (append-assoc (matchSigns p) (joined matchSigns ps) (signs true false 0 s))
 
 lex-and : (s : Bytes) → signs false false 0 (bytesOf " AND " ++ s) ≡ word (bytesOf "AND") ∷ signs false false 0 s
-unfolding signs signAt orBroken wordAt run isWordByte isLetter isDigit between wordy inChain isWord digitNext same
+unfolding signs signAt orBroken wordAt run isWordByte isLetter isDigit between wordy chainBehind isWord digitNext same
 lex-and s = refl
 
 lex-where : (s : Bytes) → signs true false 0 (bytesOf " Where " ++ s) ≡ word (bytesOf "Where") ∷ signs false false 0 s
-unfolding signs signAt orBroken wordAt run isWordByte isLetter isDigit between wordy inChain isWord digitNext same
+unfolding signs signAt orBroken wordAt run isWordByte isLetter isDigit between wordy chainBehind isWord digitNext same
 lex-where s = refl
 
 lex-return : (c : Bool) (s : Bytes) → signs c false 0 (bytesOf " Return " ++ s) ≡ word (bytesOf "Return") ∷ signs false false 0 s
-unfolding signs signAt orBroken wordAt run isWordByte isLetter isDigit between wordy inChain isWord digitNext same
+unfolding signs signAt orBroken wordAt run isWordByte isLetter isDigit between wordy chainBehind isWord digitNext same
 lex-return true s = refl
 lex-return false s = refl
 
 lex-comma : (s : Bytes) → signs false false 0 (bytesOf ", " ++ s) ≡ mark (bytesOf ",") ∷ signs false false 0 s
-unfolding signs signAt isLetter isDigit between markAt marks begins wordy inChain isWord digitNext
+unfolding signs signAt isLetter isDigit between markAt marks begins wordy chainBehind isWord digitNext
 lex-comma s = refl
 
 -- AND and a condition

@@ -13,8 +13,8 @@ use Rattle.model.specs.Book.{emptyBook, attrNames, nodeNames, entryCount
 use Rattle.model.specs.BookLines.{attrLine, labelLine, nodeLine, relLine, bookLine}
 use Rattle.model.specs.Values.{ofKind}
 use Rattle.model.specs.ReadBook.{suits, undeclared, related, nameFault, nodeFault, relFault, lineFault, addLine, bookStep, readBook}
-use Rattle.model.specs.Signs.{marks, begins, markAt, orBroken, digitNext, signAt, isWord, isMark, wordy, inChain, signs, signsOf, signName, signValue, next, expect}
-use Rattle.model.specs.Grammar.{spotAfter, relationOf, vertexAt, startAt, linkAt, conditionAt, returnAt, pieceAt, endsAt, pieces, tailOf, queryText}
+use Rattle.model.specs.Signs.{marks, begins, markAt, orBroken, digitNext, signAt, isWord, isMark, wordy, chainBehind, signs, signsOf, signName, signValue, next, expect}
+use Rattle.model.specs.Grammar.{spotAfter, signRelation, vertexAt, startAt, linkAt, conditionAt, returnAt, pieceAt, endsAt, pieces, tailOf, queryText}
 use Rattle.model.specs.Query.{hd, chainVertices, chainEdges, vertexNames, edgesOf, edgeNames, conditionsOf}
 use Rattle.model.specs.ReadQuery.{scoped, unknown, hasRelation, typed, mistyped, isDiffer, fromItself, hasUndeclared, hasTwice, hasMistyped, tooMany, hasFromItself, queryFault, textOrFault, readQuery}
 use Rattle.model.specs.Pattern.{clauseOf, edgeOf, patternOf}
@@ -35,5 +35,5 @@ use Rattle.model.specs.RequestAnswer.{refusalData, toldRequest, requestR
 
 -- naming this one unfolds all of them
 unfoldable pub computing : ℕ
-unfolding andThen same isNil any all keep each joined sum mem memℕ twice place addNew firsts upTo between isLetter isDigit isWordByte run before wordAt biased decimal plainDigits isWhole digitsAt wholeAt isText textAt quotedAt readAs plainAt isList onward onwardWith listAt asList opens itemAt itemList itemsOf lineItems onAccept refusal refusedIf lowest isAllowed badLine addByte linesOf faultOr formStep stepThen readLines refusedAt bytesFirst asWord asQuoted neverNames nameOf asName truthOf asValue kindOf first atEnd entryOf formOf emptyBook attrNames nodeNames entryCount attrLine labelLine nodeLine relLine bookLine ofKind suits undeclared related nameFault nodeFault relFault lineFault addLine bookStep readBook marks begins markAt orBroken digitNext signAt isWord isMark wordy inChain signs signsOf signName signValue next expect spotAfter relationOf vertexAt startAt linkAt conditionAt returnAt pieceAt endsAt pieces tailOf queryText hd chainVertices chainEdges vertexNames edgesOf edgeNames conditionsOf scoped unknown hasRelation typed mistyped isDiffer fromItself hasUndeclared hasTwice hasMistyped tooMany hasFromItself queryFault textOrFault readQuery clauseOf edgeOf patternOf eachBehind joinBy digits wholeText valueText relationText vertexName edgeName demandText clauseText edgeText writtenQuery categoryNames namesAfter categoryLine policyLine rulesLine lacksActor hasPolicy rulesFault addRule rulesStep covered readRules actorsOf stepDown stepsDown downFrom enforced claimOf requestLine requestFault requestOf requestStep oneLine readRequest placeWhere nodeEntries relOf relEntries runs isRel valueIn compares sameOrNot inRelation meets isNode edgeHolds chainHolds entriesOf conditionHolds models isOn metBy suitsEdge relFor mappingOf edgeAt numberedEdgeHolds clauseHolds satisfies askedQuery askedPolicies wovenName named moved movedEdge movedClause movedClauses returnsOf weave isExcluded wovenTooMany withIdentity stepAlong stepsAlong tied wovenFault isActor nodesFor someChoice actorNodes allHave rowGiven mayHave tuples rowsOf ones withWork bookService rulesService queryService requestService writerText onto writerService listRows rowWords listService rowText refusalText rowsText outcomeText namesOf printed wordsFrom placedBy identityPlaces slots refusalData toldRequest requestRead
+unfolding andThen same isNil any all keep each joined sum mem memℕ twice place addNew firsts upTo between isLetter isDigit isWordByte run before wordAt biased decimal plainDigits isWhole digitsAt wholeAt isText textAt quotedAt readAs plainAt isList onward onwardWith listAt asList opens itemAt itemList itemsOf lineItems onAccept refusal refusedIf lowest isAllowed badLine addByte linesOf faultOr formStep stepThen readLines refusedAt bytesFirst asWord asQuoted neverNames nameOf asName truthOf asValue kindOf first atEnd entryOf formOf emptyBook attrNames nodeNames entryCount attrLine labelLine nodeLine relLine bookLine ofKind suits undeclared related nameFault nodeFault relFault lineFault addLine bookStep readBook marks begins markAt orBroken digitNext signAt isWord isMark wordy chainBehind signs signsOf signName signValue next expect spotAfter signRelation vertexAt startAt linkAt conditionAt returnAt pieceAt endsAt pieces tailOf queryText hd chainVertices chainEdges vertexNames edgesOf edgeNames conditionsOf scoped unknown hasRelation typed mistyped isDiffer fromItself hasUndeclared hasTwice hasMistyped tooMany hasFromItself queryFault textOrFault readQuery clauseOf edgeOf patternOf eachBehind joinBy digits wholeText valueText relationText vertexName edgeName demandText clauseText edgeText writtenQuery categoryNames namesAfter categoryLine policyLine rulesLine lacksActor hasPolicy rulesFault addRule rulesStep covered readRules actorsOf stepDown stepsDown downFrom enforced claimOf requestLine requestFault requestOf requestStep oneLine readRequest placeWhere nodeEntries relOf relEntries runs isRel valueIn compares sameOrNot inRelation meets isNode edgeHolds chainHolds entriesOf conditionHolds models isOn metBy suitsEdge relFor mappingOf edgeAt numberedEdgeHolds clauseHolds satisfies askedQuery askedPolicies wovenName named moved movedEdge movedClause movedClauses returnsOf weave isExcluded wovenTooMany withIdentity stepAlong stepsAlong tied wovenFault isActor nodesFor someChoice actorNodes allHave rowGiven mayHave tuples rowsOf ones withWork bookService rulesService queryService requestService writerText onto writerService listRows rowWords listService rowText refusalText rowsText outcomeText namesOf printed wordsFrom placedBy identityPlaces slots refusalData toldRequest requestRead
 computing = 0

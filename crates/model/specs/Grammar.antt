@@ -28,8 +28,8 @@ spotAfter (asks c) = inWhere
 spotAfter (returns v) = inReturn
 
 -- a relation sign
-unfoldable pub relationOf : Sign → Maybe Relation
-relationOf t =
+unfoldable pub signRelation : Sign → Maybe Relation
+signRelation t =
     pick (isMark (bytesOf "=") t) (just eq)
     (pick (isMark (bytesOf "<>") t) (just ne)
     (pick (isMark (bytesOf "<") t) (just lt)
@@ -62,7 +62,7 @@ conditionAt ts =
     next signName ts (λ x ts.
     next just ts (λ t ts.
     let other = next signName ts (λ u ts. just (record { got = asks (differ x u); size = 4 })) in
-    let value = next signName ts (λ a ts. next relationOf ts (λ r ts. next signValue ts (λ v ts. just (record { got = asks (demand x a r v); size = 6 })))) in
+    let value = next signName ts (λ a ts. next signRelation ts (λ r ts. next signValue ts (λ v ts. just (record { got = asks (demand x a r v); size = 6 })))) in
     pick (isMark (bytesOf "<>") t) other (pick (isMark (bytesOf ".") t) value nothing)))
 
 -- a name, from behind Return or a comma

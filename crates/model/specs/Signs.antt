@@ -76,9 +76,9 @@ wordy (text t) = false
 wordy (mark m) = false
 wordy broken = false
 
--- a chain begins behind Match and ends at Where or Return
-unfoldable pub inChain : Bool → Sign → Bool
-inChain chain t = isWord (bytesOf "Match") t || chain && not (isWord (bytesOf "Where") t) && not (isWord (bytesOf "Return") t)
+-- what stands behind a sign is in a chain: a chain begins behind Match and ends at Where or Return
+unfoldable pub chainBehind : Bool → Sign → Bool
+chainBehind chain t = isWord (bytesOf "Match") t || chain && not (isWord (bytesOf "Where") t) && not (isWord (bytesOf "Return") t)
 
 -- the signs of a text, in a chain or not. `close`: a word or a number ends just before.
 -- k bytes at the front belong to the sign read last.
@@ -87,7 +87,7 @@ signs chain close k [] = []
 signs chain close (suc k) (b ∷ s) = signs chain close k s
 signs chain close zero (b ∷ s) =
     let g = signAt chain b s in
-    let sign = pick (close && wordy (g .got)) broken (g .got) ∷ signs (inChain chain (g .got)) (wordy (g .got)) (g .size - 1) s in
+    let sign = pick (close && wordy (g .got)) broken (g .got) ∷ signs (chainBehind chain (g .got)) (wordy (g .got)) (g .size - 1) s in
     let blank = signs chain false 0 s in
     pick (eqb b 32 || eqb b 10) blank sign
 

@@ -8,8 +8,8 @@ use Rattle.model.specs.Choice.{pick, Maybe, nothing, just, andThen}
 use Rattle.model.specs.Values.{Value}
 use Rattle.model.specs.Signs.{Sign, isMark, signName, signValue, next, expect}
 use Rattle.model.specs.QueryText.{Relation, Condition}
-use Rattle.model.specs.Grammar.{relationOf}
-use Rattle.model.specs.Answers.{nameAt, relationOf as relationData, valueOf}
+use Rattle.model.specs.Grammar.{signRelation}
+use Rattle.model.specs.Answers.{nameAt, relationOf, valueOf}
 use Rattle.model.specs.declared.Part.{Part}
 use Rattle.model.specs.declared.Relation.{Relation as RelationData}
 use Rattle.model.specs.declared.Value.{Value as ValueData}
@@ -59,13 +59,13 @@ module _ (chain close : Bool) (s : Bytes) (from : ℕ) (r : NameRead) (h : NameN
   name-moves p q e = subst (NameBehind from) e (h .moves)
 
 module _ (close : Bool) (s : Bytes) (from : ℕ) (r : RelationRead) (h : RelationNext close s from r) where
-  pub relation-read : (d : RelationData) (q : ℕ) → r ≡ relation.Found d q → (f : Relation → List Sign → Maybe Walk) → next relationOf (signsFrom false close s from) f ≡ f (relationData d) (signsFrom false false s q)
+  pub relation-read : (d : RelationData) (q : ℕ) → r ≡ relation.Found d q → (f : Relation → List Sign → Maybe Walk) → next signRelation (signsFrom false close s from) f ≡ f (relationOf d) (signsFrom false false s q)
   unfolding behindRelation andThen
-  relation-read d q e f = next-then relationOf (signsFrom false close s from) f ∙ rw (h .reads, e)
+  relation-read d q e f = next-then signRelation (signsFrom false close s from) f ∙ rw (h .reads, e)
 
-  pub relation-unread : r ≡ relation.None → (f : Relation → List Sign → Maybe Walk) → next relationOf (signsFrom false close s from) f ≡ nothing
+  pub relation-unread : r ≡ relation.None → (f : Relation → List Sign → Maybe Walk) → next signRelation (signsFrom false close s from) f ≡ nothing
   unfolding behindRelation andThen
-  relation-unread e f = next-then relationOf (signsFrom false close s from) f ∙ rw (h .reads, e)
+  relation-unread e f = next-then signRelation (signsFrom false close s from) f ∙ rw (h .reads, e)
 
   pub relation-moves : (d : RelationData) (q : ℕ) → r ≡ relation.Found d q → from < q
   relation-moves d q e = subst (RelationBehind from) e (h .moves)

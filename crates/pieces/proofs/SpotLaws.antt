@@ -10,7 +10,7 @@ use borrow.Author.Tests.{eq-eqb, ne-eqb}
 use Rattle.model.specs.Bytes.{Bytes, bytesOf, same}
 use Rattle.model.specs.Choice.{pick, Maybe, nothing, just, andThen}
 use Rattle.model.specs.Signs.{Sign, word, whole, text, mark, broken, isWord, isMark, wordy, signs}
-use Rattle.model.specs.Signs.{inChain as chainGoesOn}
+use Rattle.model.specs.Signs.{chainBehind}
 use Rattle.model.specs.Grammar.{Piece, goes, comes, Spot, atStart, inChain, inWhere, inReturn, startAt, linkAt, conditionAt, returnAt, pieceAt}
 use Rattle.model.proofs.Decides.{same→eq}
 use Rattle.signs.specs.declared.Sign.{Sign as SignData}
@@ -41,48 +41,48 @@ word-is w broken e = cc
 
 module _ (s : Bytes) (t : SignData) (q : ℕ) where
   by-sign : (p : SpotData) (x : Sign) → signOf s t ≡ x
-      → walkBy p s t q ≡ piecesBy (pieceAt (spotOf p) x (signsFrom (chainGoesOn (chainAt p) x) (wordy x) s q)) (signsFrom (chainGoesOn (chainAt p) x) (wordy x) s q)
+      → walkBy p s t q ≡ piecesBy (pieceAt (spotOf p) x (signsFrom (chainBehind (chainAt p) x) (wordy x) s q)) (signsFrom (chainBehind (chainAt p) x) (wordy x) s q)
   unfolding walkBy
   by-sign p x e = rw e
 
   pub first-match : isWord (bytesOf "Match") (signOf s t) ≡ true → walkBy AtStart s t q ≡ piecesBy (startAt (signsFrom true true s q)) (signsFrom true true s q)
-  unfolding pieceAt isWord isMark same chainGoesOn chainAt spotOf wordy
+  unfolding pieceAt isWord isMark same chainBehind chainAt spotOf wordy
   first-match e = by-sign AtStart (word (bytesOf "Match")) (word-is (bytesOf "Match") (signOf s t) e)
 
   pub chain-match : isWord (bytesOf "Match") (signOf s t) ≡ true → walkBy InChain s t q ≡ piecesBy (startAt (signsFrom true true s q)) (signsFrom true true s q)
-  unfolding pieceAt isWord isMark same chainGoesOn chainAt spotOf wordy
+  unfolding pieceAt isWord isMark same chainBehind chainAt spotOf wordy
   chain-match e = by-sign InChain (word (bytesOf "Match")) (word-is (bytesOf "Match") (signOf s t) e)
 
   pub where-match : isWord (bytesOf "Match") (signOf s t) ≡ true → walkBy InWhere s t q ≡ piecesBy (startAt (signsFrom true true s q)) (signsFrom true true s q)
-  unfolding pieceAt isWord isMark same chainGoesOn chainAt spotOf wordy
+  unfolding pieceAt isWord isMark same chainBehind chainAt spotOf wordy
   where-match e = by-sign InWhere (word (bytesOf "Match")) (word-is (bytesOf "Match") (signOf s t) e)
 
   pub chain-where : isWord (bytesOf "Where") (signOf s t) ≡ true → walkBy InChain s t q ≡ piecesBy (conditionAt (signsFrom false true s q)) (signsFrom false true s q)
-  unfolding pieceAt isWord isMark same chainGoesOn chainAt spotOf wordy
+  unfolding pieceAt isWord isMark same chainBehind chainAt spotOf wordy
   chain-where e = by-sign InChain (word (bytesOf "Where")) (word-is (bytesOf "Where") (signOf s t) e)
 
   pub where-and : isWord (bytesOf "AND") (signOf s t) ≡ true → walkBy InWhere s t q ≡ piecesBy (conditionAt (signsFrom false true s q)) (signsFrom false true s q)
-  unfolding pieceAt isWord isMark same chainGoesOn chainAt spotOf wordy
+  unfolding pieceAt isWord isMark same chainBehind chainAt spotOf wordy
   where-and e = by-sign InWhere (word (bytesOf "AND")) (word-is (bytesOf "AND") (signOf s t) e)
 
   pub chain-return : isWord (bytesOf "Return") (signOf s t) ≡ true → walkBy InChain s t q ≡ piecesBy (returnAt (signsFrom false true s q)) (signsFrom false true s q)
-  unfolding pieceAt isWord isMark same chainGoesOn chainAt spotOf wordy
+  unfolding pieceAt isWord isMark same chainBehind chainAt spotOf wordy
   chain-return e = by-sign InChain (word (bytesOf "Return")) (word-is (bytesOf "Return") (signOf s t) e)
 
   pub where-return : isWord (bytesOf "Return") (signOf s t) ≡ true → walkBy InWhere s t q ≡ piecesBy (returnAt (signsFrom false true s q)) (signsFrom false true s q)
-  unfolding pieceAt isWord isMark same chainGoesOn chainAt spotOf wordy
+  unfolding pieceAt isWord isMark same chainBehind chainAt spotOf wordy
   where-return e = by-sign InWhere (word (bytesOf "Return")) (word-is (bytesOf "Return") (signOf s t) e)
 
   pub chain-goes : codeOf t ≡ 45 → walkBy InChain s t q ≡ piecesBy (linkAt goes (bytesOf "->") (signsFrom true false s q)) (signsFrom true false s q)
-  unfolding pieceAt isWord isMark same chainGoesOn chainAt spotOf wordy markBytes
+  unfolding pieceAt isWord isMark same chainBehind chainAt spotOf wordy markBytes
   chain-goes e = by-sign InChain (mark (bytesOf "-")) (code-is s t 45 (omega arith) e)
 
   pub chain-comes : codeOf t ≡ 15405 → walkBy InChain s t q ≡ piecesBy (linkAt comes (bytesOf "-") (signsFrom true false s q)) (signsFrom true false s q)
-  unfolding pieceAt isWord isMark same chainGoesOn chainAt spotOf wordy markBytes
+  unfolding pieceAt isWord isMark same chainBehind chainAt spotOf wordy markBytes
   chain-comes e = by-sign InChain (mark (bytesOf "<-")) (code-is s t 15405 (omega arith) e)
 
   pub return-comma : codeOf t ≡ 44 → walkBy InReturn s t q ≡ piecesBy (returnAt (signsFrom false false s q)) (signsFrom false false s q)
-  unfolding pieceAt isWord isMark same chainGoesOn chainAt spotOf wordy markBytes
+  unfolding pieceAt isWord isMark same chainBehind chainAt spotOf wordy markBytes
   return-comma e = by-sign InReturn (mark (bytesOf ",")) (code-is s t 44 (omega arith) e)
 
   pub first-none : isWord (bytesOf "Match") (signOf s t) ≡ false → walkBy AtStart s t q ≡ stopped false

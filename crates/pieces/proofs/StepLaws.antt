@@ -9,7 +9,7 @@ use Rattle.model.specs.Words.{Got}
 use Rattle.model.specs.Values.{Value}
 use Rattle.model.specs.Signs.{Sign, isMark, signName, signValue, next, expect}
 use Rattle.model.specs.QueryText.{Relation, Condition, differ, demand}
-use Rattle.model.specs.Grammar.{Piece, start, goes, comes, asks, returns, Spot, atStart, inChain, inWhere, inReturn, spotAfter, relationOf, vertexAt, startAt, linkAt, conditionAt, returnAt, pieceAt}
+use Rattle.model.specs.Grammar.{Piece, start, goes, comes, asks, returns, Spot, atStart, inChain, inWhere, inReturn, spotAfter, signRelation, vertexAt, startAt, linkAt, conditionAt, returnAt, pieceAt}
 use Rattle.pieces.specs.Walk.{Walk, stopped, ahead, orStopped, walk}
 use Rattle.pieces.specs.Steps.{piecesBy, vertexThen, linkThen, otherThen, valueThen, restThen, asked}
 
@@ -77,6 +77,6 @@ condition-by ts = ap orStopped (
     (next-passed (λ g r. onward g (a ∷ b ∷ r)) signName ts _ _ (λ u c ts. refl))
     (pick-passed (isMark (bytesOf ".") t) _ _ _ _ (λ g. onward g (a ∷ b ∷ ts))
     (next-passed (λ g r. onward g (a ∷ b ∷ r)) signName ts _ _ (λ y c ts.
-    next-passed (λ g r. onward g (a ∷ b ∷ c ∷ r)) relationOf ts _ _ (λ r d ts.
+    next-passed (λ g r. onward g (a ∷ b ∷ c ∷ r)) signRelation ts _ _ (λ r d ts.
     next-passed (λ g r. onward g (a ∷ b ∷ c ∷ d ∷ r)) signValue ts _ _ (λ v i ts. refl))))
     refl))))

@@ -9,7 +9,7 @@ use Rattle.model.specs.Choice.{pick, Maybe, nothing, just, andThen}
 use Rattle.model.specs.Words.{Got}
 use Rattle.model.specs.Signs.{Sign, isWord, isMark, signName, signValue, next, expect}
 use Rattle.model.specs.QueryText.{differ, demand}
-use Rattle.model.specs.Grammar.{Piece, start, goes, comes, asks, returns, Spot, atStart, inChain, inWhere, inReturn, spotAfter, relationOf, vertexAt, startAt, linkAt, conditionAt, returnAt, pieceAt, endsAt, pieces}
+use Rattle.model.specs.Grammar.{Piece, start, goes, comes, asks, returns, Spot, atStart, inChain, inWhere, inReturn, spotAfter, signRelation, vertexAt, startAt, linkAt, conditionAt, returnAt, pieceAt, endsAt, pieces}
 use Rattle.pieces.specs.Walk.{Walk, stopped, ahead, orStopped, endsWell, walk, mayStand, Ordered}
 
 -- what a walk found, if the grammar is kept
@@ -102,7 +102,7 @@ module _ (p : Spot) where
       choice-stands (isMark (bytesOf "<>") t) _ _
       (next-stands signName ts _ (λ u ts. h (differ x u)))
       (choice-stands (isMark (bytesOf ".") t) _ _
-      (next-stands signName ts _ (λ a ts. next-stands relationOf ts _ (λ r ts. next-stands signValue ts _ (λ v ts. h (demand x a r v))))) tt)))
+      (next-stands signName ts _ (λ a ts. next-stands signRelation ts _ (λ r ts. next-stands signValue ts _ (λ v ts. h (demand x a r v))))) tt)))
 
 piece-stands : (p : Spot) (t : Sign) (ts : List Sign) → Stands p (pieceAt p t ts)
 unfolding pieceAt mayStand

@@ -10,8 +10,8 @@ use Rattle.model.specs.Words.{Got}
 use Rattle.model.specs.Values.{Value}
 use Rattle.model.specs.Signs.{Sign, isMark, wordy, signName, signValue, next, expect}
 use Rattle.model.specs.QueryText.{Relation, Condition, differ, demand}
-use Rattle.model.specs.Grammar.{Piece, start, goes, comes, asks, returns, Spot, atStart, inChain, inWhere, inReturn, spotAfter, relationOf, pieceAt}
-use Rattle.model.specs.Answers.{nameAt, relationOf as relationData, valueOf}
+use Rattle.model.specs.Grammar.{Piece, start, goes, comes, asks, returns, Spot, atStart, inChain, inWhere, inReturn, spotAfter, signRelation, pieceAt}
+use Rattle.model.specs.Answers.{nameAt, relationOf, valueOf}
 use Rattle.signs.specs.Reads.{signOf, signsFrom}
 use Rattle.signs.specs.declared.Sign.{Sign as SignData}
 use Rattle.signs.specs.declared.NameRead.{NameRead}
@@ -48,7 +48,7 @@ pieceOf s (piece.Start v) = start (nameAt s v)
 pieceOf s (piece.Goes l) = goes (nameAt s (l .edge)) (nameAt s (l .label)) (nameAt s (l .vertex))
 pieceOf s (piece.Comes l) = comes (nameAt s (l .edge)) (nameAt s (l .label)) (nameAt s (l .vertex))
 pieceOf s (piece.Differ v u) = asks (differ (nameAt s v) (nameAt s u))
-pieceOf s (piece.Asks d) = asks (demand (nameAt s (d .subject)) (nameAt s (d .attribute)) (relationData (d .relation)) (valueOf s (d .value)))
+pieceOf s (piece.Asks d) = asks (demand (nameAt s (d .subject)) (nameAt s (d .attribute)) (relationOf (d .relation)) (valueOf s (d .value)))
 pieceOf s (piece.Returns v) = returns (nameAt s v)
 
 -- the pieces from a place on
@@ -75,7 +75,7 @@ pub record StepIs (w : Walk) (s : Bytes) (from : ℕ) (r : PieceRead) : Type 0 w
 
 -- the signs behind the first sign, which ends at a place
 abbrev pub signsBehind : SpotData → Bytes → SignData → ℕ → List Sign
-signsBehind p s t q = let x = signOf s t in signsFrom (Rattle.model.specs.Signs.inChain (chainAt p) x) (wordy x) s q
+signsBehind p s t q = let x = signOf s t in signsFrom (Rattle.model.specs.Signs.chainBehind (chainAt p) x) (wordy x) s q
 
 -- the pieces at a spot, by their first sign and the signs behind it
 unfoldable pub walkBy : SpotData → Bytes → SignData → ℕ → Walk
@@ -130,7 +130,7 @@ unfoldable pub otherThen : Bytes → List Sign → (Condition → List Sign → 
 otherThen x ts f = next signName ts (λ u ts. f (differ x u) ts)
 
 unfoldable pub valueThen : Bytes → List Sign → (Condition → List Sign → Maybe Walk) → Maybe Walk
-valueThen x ts f = next signName ts (λ a ts. next relationOf ts (λ r ts. next signValue ts (λ v ts. f (demand x a r v) ts)))
+valueThen x ts f = next signName ts (λ a ts. next signRelation ts (λ r ts. next signValue ts (λ v ts. f (demand x a r v) ts)))
 
 -- a condition behind its variable
 unfoldable pub restThen : Bytes → List Sign → (Condition → List Sign → Maybe Walk) → Maybe Walk

@@ -12,10 +12,10 @@ use Rattle.model.specs.Lists.{any}
 use Rattle.model.specs.Names.{mem}
 use Rattle.model.specs.Forms.{neverNames, nameOf, truthOf}
 use Rattle.model.specs.Values.{Value, int, str, bool}
-use Rattle.model.specs.Signs.{Sign, word, whole, text, mark, broken, isWord, isMark, inChain, wordy, signs, signName, signValue, next, expect}
+use Rattle.model.specs.Signs.{Sign, word, whole, text, mark, broken, isWord, isMark, chainBehind, wordy, signs, signName, signValue, next, expect}
 use Rattle.model.specs.QueryText.{Relation}
-use Rattle.model.specs.Grammar.{relationOf}
-use Rattle.model.specs.Answers.{nameAt, relationOf as relationData, valueOf, partOf}
+use Rattle.model.specs.Grammar.{signRelation}
+use Rattle.model.specs.Answers.{nameAt, relationOf, valueOf, partOf}
 use Rattle.model.specs.declared.Part.{Part}
 use Rattle.model.specs.declared.Relation.{Relation as RelationData}
 use Rattle.model.specs.declared.Relation.the-variants.{Equal, Differs, Less, AtMost, Greater, AtLeast}
@@ -83,8 +83,8 @@ and-true true = refl
 and-true false = refl
 
 -- a mark does not end a chain
-chain-mark : (chain : Bool) (m : Bytes) → inChain chain (mark m) ≡ chain
-unfolding inChain isWord
+chain-mark : (chain : Bool) (m : Bytes) → chainBehind chain (mark m) ≡ chain
+unfolding chainBehind isWord
 chain-mark true m = refl
 chain-mark false m = refl
 
@@ -96,8 +96,8 @@ pick-none true r h = (h, absurd (not-both h))
 pick-none false r h = (refl, h)
 
 -- nor does a name
-chain-name : (chain : Bool) (w : Bytes) → mem w neverNames ≡ false → inChain chain (word w) ≡ chain
-unfolding mem any neverNames inChain isWord
+chain-name : (chain : Bool) (w : Bytes) → mem w neverNames ≡ false → chainBehind chain (word w) ≡ chain
+unfolding mem any neverNames chainBehind isWord
 chain-name chain w h =
     let a = pick-none (same w (bytesOf "Match")) _ h in
     let b = pick-none (same w (bytesOf "Where")) _ (a .1) in
@@ -172,14 +172,14 @@ abbrev related : Relation → List Sign → Maybe (Then Relation)
 related x ts = just (record { got = x; rest = ts })
 
 -- the relation of a code
-relation-code : (s : Bytes) (t : SignData) → relationOf (signOf s t) ≡
+relation-code : (s : Bytes) (t : SignData) → signRelation (signOf s t) ≡
     pick (eqb (codeOf t) 61) (just Rattle.model.specs.QueryText.eq)
     (pick (eqb (codeOf t) 15422) (just Rattle.model.specs.QueryText.ne)
     (pick (eqb (codeOf t) 60) (just Rattle.model.specs.QueryText.lt)
     (pick (eqb (codeOf t) 15421) (just Rattle.model.specs.QueryText.le)
     (pick (eqb (codeOf t) 62) (just Rattle.model.specs.QueryText.gt)
     (pick (eqb (codeOf t) 15933) (just Rattle.model.specs.QueryText.ge) nothing)))))
-unfolding relationOf markBytes
+unfolding signRelation markBytes
 relation-code s t = rw (
   code-mark s t 61 (omega arith),
   code-mark s t 15422 (omega arith),
@@ -191,34 +191,34 @@ relation-code s t = rw (
 
 module _ (close : Bool) (s : Bytes) (from : ℕ) where
   pub relation-end : (r : SignRead) → NextSign false close s from r → r ≡ read.None → RelationNext close s from relation.None
-  unfolding firstOf behindRelation andThen relationOf isMark
-  relation-end r h e = record { reads = next-first relationOf (signsFrom false close s from) related refl ∙ rw (h .reads, e); moves = tt }
+  unfolding firstOf behindRelation andThen signRelation isMark
+  relation-end r h e = record { reads = next-first signRelation (signsFrom false close s from) related refl ∙ rw (h .reads, e); moves = tt }
 
   module _ (r : SignRead) (h : NextSign false close s from r) (t : SignData) (q : ℕ) (e : r ≡ read.Found t q) where
     abbrev found : Maybe Relation → Maybe (Then Relation)
-    found m = andThen m (λ x. related x (signsFrom (inChain false (signOf s t)) (wordy (signOf s t)) s q))
+    found m = andThen m (λ x. related x (signsFrom (chainBehind false (signOf s t)) (wordy (signOf s t)) s q))
 
-    relation-reads : next relationOf (signsFrom false close s from) related ≡ found (relationOf (signOf s t))
-    unfolding firstOf andThen relationOf isMark
-    relation-reads = next-first relationOf (signsFrom false close s from) related refl ∙ rw (h .reads, e)
+    relation-reads : next signRelation (signsFrom false close s from) related ≡ found (signRelation (signOf s t))
+    unfolding firstOf andThen signRelation isMark
+    relation-reads = next-first signRelation (signsFrom false close s from) related refl ∙ rw (h .reads, e)
 
-    relation-is : (k : ℕ) (d : RelationData) → 0 < k → codeOf t ≡ k → relationOf (signOf s t) ≡ just (relationData d) → RelationNext close s from (relation.Found d q)
+    relation-is : (k : ℕ) (d : RelationData) → 0 < k → codeOf t ≡ k → signRelation (signOf s t) ≡ just (relationOf d) → RelationNext close s from (relation.Found d q)
     unfolding behindRelation andThen wordy
     relation-is k d p c m = record {
       reads = relation-reads ∙ rw (m, code-is s t k p c, chain-mark false (markBytes k));
       moves = subst (Behind from) e (h .moves);
     }
 
-    relation-or : (k : ℕ) (d : RelationData) (R : RelationRead) (M : Maybe Relation) → 0 < k → relationOf (signOf s t) ≡ pick (eqb (codeOf t) k) (just (relationData d)) M
-        → (relationOf (signOf s t) ≡ M → RelationNext close s from R) → RelationNext close s from (pick (eqb (codeOf t) k) (relation.Found d q) R)
+    relation-or : (k : ℕ) (d : RelationData) (R : RelationRead) (M : Maybe Relation) → 0 < k → signRelation (signOf s t) ≡ pick (eqb (codeOf t) k) (just (relationOf d)) M
+        → (signRelation (signOf s t) ≡ M → RelationNext close s from R) → RelationNext close s from (pick (eqb (codeOf t) k) (relation.Found d q) R)
     relation-or k d R M p m f = go (eqb (codeOf t) k) refl m
       where
-        go : (x : Bool) → eqb (codeOf t) k ≡ x → relationOf (signOf s t) ≡ pick x (just (relationData d)) M → RelationNext close s from (pick x (relation.Found d q) R)
+        go : (x : Bool) → eqb (codeOf t) k ≡ x → signRelation (signOf s t) ≡ pick x (just (relationOf d)) M → RelationNext close s from (pick x (relation.Found d q) R)
         go true c m = relation-is k d p (eqb-true (codeOf t) k c) m
         go false c m = f m
 
     pub relation-met : RelationNext close s from (relationOr (codeOf t) q)
-    unfolding relationOr relationData behindRelation andThen
+    unfolding relationOr relationOf behindRelation andThen
     relation-met =
         relation-or 61 Equal _ _ (omega arith) (relation-code s t) (λ m.
         relation-or 15422 Differs _ _ (omega arith) m (λ m.
@@ -242,14 +242,14 @@ module _ (close : Bool) (s : Bytes) (from : ℕ) where
     value-mark c e = record { reads = next-first signValue (signsFrom false close s from) valued refl ∙ rw (h .reads, e); moves = tt }
 
     pub value-whole : (n : ℕ) → r ≡ read.Found (sign.Whole n) q → ValueNext close s from (value.Found (given.Number n) q true)
-    unfolding firstOf behindValue andThen signValue signOf valueOf inChain isWord wordy
+    unfolding firstOf behindValue andThen signValue signOf valueOf chainBehind isWord wordy
     value-whole n e = record { reads = next-first signValue (signsFrom false close s from) valued refl ∙ rw (h .reads, e); moves = subst (Behind from) e (h .moves) }
 
     pub value-text : (p : Part) → r ≡ read.Found (sign.Text p) q → ValueNext close s from (value.Found (given.Text (p .start) (p .length)) q false)
-    unfolding firstOf behindValue andThen signValue signOf valueOf nameAt inChain isWord wordy
+    unfolding firstOf behindValue andThen signValue signOf valueOf nameAt chainBehind isWord wordy
     value-text p e = record { reads = next-first signValue (signsFrom false close s from) valued refl ∙ rw (h .reads, e); moves = subst (Behind from) e (h .moves) }
 
-    truth-chain : (w b : Bytes) → same w b ≡ true → inChain false (word b) ≡ false → inChain false (word w) ≡ false
+    truth-chain : (w b : Bytes) → same w b ≡ true → chainBehind false (word b) ≡ false → chainBehind false (word w) ≡ false
     truth-chain w b k f = rw (same→eq w b (subst T (sym k) tt)) f
 
     pub value-word : (p : Part) → r ≡ read.Found (sign.Word p) q → ValueNext close s from (truthOr s p q)
@@ -259,11 +259,11 @@ module _ (close : Bool) (s : Bytes) (from : ℕ) where
         go : (x : Bool) → same (nameAt s p) (bytesOf "true") ≡ x → (y : Bool) → same (nameAt s p) (bytesOf "false") ≡ y
             → ValueNext close s from (pick x (value.Found (given.Truth true) q true) (pick y (value.Found (given.Truth false) q true) value.None))
         go true k y l = record {
-          reads = next-first signValue (signsFrom false close s from) valued refl ∙ rw (h .reads, e, k, truth-chain (nameAt s p) (bytesOf "true") k (unfold inChain isWord same in refl));
+          reads = next-first signValue (signsFrom false close s from) valued refl ∙ rw (h .reads, e, k, truth-chain (nameAt s p) (bytesOf "true") k (unfold chainBehind isWord same in refl));
           moves = subst (Behind from) e (h .moves);
         }
         go false k true l = record {
-          reads = next-first signValue (signsFrom false close s from) valued refl ∙ rw (h .reads, e, k, l, truth-chain (nameAt s p) (bytesOf "false") l (unfold inChain isWord same in refl));
+          reads = next-first signValue (signsFrom false close s from) valued refl ∙ rw (h .reads, e, k, l, truth-chain (nameAt s p) (bytesOf "false") l (unfold chainBehind isWord same in refl));
           moves = subst (Behind from) e (h .moves);
         }
         go false k false l = record { reads = next-first signValue (signsFrom false close s from) valued refl ∙ rw (h .reads, e, k, l); moves = tt }

@@ -14,7 +14,7 @@ use Rattle.model.specs.Bytes.{Bytes}
 use Rattle.model.specs.Choice.{pick, Maybe, nothing, just, andThen}
 use Rattle.model.specs.Lists.{isNil}
 use Rattle.model.specs.Words.{Got, isLetter, isDigit, isWordByte, run, before, wordAt, plainDigits, isWhole, digitsAt, wholeAt, isText, textAt}
-use Rattle.model.specs.Signs.{Sign, word, whole, text, mark, broken, marks, markAt, orBroken, digitNext, signAt, inChain, wordy, signs}
+use Rattle.model.specs.Signs.{Sign, word, whole, text, mark, broken, marks, markAt, orBroken, digitNext, signAt, chainBehind, wordy, signs}
 use Rattle.model.specs.Graph.{Each}
 use Rattle.model.proofs.Skips.{signs-skip}
 use Rattle.text.specs.Places.{peekAt, past}
@@ -171,7 +171,7 @@ module _ (chain close : Bool) (s : Bytes) (from at : ℕ) (p : at ≡ past isBla
     no-blank = rw p (past-test isBlank s from refl)
 
     sign-at : signsFrom chain close s from ≡ (let g = signAt chain (peekAt s at) (drop (at + 1) s) in
-        pick (near && wordy (g .got)) broken (g .got) ∷ signs (inChain chain (g .got)) (wordy (g .got)) (g .size - 1) (drop (at + 1) s))
+        pick (near && wordy (g .got)) broken (g .got) ∷ signs (chainBehind chain (g .got)) (wordy (g .got)) (g .size - 1) (drop (at + 1) s))
     unfolding signs
     sign-at = rw (blanks-at, drop-peek s at l, no-blank)
 
@@ -183,7 +183,7 @@ module _ (chain close : Bool) (s : Bytes) (from at : ℕ) (p : at ≡ past isBla
     sign-none e = rw (sign-at, ← e, and-false near)
 
     sign-found : (t : SignData) (q : ℕ) → gotOf s at (read.Found t q) ≡ signAt chain (peekAt s at) (drop (at + 1) s)
-        → signsFrom chain close s from ≡ pick (near && isWordy t) broken (signOf s t) ∷ signs (inChain chain (signOf s t)) (wordy (signOf s t)) (q - at - 1) (drop (at + 1) s)
+        → signsFrom chain close s from ≡ pick (near && isWordy t) broken (signOf s t) ∷ signs (chainBehind chain (signOf s t)) (wordy (signOf s t)) (q - at - 1) (drop (at + 1) s)
     unfolding gotOf
     sign-found t q e = rw (sign-at, ← e, wordy-sign s t)
 
@@ -202,7 +202,7 @@ module _ (chain close : Bool) (s : Bytes) (from at : ℕ) (p : at ≡ past isBla
         let l = sign-behind t q e in
         let d : at + 1 + (q - at - 1) ≡ q = omega arith in
         rw (sign-found t q e, h) (first-sign s t _ ∙ ap (λ r. just (record { sign = signOf s t; rest = r }))
-        (signs-skip (inChain chain (signOf s t)) (wordy (signOf s t)) (q - at - 1) (drop (at + 1) s) ∙ ap (signs (inChain chain (signOf s t)) (wordy (signOf s t)) 0) (drop-drop (q - at - 1) (at + 1) s ∙ ap (λ n. drop n s) d)))
+        (signs-skip (chainBehind chain (signOf s t)) (wordy (signOf s t)) (q - at - 1) (drop (at + 1) s) ∙ ap (signs (chainBehind chain (signOf s t)) (wordy (signOf s t)) 0) (drop-drop (q - at - 1) (at + 1) s ∙ ap (λ n. drop n s) d)))
 
 -- what the leaf readers say
 pub end-behind : {A : Type 0} (at q : ℕ) (m : Maybe (Got A)) → end.At q ≡ endOf at m → at ≤ q

@@ -11,8 +11,8 @@ use Rattle.model.specs.Forms.{neverNames}
 use Rattle.model.specs.Values.{Value}
 use Rattle.model.specs.Signs.{Sign, signName, signValue, next, expect}
 use Rattle.model.specs.QueryText.{Relation}
-use Rattle.model.specs.Grammar.{relationOf}
-use Rattle.model.specs.Answers.{nameAt, relationOf as relationData, valueOf}
+use Rattle.model.specs.Grammar.{signRelation}
+use Rattle.model.specs.Answers.{nameAt, relationOf, valueOf}
 use Rattle.model.specs.declared.Part.{Part}
 use Rattle.model.specs.declared.Relation.the-variants.{Equal, Differs, Less, AtMost, Greater, AtLeast}
 use Rattle.model.specs.declared.Value.the-variants.{Truth}
@@ -86,7 +86,7 @@ relationOr c q =
 -- a relation and the signs behind it, behind a chain
 unfoldable pub behindRelation : Bytes → RelationRead → Maybe (Then Relation)
 behindRelation s relation.None = nothing
-behindRelation s (relation.Found r q) = just (record { got = relationData r; rest = signsFrom false false s q })
+behindRelation s (relation.Found r q) = just (record { got = relationOf r; rest = signsFrom false false s q })
 
 abbrev pub RelationBehind : ℕ → RelationRead → Type 0
 RelationBehind from relation.None = T true
@@ -94,7 +94,7 @@ RelationBehind from (relation.Found r q) = from < q
 
 -- r is the relation that stands next
 pub record RelationNext (close : Bool) (s : Bytes) (from : ℕ) (r : RelationRead) : Type 0 where
-  pub reads : next relationOf (signsFrom false close s from) (λ x ts. just (record { got = x; rest = ts })) ≡ behindRelation s r
+  pub reads : next signRelation (signsFrom false close s from) (λ x ts. just (record { got = x; rest = ts })) ≡ behindRelation s r
   pub moves : RelationBehind from r
 
 -- true or false, and the place behind it

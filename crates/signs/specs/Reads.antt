@@ -9,7 +9,7 @@ use Rattle.model.specs.Bytes.{Bytes}
 use Rattle.model.specs.Choice.{Maybe, nothing, just}
 use Rattle.model.specs.Words.{Got}
 use Rattle.model.specs.Values.{Value}
-use Rattle.model.specs.Signs.{Sign, word, whole, text, mark, broken, inChain, wordy, signs, signName, signValue, next, expect}
+use Rattle.model.specs.Signs.{Sign, word, whole, text, mark, broken, chainBehind, wordy, signs, signName, signValue, next, expect}
 use Rattle.model.specs.QueryText.{Relation}
 use Rattle.model.specs.Answers.{nameAt, relationOf, valueOf}
 use Rattle.model.specs.declared.Part.{Part}
@@ -75,7 +75,7 @@ first (broken ∷ ts) = nothing
 -- the first sign by its place
 unfoldable pub firstOf : Bool → Bytes → SignRead → Maybe First
 firstOf chain s read.None = nothing
-firstOf chain s (read.Found t q) = let x = signOf s t in just (record { sign = x; rest = signsFrom (inChain chain x) (wordy x) s q })
+firstOf chain s (read.Found t q) = let x = signOf s t in just (record { sign = x; rest = signsFrom (chainBehind chain x) (wordy x) s q })
 
 -- r is the first sign from a place on, if that is not broken
 pub record NextSign (chain close : Bool) (s : Bytes) (from : ℕ) (r : SignRead) : Type 0 where
