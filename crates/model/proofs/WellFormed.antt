@@ -17,7 +17,7 @@ use Rattle.model.specs.Query.{hd, ChainEdge, chainVertices, chainEdges, 
 use Rattle.model.specs.Graph.{Each}
 use Rattle.model.proofs.Members.{_∈_, each-e, each-i, map-e}
 use Rattle.model.proofs.Chains.{hd-in, vertex-stands, vertex-of, edge-of, edge-ends, condition-of}
-use Rattle.model.proofs.WrittenConditions.{Name, WritableCondition}
+use Rattle.model.proofs.WrittenConditions.{IsName, WritableCondition}
 use Rattle.model.proofs.WrittenText.{vertexMatch, AllNames}
 use Rattle.model.proofs.ReadBack.{NonEmpty, matchOfEdge, matchesFor}
 use Rattle.model.proofs.WritableSigns.{IfThere, pick-case, then-case, WritableSign, signs-writable}
@@ -25,9 +25,9 @@ use Rattle.model.proofs.WritablePieces.{WritablePiece, any-where, verte
 
 -- a chain of names
 abbrev pub WritableChain : Chain → Type 0
-WritableChain (end v) = Name v
-WritableChain (right v e l c) = Name v × Name e × Name l × WritableChain c
-WritableChain (left v e l c) = Name v × Name e × Name l × WritableChain c
+WritableChain (end v) = IsName v
+WritableChain (right v e l c) = IsName v × IsName e × IsName l × WritableChain c
+WritableChain (left v e l c) = IsName v × IsName e × IsName l × WritableChain c
 
 -- a Match of names and of conditions that can be written
 abbrev pub WritableMatch : Match → Type 0
@@ -36,15 +36,15 @@ WritableMatch m = WritableChain (m .chain) × Each WritableCondition (m .conditi
 -- a query text of such Matches that returns names; there is a Match, and a returned name
 pub record Wellformed (q : QueryText) : Type 0 where
   pub matches-writable : Each WritableMatch (q .matches)
-  pub returns-names : Each Name (q .returns)
+  pub returns-names : Each IsName (q .returns)
   pub some-match : NonEmpty (q .matches)
   pub some-return : NonEmpty (q .returns)
 
 record WritableTail (t : Tail) : Type 0 where
-  chain-writable : (v : Bytes) → Name v → WritableChain (t .chain v)
+  chain-writable : (v : Bytes) → IsName v → WritableChain (t .chain v)
   conditions-writable : Each WritableCondition (t .conditions)
   matches-writable : Each WritableMatch (t .later .matches)
-  returns-names : Each Name (t .later .returns)
+  returns-names : Each IsName (t .later .returns)
 
 tail-writable : (ps : List Piece) → Each WritablePiece ps → WritableTail (tailOf ps)
 unfolding tailOf
@@ -149,14 +149,14 @@ some-in : {A : Type 0} (l : List A) (x : A) → x ∈ l → NonEmpty l
 some-in [] x m = elim m [ ]
 some-in (y ∷ l) x m = tt
 
-chain-names : (c : Chain) → WritableChain c → (v : Bytes) → v ∈ chainVertices c → Name v
+chain-names : (c : Chain) → WritableChain c → (v : Bytes) → v ∈ chainVertices c → IsName v
 unfolding chainVertices
-chain-names (end u) h v m = ⊎-elim (λ e. subst Name (sym e) h) (λ z. elim z [ ]) (cases-cons m)
-chain-names (right u e l c) h v m = ⊎-elim (λ e. subst Name (sym e) (h .0)) (λ n. chain-names c (h .3) v n) (cases-cons m)
-chain-names (left u e l c) h v m = ⊎-elim (λ e. subst Name (sym e) (h .0)) (λ n. chain-names c (h .3) v n) (cases-cons m)
+chain-names (end u) h v m = ⊎-elim (λ e. subst IsName (sym e) h) (λ z. elim z [ ]) (cases-cons m)
+chain-names (right u e l c) h v m = ⊎-elim (λ e. subst IsName (sym e) (h .0)) (λ n. chain-names c (h .3) v n) (cases-cons m)
+chain-names (left u e l c) h v m = ⊎-elim (λ e. subst IsName (sym e) (h .0)) (λ n. chain-names c (h .3) v n) (cases-cons m)
 
 abbrev NamedEdge : ChainEdge → Type 0
-NamedEdge e = Name (e .name) × Name (e .label)
+NamedEdge e = IsName (e .name) × IsName (e .label)
 
 chain-edges : (c : Chain) → WritableChain c → (e : ChainEdge) → e ∈ chainEdges c → NamedEdge e
 unfolding chainEdges
@@ -168,7 +168,7 @@ module _ (q : QueryText) (w : Wellformed q) where
   match-writable : (m : Match) → m ∈ q .matches → WritableMatch m
   match-writable m k = each-e WritableMatch (q .matches) (w .matches-writable) m k
 
-  vertex-name : (v : Bytes) → v ∈ vertexNames q → Name v
+  vertex-name : (v : Bytes) → v ∈ vertexNames q → IsName v
   vertex-name v m = let r = vertex-of q v m in chain-names (r .0 .chain) (match-writable (r .0) (r .1) .0) v (r .2)
 
   edge-name : (e : ChainEdge) → e ∈ edgesOf q → NamedEdge e

@@ -15,16 +15,16 @@ use Rattle.model.specs.QueryText.{differ, demand}
 use Rattle.model.specs.Grammar.{Piece, start, goes, comes, asks, returns, Spot, atStart, inChain, inWhere, inReturn, spotAfter, signRelation, vertexAt, startAt, linkAt, conditionAt, returnAt, pieceAt, endsAt, pieces}
 use Rattle.model.specs.Graph.{Each}
 use Rattle.model.proofs.Members.{test, is-true, is-false}
-use Rattle.model.proofs.WrittenConditions.{Name, WritableValue, WritableCondition}
+use Rattle.model.proofs.WrittenConditions.{IsName, WritableValue, WritableCondition}
 use Rattle.model.proofs.WritableSigns.{IfThere, pick-case, then-case, WritableSign}
 
 -- a piece of names, values and conditions that can be written
 abbrev pub WritablePiece : Piece → Type 0
-WritablePiece (start v) = Name v
-WritablePiece (goes e l v) = Name e × Name l × Name v
-WritablePiece (comes e l v) = Name e × Name l × Name v
+WritablePiece (start v) = IsName v
+WritablePiece (goes e l v) = IsName e × IsName l × IsName v
+WritablePiece (comes e l v) = IsName e × IsName l × IsName v
 WritablePiece (asks c) = WritableCondition c
-WritablePiece (returns v) = Name v
+WritablePiece (returns v) = IsName v
 
 truth-writable : (w : Bytes) → IfThere WritableValue (truthOf w)
 unfolding truthOf
@@ -45,7 +45,7 @@ any-where nothing = tt
 any-where (just a) = tt
 
 module _ {B : Type 0} (P : B → Type 0) where
-  next-name : (ts : List Sign) (f : Bytes → List Sign → Maybe B) → Each WritableSign ts → ((v : Bytes) (us : List Sign) → Name v → Each WritableSign us → IfThere P (f v us))
+  next-name : (ts : List Sign) (f : Bytes → List Sign → Maybe B) → Each WritableSign ts → ((v : Bytes) (us : List Sign) → IsName v → Each WritableSign us → IfThere P (f v us))
       → IfThere P (next signName ts f)
   unfolding next signName nameOf andThen
   next-name [] f h k = tt
@@ -73,7 +73,7 @@ module _ {B : Type 0} (P : B → Type 0) where
   expect-writable m (t ∷ ts) f h k = pick-case (IfThere P) (isMark m t) (f ts) nothing (λ u. k ts (h .1)) tt
 
   -- a vertex has a name
-  pub vertex-writable : (ts : List Sign) (f : Bytes → Maybe B) → Each WritableSign ts → ((v : Bytes) → Name v → IfThere P (f v)) → IfThere P (vertexAt ts f)
+  pub vertex-writable : (ts : List Sign) (f : Bytes → Maybe B) → Each WritableSign ts → ((v : Bytes) → IsName v → IfThere P (f v)) → IfThere P (vertexAt ts f)
   unfolding vertexAt
   vertex-writable ts f h k = expect-writable _ ts _ h (λ ts h. next-name ts _ h (λ v ts n h. expect-writable _ ts _ h (λ ts h. k v n)))
 
@@ -84,7 +84,7 @@ start-writable : (ts : List Sign) → Each WritableSign ts → IfThere PieceGot 
 unfolding startAt
 start-writable ts h = vertex-writable PieceGot ts (λ v. just (record { got = start v; size = 4 })) h (λ v n. n)
 
-link-writable : (make : Bytes → Bytes → Bytes → Piece) → ((e l v : Bytes) → Name e → Name l → Name v → WritablePiece (make e l v)) → (arrow : Bytes) (ts : List Sign) → Each WritableSign ts
+link-writable : (make : Bytes → Bytes → Bytes → Piece) → ((e l v : Bytes) → IsName e → IsName l → IsName v → WritablePiece (make e l v)) → (arrow : Bytes) (ts : List Sign) → Each WritableSign ts
     → IfThere PieceGot (linkAt make arrow ts)
 unfolding linkAt
 link-writable make g arrow ts h =

@@ -13,10 +13,10 @@ use Rattle.model.specs.Writing.{eachBehind, joinBy, valueText, relationT
 use Rattle.model.specs.Graph.{Each}
 use Rattle.model.proofs.AllowedBytes.{all-append, all-more, Allowed, allowed-i, digit-e, word-byte-allowed}
 use Rattle.model.proofs.WrittenSigns.{whole-bytes}
-use Rattle.model.proofs.WrittenConditions.{Name, WritableValue, WritableCondition, conditionText}
+use Rattle.model.proofs.WrittenConditions.{IsName, WritableValue, WritableCondition, conditionText}
 use Rattle.model.proofs.WrittenText.{WrittenMatch, vertexMatch, edgeMatch, AllNames, matchText, writtenText}
 
-name-allowed : (v : Bytes) → Name v → Allowed v
+name-allowed : (v : Bytes) → IsName v → Allowed v
 name-allowed [] h = absurd (h .0)
 name-allowed (b ∷ v) h = all-more isWordByte isAllowed word-byte-allowed (b ∷ v) (h .0 .1)
 
@@ -38,7 +38,7 @@ infixl 65 _&_
 _&_ : {a b : Bytes} → AllowedText a → AllowedText b → AllowedText (a ++ b)
 _&_ {a} {b} h k = record { bytes = all-append isAllowed a b (h .bytes) (k .bytes) }
 
-name-bytes : (v : Bytes) → Name v → AllowedText v
+name-bytes : (v : Bytes) → IsName v → AllowedText v
 name-bytes v h = literal v (name-allowed v h)
 
 relation-bytes : (r : Relation) → AllowedText (relationText r)
@@ -75,7 +75,7 @@ map-bytes : {A : Type 0} (P : A → Type 0) (f : A → Bytes) → ((x : A) → P
 map-bytes P f h [] k = tt
 map-bytes P f h (x ∷ l) k = (h x (k .0), map-bytes P f h l (k .1))
 
-names-bytes : (vs : List Bytes) → Each Name vs → Each AllowedText vs
+names-bytes : (vs : List Bytes) → Each IsName vs → Each AllowedText vs
 names-bytes [] h = tt
 names-bytes (v ∷ vs) h = (name-bytes v (h .0), names-bytes vs (h .1))
 
@@ -83,7 +83,7 @@ pick-bytes : (t : Bool) (a b : Bytes) → AllowedText a → AllowedText b → Al
 pick-bytes true a b h k = h
 pick-bytes false a b h k = k
 
-written-bytes : (ps : List WrittenMatch) (cs : List Condition) (vs : List Bytes) → Each AllNames ps → Each WritableCondition cs → Each Name vs → AllowedText (writtenText ps cs vs)
+written-bytes : (ps : List WrittenMatch) (cs : List Condition) (vs : List Bytes) → Each AllNames ps → Each WritableCondition cs → Each IsName vs → AllowedText (writtenText ps cs vs)
 unfolding all isAllowed
 written-bytes ps cs vs g h k =
     join-bytes (bytesOf " ") (map matchText ps) (literal (bytesOf " ") tt) (map-bytes AllNames matchText match-allowed ps g)
@@ -92,5 +92,5 @@ written-bytes ps cs vs g h k =
     & literal (bytesOf " Return ") tt & join-bytes (bytesOf ", ") vs (literal (bytesOf ", ") tt) (names-bytes vs k)
 
 -- a written text of names, conditions that can be written and names is of allowed bytes
-pub written-text-allowed : (ps : List WrittenMatch) (cs : List Condition) (vs : List Bytes) → Each AllNames ps → Each WritableCondition cs → Each Name vs → Allowed (writtenText ps cs vs)
+pub written-text-allowed : (ps : List WrittenMatch) (cs : List Condition) (vs : List Bytes) → Each AllNames ps → Each WritableCondition cs → Each IsName vs → Allowed (writtenText ps cs vs)
 written-text-allowed ps cs vs g h k = written-bytes ps cs vs g h k .bytes

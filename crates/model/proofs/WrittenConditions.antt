@@ -20,11 +20,11 @@ use Rattle.model.proofs.Members.{is-false, any-i}
 use Rattle.model.proofs.WrittenSigns.{Word, lex-word, lex-text, lex-whole}
 
 -- a name: a word that is no keyword
-abbrev pub Name : Bytes → Type 0
-Name v = Word v × (mem v neverNames ≡ false)
+abbrev pub IsName : Bytes → Type 0
+IsName v = Word v × (mem v neverNames ≡ false)
 
 -- a name is read as a name
-pub name-is : (v : Bytes) → Name v → nameOf v ≡ just v
+pub name-is : (v : Bytes) → IsName v → nameOf v ≡ just v
 unfolding nameOf
 name-is v h = rw (h .1)
 
@@ -36,13 +36,13 @@ not-keyword v h = (
   is-false (same v (bytesOf "Return")) (λ t. subst T h (any-i (same v) neverNames (bytesOf "Return") (List·Memᴰ·tail (List·Memᴰ·tail (List·Memᴰ·tail (List·Memᴰ·head refl)))) t)),
 )
 
-chain-stays : (c : Bool) (v : Bytes) → Name v → chainBehind c (word v) ≡ c
+chain-stays : (c : Bool) (v : Bytes) → IsName v → chainBehind c (word v) ≡ c
 unfolding chainBehind isWord
 chain-stays true v h = let n = not-keyword v (h .1) in rw (n .0, n .1, n .2)
 chain-stays false v h = let n = not-keyword v (h .1) in rw (n .0)
 
 -- the sign of a name, where no word byte follows
-pub lex-name : (c : Bool) (v s : Bytes) → Name v → run isWordByte s ≡ [] → signs c false 0 (v ++ s) ≡ word v ∷ signs c true 0 s
+pub lex-name : (c : Bool) (v s : Bytes) → IsName v → run isWordByte s ≡ [] → signs c false 0 (v ++ s) ≡ word v ∷ signs c true 0 s
 lex-name c v s h e = lex-word c v s (h .0) e ∙ ap (λ x. word v ∷ signs x true 0 s) (chain-stays c v h)
 
 -- what follows a condition or a returned name
@@ -93,8 +93,8 @@ lex-value (bool false) s h f = lex-word false (bytesOf "false") s (tt, tt, omega
 
 -- a condition
 abbrev pub WritableCondition : Condition → Type 0
-WritableCondition (differ v u) = Name v × Name u
-WritableCondition (demand x a r v) = Name x × Name a × WritableValue v
+WritableCondition (differ v u) = IsName v × IsName u
+WritableCondition (demand x a r v) = IsName x × IsName a × WritableValue v
 
 -- a condition as it is written
 abbrev pub conditionText : Condition → Bytes

@@ -12,7 +12,7 @@ use Rattle.model.specs.QueryText.{Relation, eq, ne, lt, le, gt, ge, Cond
 use Rattle.model.specs.Grammar.{Piece, start, goes, asks, returns, atStart, inChain, inWhere, inReturn, spotAfter, signRelation, vertexAt, startAt, linkAt, conditionAt, returnAt, pieceAt, endsAt, pieces}
 use Rattle.model.specs.Writing.{relationText}
 use Rattle.model.specs.Graph.{Each}
-use Rattle.model.proofs.WrittenConditions.{Name, name-is, valueSign, WritableCondition, conditionSigns}
+use Rattle.model.proofs.WrittenConditions.{IsName, name-is, valueSign, WritableCondition, conditionSigns}
 use Rattle.model.proofs.WrittenText.{WrittenMatch, vertexMatch, edgeMatch, AllNames, vertexSigns, matchSigns, andSigns, whereSigns, commaSigns, returnSigns, writtenSigns}
 
 -- the pieces of a written Match
@@ -20,12 +20,12 @@ abbrev pub matchPieces : WrittenMatch → List Piece
 matchPieces (vertexMatch v) = start v ∷ []
 matchPieces (edgeMatch u e l v) = start u ∷ goes e l v ∷ []
 
-piece-start : (v : Bytes) (ts : List Sign) (qs : List Piece) → Name v → pieces inChain 0 ts ≡ just qs
+piece-start : (v : Bytes) (ts : List Sign) (qs : List Piece) → IsName v → pieces inChain 0 ts ≡ just qs
     → (pieces atStart 0 (matchSigns (vertexMatch v) ++ ts) ≡ just (start v ∷ qs)) × (pieces inChain 0 (matchSigns (vertexMatch v) ++ ts) ≡ just (start v ∷ qs))
 unfolding pieces pieceAt startAt vertexAt expect next signName isMark isWord same andThen spotAfter
 piece-start v ts qs h e = (rw (name-is v h, e) refl, rw (name-is v h, e) refl)
 
-piece-goes : (e l v : Bytes) (ts : List Sign) (qs : List Piece) → Name e → Name l → Name v → pieces inChain 0 ts ≡ just qs
+piece-goes : (e l v : Bytes) (ts : List Sign) (qs : List Piece) → IsName e → IsName l → IsName v → pieces inChain 0 ts ≡ just qs
     → pieces inChain 0 (mark (bytesOf "-") ∷ mark (bytesOf "[") ∷ word e ∷ mark (bytesOf ":") ∷ word l ∷ mark (bytesOf "]") ∷ mark (bytesOf "->") ∷ vertexSigns v ++ ts) ≡ just (goes e l v ∷ qs)
 unfolding pieces pieceAt linkAt vertexAt expect next signName isMark isWord same andThen spotAfter
 piece-goes e l v ts qs h i j d = rw (name-is e h, name-is l i, name-is v j, d) refl
@@ -59,12 +59,12 @@ unfolding pieces pieceAt conditionAt expect next signName isMark isWord same and
 piece-condition (differ v u) ts qs h e = (rw (name-is v (h .0), name-is u (h .1), e) refl, rw (name-is v (h .0), name-is u (h .1), e) refl)
 piece-condition (demand x a r v) ts qs h e = (rw (name-is x (h .0), name-is a (h .1), relation-is r, value-is v, e) refl, rw (name-is x (h .0), name-is a (h .1), relation-is r, value-is v, e) refl)
 
-piece-commas : (vs : List Bytes) → Each Name vs → pieces inReturn 0 (joined commaSigns vs) ≡ just (map returns vs)
+piece-commas : (vs : List Bytes) → Each IsName vs → pieces inReturn 0 (joined commaSigns vs) ≡ just (map returns vs)
 unfolding pieces pieceAt returnAt next signName isMark same andThen spotAfter joined endsAt
 piece-commas [] h = refl
 piece-commas (v ∷ vs) h = rw (name-is v (h .0), piece-commas vs (h .1)) refl
 
-piece-returns : (v : Bytes) (vs : List Bytes) → Each Name (v ∷ vs)
+piece-returns : (v : Bytes) (vs : List Bytes) → Each IsName (v ∷ vs)
     → (pieces inChain 0 (returnSigns (v ∷ vs)) ≡ just (map returns (v ∷ vs))) × (pieces inWhere 0 (returnSigns (v ∷ vs)) ≡ just (map returns (v ∷ vs)))
 unfolding pieces pieceAt returnAt next signName isMark isWord same andThen spotAfter
 piece-returns v vs h = (rw (name-is v (h .0), piece-commas vs (h .1)) refl, rw (name-is v (h .0), piece-commas vs (h .1)) refl)
@@ -75,7 +75,7 @@ unfolding joined
 piece-ands [] ts qs h e = e
 piece-ands (c ∷ cs) ts qs h e = ap (pieces inWhere 0) (append-assoc (andSigns c) (joined andSigns cs) ts) ∙ piece-condition c _ _ (h .0) (piece-ands cs ts qs (h .1) e) .1
 
-piece-rest : (cs : List Condition) (v : Bytes) (vs : List Bytes) → Each WritableCondition cs → Each Name (v ∷ vs)
+piece-rest : (cs : List Condition) (v : Bytes) (vs : List Bytes) → Each WritableCondition cs → Each IsName (v ∷ vs)
     → pieces inChain 0 (whereSigns cs ++ returnSigns (v ∷ vs)) ≡ just (map asks cs ++ map returns (v ∷ vs))
 piece-rest [] v vs h k = piece-returns v vs k .0
 piece-rest (c ∷ cs) v vs h k =
@@ -96,7 +96,7 @@ abbrev pub writtenPieces : List WrittenMatch → List Condition → List Bytes �
 writtenPieces ps cs vs = joined matchPieces ps ++ (map asks cs ++ map returns vs)
 
 -- the signs of a written query make its pieces
-pub pieces-of-written : (p : WrittenMatch) (ps : List WrittenMatch) (cs : List Condition) (v : Bytes) (vs : List Bytes) → Each AllNames (p ∷ ps) → Each WritableCondition cs → Each Name (v ∷ vs)
+pub pieces-of-written : (p : WrittenMatch) (ps : List WrittenMatch) (cs : List Condition) (v : Bytes) (vs : List Bytes) → Each AllNames (p ∷ ps) → Each WritableCondition cs → Each IsName (v ∷ vs)
     → pieces atStart 0 (writtenSigns (p ∷ ps) cs (v ∷ vs)) ≡ just (writtenPieces (p ∷ ps) cs (v ∷ vs))
 unfolding joined
 pieces-of-written p ps cs v vs g h k =

@@ -18,7 +18,7 @@ use Rattle.model.specs.Writing.{writtenQuery}
 use Rattle.model.specs.Graph.{Each}
 use Rattle.model.proofs.AllowedBytes.{allowed-line, line-allowed}
 use Rattle.model.proofs.AcceptedQuery.{query-named, query-accepted, accept-query}
-use Rattle.model.proofs.WrittenConditions.{Name, WritableCondition}
+use Rattle.model.proofs.WrittenConditions.{IsName, WritableCondition}
 use Rattle.model.proofs.WrittenText.{WrittenMatch, AllNames, writtenText, signs-of-written}
 use Rattle.model.proofs.WrittenPieces.{pieces-of-written}
 use Rattle.model.proofs.ReadBack.{NonEmpty, some-match-for, matchesFor, writtenTree, readBack, tail-of-written}
@@ -28,7 +28,7 @@ use Rattle.model.proofs.WrittenForm.{written-form}
 use Rattle.model.proofs.WrittenBytes.{written-text-allowed}
 
 -- a written text is read as its syntax tree
-written-text-is-read : (ps : List WrittenMatch) (cs : List Condition) (vs : List Bytes) → NonEmpty ps → NonEmpty vs → Each AllNames ps → Each WritableCondition cs → Each Name vs
+written-text-is-read : (ps : List WrittenMatch) (cs : List Condition) (vs : List Bytes) → NonEmpty ps → NonEmpty vs → Each AllNames ps → Each WritableCondition cs → Each IsName vs
     → queryText (writtenText ps cs vs) ≡ just (writtenTree ps cs vs)
 unfolding queryText signsOf andThen
 written-text-is-read [] cs vs a b g h k = absurd a

@@ -10,7 +10,7 @@ use Rattle.model.specs.Signs.{Sign, word, mark, marks, begins, markAt, o
 use Rattle.model.specs.QueryText.{Condition}
 use Rattle.model.specs.Writing.{eachBehind, joinBy}
 use Rattle.model.specs.Graph.{Each}
-use Rattle.model.proofs.WrittenConditions.{Name, lex-name, Follows, nil, space, comma, follows-word, needs-no-space, WritableCondition, conditionText, conditionSigns, ends-word, lex-condition}
+use Rattle.model.proofs.WrittenConditions.{IsName, lex-name, Follows, nil, space, comma, follows-word, needs-no-space, WritableCondition, conditionText, conditionSigns, ends-word, lex-condition}
 
 -- a Match of one vertex, or of one edge
 pub data WrittenMatch : Type 0 where
@@ -19,8 +19,8 @@ pub data WrittenMatch : Type 0 where
 
 -- the names of a written Match are names
 abbrev pub AllNames : WrittenMatch → Type 0
-AllNames (vertexMatch v) = Name v
-AllNames (edgeMatch u e l v) = Name u × Name e × Name l × Name v
+AllNames (vertexMatch v) = IsName v
+AllNames (edgeMatch u e l v) = IsName u × IsName e × IsName l × IsName v
 
 -- a Match as it is written
 abbrev pub matchText : WrittenMatch → Bytes
@@ -146,7 +146,7 @@ lex-ands (c ∷ cs) s h f =
     ap (signs false false 0) (behind-text (bytesOf " AND ") (conditionText c) (map conditionText cs) s) ∙ lex-and _
     ∙ ap (λ z. word (bytesOf "AND") ∷ z) (lex-condition c _ (h .0) (follows-and cs s f) ∙ ap (λ z. conditionSigns c ++ z) (lex-ands cs s (h .1) f) ∙ sym (append-assoc (conditionSigns c) (joined andSigns cs) (signs false false 0 s)))
 
-lex-commas : (vs : List Bytes) → Each Name vs → signs false false 0 (eachBehind (bytesOf ", ") vs) ≡ joined commaSigns vs
+lex-commas : (vs : List Bytes) → Each IsName vs → signs false false 0 (eachBehind (bytesOf ", ") vs) ≡ joined commaSigns vs
 unfolding eachBehind joined signs
 lex-commas [] h = refl
 lex-commas (v ∷ vs) h =
@@ -157,14 +157,14 @@ lex-commas (v ∷ vs) h =
 abbrev whereText : List Condition → Bytes
 whereText cs = pick (isNil cs) [] (bytesOf " Where " ++ joinBy (bytesOf " AND ") (map conditionText cs))
 
-lex-returns : (c : Bool) (v : Bytes) (vs : List Bytes) → Each Name (v ∷ vs) → signs c false 0 (bytesOf " Return " ++ (v ++ eachBehind (bytesOf ", ") vs)) ≡ returnSigns (v ∷ vs)
+lex-returns : (c : Bool) (v : Bytes) (vs : List Bytes) → Each IsName (v ∷ vs) → signs c false 0 (bytesOf " Return " ++ (v ++ eachBehind (bytesOf ", ") vs)) ≡ returnSigns (v ∷ vs)
 lex-returns c v vs h = lex-return c _ ∙ ap (λ z. word (bytesOf "Return") ∷ z) (lex-name false v _ (h .0) (follows-word (follows-comma vs)) ∙ ap (λ z. word v ∷ z) (needs-no-space (follows-comma vs) ∙ lex-commas vs (h .1)))
 
 where-text : (c : Condition) (cs : List Condition) (s : Bytes) → whereText (c ∷ cs) ++ s ≡ bytesOf " Where " ++ (conditionText c ++ (eachBehind (bytesOf " AND ") (map conditionText cs) ++ s))
 unfolding isNil joinBy
 where-text c cs s = simp append-assoc
 
-lex-rest : (cs : List Condition) (v : Bytes) (vs : List Bytes) → Each WritableCondition cs → Each Name (v ∷ vs)
+lex-rest : (cs : List Condition) (v : Bytes) (vs : List Bytes) → Each WritableCondition cs → Each IsName (v ∷ vs)
     → signs true false 0 (whereText cs ++ (bytesOf " Return " ++ (v ++ eachBehind (bytesOf ", ") vs))) ≡ whereSigns cs ++ returnSigns (v ∷ vs)
 unfolding isNil
 lex-rest [] v vs h k = lex-returns true v vs k
@@ -188,7 +188,7 @@ unfolding joinBy
 written-text p ps cs v vs = simp append-assoc
 
 -- the text of a written query gives its signs
-pub signs-of-written : (p : WrittenMatch) (ps : List WrittenMatch) (cs : List Condition) (v : Bytes) (vs : List Bytes) → Each AllNames (p ∷ ps) → Each WritableCondition cs → Each Name (v ∷ vs)
+pub signs-of-written : (p : WrittenMatch) (ps : List WrittenMatch) (cs : List Condition) (v : Bytes) (vs : List Bytes) → Each AllNames (p ∷ ps) → Each WritableCondition cs → Each IsName (v ∷ vs)
     → signs false false 0 (writtenText (p ∷ ps) cs (v ∷ vs)) ≡ writtenSigns (p ∷ ps) cs (v ∷ vs)
 unfolding joined
 signs-of-written p ps cs v vs g h k =

@@ -3,6 +3,7 @@ use Prim.Native.Nat.{ℕ}
 use mathlib.Core.List.{List, [], map}
 use lib.ListN.{getD, take, drop}
 use Rattle.model.specs.Bytes.{Bytes}
+use Rattle.model.specs.Names.{Name}
 use Rattle.model.specs.Values.{Value, int, str, bool}
 use Rattle.model.specs.Refusal.{Refusal, Outcome, accepted, refused}
 use Rattle.model.specs.Book.{Book, emptyBook, attrNames}
@@ -54,7 +55,7 @@ unfoldable pub partOf : Bytes → ℕ → ℕ → Bytes
 partOf text start length = take length (drop start text)
 
 -- the name that stands at a place of a text
-unfoldable pub nameAt : Bytes → Part → Bytes
+unfoldable pub nameAt : Bytes → Part → Name
 nameAt text p = partOf text (p .start) (p .length)
 
 -- the relation that each case is

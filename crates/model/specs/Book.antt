@@ -2,23 +2,23 @@
 use Prim.Native.Nat.{ℕ, _+_}
 use mathlib.Core.List.{List, [], map}
 use lib.ListN.{length}
-use Rattle.model.specs.Bytes.{Bytes}
 use Rattle.model.specs.Lists.{sum}
+use Rattle.model.specs.Names.{Name}
 use Rattle.model.specs.Values.{Kind, Entry}
 
 -- a declared attribute name
 pub record Attr : Type 0 where
-  pub name : Bytes
+  pub name : Name
   pub kind : Kind
 
 -- a node; its number is its place among the nodes
 pub record Node : Type 0 where
-  pub name : Bytes
+  pub name : Name
   pub entries : List Entry
 
 -- a labelled relationship, by the numbers of its nodes
 pub record Rel : Type 0 where
-  pub label : Bytes
+  pub label : Name
   pub from : ℕ
   pub to : ℕ
   pub entries : List Entry
@@ -27,7 +27,7 @@ pub record Rel : Type 0 where
 pub record Book : Type 0 where
   pub vattrs : List Attr
   pub eattrs : List Attr
-  pub labels : List Bytes
+  pub labels : List Name
   pub nodes : List Node
   pub rels : List Rel
 
@@ -36,11 +36,11 @@ unfoldable pub emptyBook : Book
 emptyBook = record { vattrs = []; eattrs = []; labels = []; nodes = []; rels = [] }
 
 -- the names of declared attributes, in order
-unfoldable pub attrNames : List Attr → List Bytes
+unfoldable pub attrNames : List Attr → List Name
 attrNames ds = map (λ d. d .name) ds
 
 -- the names of the nodes, in order
-unfoldable pub nodeNames : Book → List Bytes
+unfoldable pub nodeNames : Book → List Name
 nodeNames b = map (λ n. n .name) (b .nodes)
 
 -- all attribute entries, of nodes and relationships together

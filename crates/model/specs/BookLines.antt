@@ -1,22 +1,23 @@
 -- The lines of a book, from items.
 use mathlib.Core.List.{List}
-use Rattle.model.specs.Bytes.{Bytes, bytesOf, same}
+use Rattle.model.specs.Bytes.{bytesOf, same}
 use Rattle.model.specs.Choice.{pick, Maybe, nothing, just, andThen}
 use Rattle.model.specs.Lists.{each}
+use Rattle.model.specs.Names.{Name}
 use Rattle.model.specs.Items.{Item}
 use Rattle.model.specs.Values.{Kind, Entry}
 use Rattle.model.specs.Forms.{asWord, asName, kindOf, first, atEnd, entryOf}
 
 -- the lines of a book
 pub data BookLine : Type 0 where
-  vattr : Bytes → Kind → BookLine
-  eattr : Bytes → Kind → BookLine
-  label : Bytes → BookLine
-  node : Bytes → List Entry → BookLine
-  rel : Bytes → Bytes → Bytes → List Entry → BookLine
+  vattr : Name → Kind → BookLine
+  eattr : Name → Kind → BookLine
+  label : Name → BookLine
+  node : Name → List Entry → BookLine
+  rel : Name → Name → Name → List Entry → BookLine
 
 -- NAME TYPE
-unfoldable pub attrLine : (Bytes → Kind → BookLine) → List Item → Maybe BookLine
+unfoldable pub attrLine : (Name → Kind → BookLine) → List Item → Maybe BookLine
 attrLine make is = first asName is (λ n is. first (λ i. andThen (asWord i) kindOf) is (λ k is. atEnd is (make n k)))
 
 -- NAME

@@ -1,4 +1,4 @@
--- A text is the list of its bytes, and so is a name.
+-- A text is the list of its bytes.
 use Prim.Native.Nat.{ℕ}
 use Prim.Native.Char.{code}
 use Prim.Native.String.{String, [] as []ˢ, _∷_ as _∷ˢ_}

@@ -3,7 +3,7 @@ use mathlib.Core.List.{List, [], _∷_}
 use mathlib.Core.Bool.{true, false}
 use Rattle.model.specs.Bytes.{Bytes, bytesOf, same}
 use Rattle.model.specs.Choice.{pick, Maybe, nothing, just, andThen}
-use Rattle.model.specs.Names.{mem}
+use Rattle.model.specs.Names.{Name, mem}
 use Rattle.model.specs.Items.{Item, word, whole, text, quoted, list, itemsOf, lineItems}
 use Rattle.model.specs.Lines.{Line}
 use Rattle.model.specs.Values.{Value, int, str, bool, Kind, ints, strs, bools, Entry}
@@ -29,11 +29,11 @@ unfoldable pub neverNames : List Bytes
 neverNames = bytesOf "Match" ∷ bytesOf "Where" ∷ bytesOf "AND" ∷ bytesOf "Return" ∷ bytesOf "true" ∷ bytesOf "false" ∷ []
 
 -- a word as a name
-unfoldable pub nameOf : Bytes → Maybe Bytes
+unfoldable pub nameOf : Bytes → Maybe Name
 nameOf w = pick (mem w neverNames) nothing (just w)
 
 -- an item as a name
-unfoldable pub asName : Item → Maybe Bytes
+unfoldable pub asName : Item → Maybe Name
 asName i = andThen (asWord i) nameOf
 
 -- true, false

@@ -3,17 +3,18 @@ use Prim.Native.Nat.{ℕ, zero, suc, _-_}
 use mathlib.Core.List.{List, [], _∷_}
 use Rattle.model.specs.Bytes.{Bytes, bytesOf}
 use Rattle.model.specs.Choice.{pick, Maybe, nothing, just, andThen}
+use Rattle.model.specs.Names.{Name}
 use Rattle.model.specs.Words.{Got}
 use Rattle.model.specs.Signs.{Sign, isWord, isMark, signsOf, signName, signValue, next, expect}
 use Rattle.model.specs.QueryText.{Relation, eq, ne, lt, le, gt, ge, Chain, end, right, left, Condition, differ, demand, QueryText}
 
 -- a piece of the text: Match (v), -[e:id]->(v), <-[e:id]-(v), Where or AND with a condition, Return v or , v
 pub data Piece : Type 0 where
-  start : Bytes → Piece
-  goes : Bytes → Bytes → Bytes → Piece
-  comes : Bytes → Bytes → Bytes → Piece
+  start : Name → Piece
+  goes : Name → Name → Name → Piece
+  comes : Name → Name → Name → Piece
   asks : Condition → Piece
-  returns : Bytes → Piece
+  returns : Name → Piece
 
 -- where a piece may stand: at the beginning, behind a chain, behind a condition, behind a returned name
 pub data Spot : Type 0 where
@@ -38,7 +39,7 @@ signRelation t =
     (pick (isMark (bytesOf ">=") t) (just ge) nothing)))))
 
 -- (v)
-unfoldable pub vertexAt : {B : Type 0} → List Sign → (Bytes → Maybe B) → Maybe B
+unfoldable pub vertexAt : {B : Type 0} → List Sign → (Name → Maybe B) → Maybe B
 vertexAt ts f = expect (bytesOf "(") ts (λ ts. next signName ts (λ v ts. expect (bytesOf ")") ts (λ ts. f v)))
 
 -- Match (v), from behind Match
@@ -46,7 +47,7 @@ unfoldable pub startAt : List Sign → Maybe (Got Piece)
 startAt ts = vertexAt ts (λ v. just (record { got = start v; size = 4 }))
 
 -- [e:id] and an arrow's end, then (v)
-unfoldable pub linkAt : (Bytes → Bytes → Bytes → Piece) → Bytes → List Sign → Maybe (Got Piece)
+unfoldable pub linkAt : (Name → Name → Name → Piece) → Bytes → List Sign → Maybe (Got Piece)
 linkAt make arrow ts =
     expect (bytesOf "[") ts (λ ts.
     next signName ts (λ e ts.
@@ -100,7 +101,7 @@ pieces p zero (t ∷ ts) =
 
 -- the pieces behind a vertex v of a chain: the rest of the chain, its conditions, and what follows
 pub record Tail : Type 0 where
-  pub chain : Bytes → Chain
+  pub chain : Name → Chain
   pub conditions : List Condition
   pub later : QueryText
 

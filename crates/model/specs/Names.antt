@@ -1,4 +1,4 @@
--- Names in lists: membership, repeats, places, first appearances.
+-- Names, and names in lists: membership, repeats, places, first appearances.
 use Prim.Native.Nat.{ℕ}
 use mathlib.Core.List.{List, [], _∷_, _++_}
 use mathlib.Core.Bool.{Bool, true, false}
@@ -6,24 +6,28 @@ use Rattle.model.specs.Bytes.{Bytes, same}
 use Rattle.model.specs.Choice.{pick}
 use Rattle.model.specs.Lists.{any, placeWhere}
 
+-- a name is the bytes of a word
+abbrev pub Name : Type 0
+Name = Bytes
+
 -- a name is one of a list
-unfoldable pub mem : Bytes → List Bytes → Bool
+unfoldable pub mem : Name → List Name → Bool
 mem w ws = any (same w) ws
 
 -- some name stands a second time
-unfoldable pub twice : List Bytes → Bool
+unfoldable pub twice : List Name → Bool
 twice [] = false
 twice (w ∷ ws) = let rest = twice ws in pick (mem w ws) true rest
 
 -- the place of a name in a list, counted from 0; the list's length if it is not there
-unfoldable pub place : Bytes → List Bytes → ℕ
+unfoldable pub place : Name → List Name → ℕ
 place w ws = placeWhere (same w) ws
 
 -- a name put behind a list that has it not yet
-unfoldable pub addNew : List Bytes → Bytes → List Bytes
+unfoldable pub addNew : List Name → Name → List Name
 addNew ws w = pick (mem w ws) ws (ws ++ (w ∷ []))
 
 -- every name once, in order of first appearance, behind those seen already
-unfoldable pub firsts : List Bytes → List Bytes → List Bytes
+unfoldable pub firsts : List Name → List Name → List Name
 firsts seen [] = seen
 firsts seen (w ∷ ws) = firsts (addNew seen w) ws

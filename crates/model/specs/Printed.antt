@@ -4,6 +4,7 @@ use mathlib.Core.List.{List, [], _++_, map}
 use lib.ListN.{length, getD}
 use Rattle.model.specs.Bytes.{Bytes, bytesOf}
 use Rattle.model.specs.Lists.{joined}
+use Rattle.model.specs.Names.{Name}
 use Rattle.model.specs.Refusal.{Outcome, accepted, refused, Refusal}
 use Rattle.model.specs.Book.{Book, nodeNames}
 use Rattle.model.specs.ReadBook.{readBook}
@@ -11,7 +12,7 @@ use Rattle.model.specs.Writing.{digits, eachBehind}
 use Rattle.model.specs.Service.{listRows}
 
 -- a row as the list program prints it: its node names
-unfoldable pub rowText : List Bytes → List ℕ → Bytes
+unfoldable pub rowText : List Name → List ℕ → Bytes
 rowText names row = bytesOf "(row" ++ eachBehind (bytesOf " ") (map (λ n. getD names n []) row) ++ bytesOf ")\n"
 
 -- a refusal as the list program prints it
@@ -19,16 +20,16 @@ unfoldable pub refusalText : Refusal → Bytes
 refusalText r = bytesOf "(refused " ++ digits 5 (r .number) ++ bytesOf " text " ++ digits 5 (r .text) ++ bytesOf " line " ++ digits 5 (r .line) ++ bytesOf ")\n"
 
 -- the header with the row count, then the rows
-unfoldable pub rowsText : List Bytes → List (List ℕ) → Bytes
+unfoldable pub rowsText : List Name → List (List ℕ) → Bytes
 rowsText names rows = bytesOf "(rows " ++ digits 5 (length rows) ++ bytesOf ")\n" ++ joined (rowText names) rows
 
 -- the rows, or the refusal alone
-unfoldable pub outcomeText : List Bytes → Outcome (List (List ℕ)) → Bytes
+unfoldable pub outcomeText : List Name → Outcome (List (List ℕ)) → Bytes
 outcomeText names (accepted rows) = rowsText names rows
 outcomeText names (refused r) = refusalText r
 
 -- the names of the nodes of a book that is accepted
-unfoldable pub namesOf : Outcome Book → List Bytes
+unfoldable pub namesOf : Outcome Book → List Name
 namesOf (accepted b) = nodeNames b
 namesOf (refused r) = []
 

@@ -1,6 +1,6 @@
 -- The syntax tree of a query or policy, as section 2.2 writes it: Match chains, Where conditions, Return.
 use mathlib.Core.List.{List}
-use Rattle.model.specs.Bytes.{Bytes}
+use Rattle.model.specs.Names.{Name}
 use Rattle.model.specs.Values.{Value}
 
 -- = <> < <= > >=
@@ -9,14 +9,14 @@ pub data Relation : Type 0 where
 
 -- φ ::= (v) | (v)-[e:id]->φ | (v)<-[e:id]-φ
 pub data Chain : Type 0 where
-  end : Bytes → Chain
-  right : Bytes → Bytes → Bytes → Chain → Chain
-  left : Bytes → Bytes → Bytes → Chain → Chain
+  end : Name → Chain
+  right : Name → Name → Name → Chain → Chain
+  left : Name → Name → Name → Chain → Chain
 
 -- ψ: v <> u, or x.attr REL value, where x is a vertex or an edge variable
 pub data Condition : Type 0 where
-  differ : Bytes → Bytes → Condition
-  demand : Bytes → Bytes → Relation → Value → Condition
+  differ : Name → Name → Condition
+  demand : Name → Name → Relation → Value → Condition
 
 -- Match φ Where ψ AND ψ ...
 pub record Match : Type 0 where
@@ -26,4 +26,4 @@ pub record Match : Type 0 where
 -- Q: the Matches, then Return
 pub record QueryText : Type 0 where
   pub matches : List Match
-  pub returns : List Bytes
+  pub returns : List Name

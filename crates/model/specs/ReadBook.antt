@@ -7,7 +7,7 @@ use lib.Dec.{leb, ltb, eqb}
 use Rattle.model.specs.Bytes.{Bytes, same}
 use Rattle.model.specs.Choice.{Maybe, andThen}
 use Rattle.model.specs.Lists.{any, all}
-use Rattle.model.specs.Names.{mem, twice, place}
+use Rattle.model.specs.Names.{Name, mem, twice, place}
 use Rattle.model.specs.Refusal.{Outcome, Row, lowest, _if_}
 use Rattle.model.specs.Lines.{Line, Step, faultOr, formStep, readLines, linesOf, bytesFirst}
 use Rattle.model.specs.Values.{Entry, ofKind}
@@ -24,19 +24,19 @@ unfoldable pub undeclared : List Attr → List Entry → Bool
 undeclared ds es = any (λ e. not (mem (e .attr) (attrNames ds))) es
 
 -- a label runs from one node to another already
-unfoldable pub related : Book → Bytes → ℕ → ℕ → Bool
+unfoldable pub related : Book → Name → ℕ → ℕ → Bool
 related b l x y = any (λ r. same (r .label) l && eqb (r .from) x && eqb (r .to) y) (b .rels)
 
 -- the table of faults of a declared name: among names declared already
-abbrev pub nameFaults : Bytes → List Bytes → List Row
+abbrev pub nameFaults : Name → List Name → List Row
 nameFaults n ns = (5 if mem n ns) ∷ (7 if leb 32 (length ns)) ∷ []
 
 -- the lowest of them
-unfoldable pub nameFault : Bytes → List Bytes → Maybe ℕ
+unfoldable pub nameFault : Name → List Name → Maybe ℕ
 nameFault n ns = lowest (nameFaults n ns)
 
 -- the table of faults of a node line
-abbrev pub nodeFaults : Book → Bytes → List Entry → List Row
+abbrev pub nodeFaults : Book → Name → List Entry → List Row
 nodeFaults b n es =
     (4 if undeclared (b .vattrs) es)
     ∷ (5 if mem n (nodeNames b) || twice (map (λ e. e .attr) es))
@@ -45,11 +45,11 @@ nodeFaults b n es =
     ∷ []
 
 -- the lowest of them
-unfoldable pub nodeFault : Book → Bytes → List Entry → Maybe ℕ
+unfoldable pub nodeFault : Book → Name → List Entry → Maybe ℕ
 nodeFault b n es = lowest (nodeFaults b n es)
 
 -- the table of faults of a rel line
-abbrev pub relFaults : Book → Bytes → Bytes → Bytes → List Entry → List Row
+abbrev pub relFaults : Book → Name → Name → Name → List Entry → List Row
 relFaults b l x y es =
     (4 if not (mem l (b .labels)) || not (mem x (nodeNames b)) || not (mem y (nodeNames b)) || undeclared (b .eattrs) es)
     ∷ (5 if related b l (place x (nodeNames b)) (place y (nodeNames b)) || twice (map (λ e. e .attr) es))
@@ -58,7 +58,7 @@ relFaults b l x y es =
     ∷ []
 
 -- the lowest of them
-unfoldable pub relFault : Book → Bytes → Bytes → Bytes → List Entry → Maybe ℕ
+unfoldable pub relFault : Book → Name → Name → Name → List Entry → Maybe ℕ
 relFault b l x y es = lowest (relFaults b l x y es)
 
 -- the lowest fault of a line after the lines before

@@ -7,7 +7,7 @@ use lib.Dec.{ltb}
 use Rattle.model.specs.Bytes.{Bytes, same}
 use Rattle.model.specs.Choice.{Maybe, nothing, just}
 use Rattle.model.specs.Lists.{any, keep}
-use Rattle.model.specs.Names.{mem, twice}
+use Rattle.model.specs.Names.{Name, mem, twice}
 use Rattle.model.specs.Values.{Value, Kind, ints, strs, bools, ofKind}
 use Rattle.model.specs.Refusal.{Outcome, accepted, refusal, refusedIf, Row, lowest, _if_}
 use Rattle.model.specs.Lines.{bytesFirst}
@@ -19,11 +19,11 @@ use Rattle.model.specs.Query.{chainVertices, chainEdges, vertexNames, ed
 -- a condition with the vertex and edge variables of its own and the earlier Matches
 pub record Scoped : Type 0 where
   pub condition : Condition
-  pub vertices : List Bytes
-  pub edges : List Bytes
+  pub vertices : List Name
+  pub edges : List Name
 
 -- all conditions in order, behind Matches with the variables vs and es
-unfoldable pub scoped : List Bytes → List Bytes → List Match → List Scoped
+unfoldable pub scoped : List Name → List Name → List Match → List Scoped
 scoped vs es [] = []
 scoped vs es (m ∷ ms) =
     let us = vs ++ chainVertices (m .chain) in
@@ -31,7 +31,7 @@ scoped vs es (m ∷ ms) =
     map (λ c. record { condition = c; vertices = us; edges = fs }) (m .conditions) ++ scoped us fs ms
 
 -- a condition that names what is not declared
-unfoldable pub unknown : Book → Condition → List Bytes → List Bytes → Bool
+unfoldable pub unknown : Book → Condition → List Name → List Name → Bool
 unknown b (differ v u) vs es = not (mem v vs && mem u vs)
 unknown b (demand x a r v) vs es = not (mem x vs && mem a (attrNames (b .vattrs)) || mem x es && mem a (attrNames (b .eattrs)))
 
@@ -42,11 +42,11 @@ hasRelation strs r = elim r [ eq ↦ true | ne ↦ true | lt ↦ false | le ↦ 
 hasRelation bools r = elim r [ eq ↦ true | ne ↦ true | lt ↦ false | le ↦ false | gt ↦ false | ge ↦ false ]
 
 -- an attribute is declared with a type that has this relation and this value
-unfoldable pub typed : List Attr → Bytes → Relation → Value → Bool
+unfoldable pub typed : List Attr → Name → Relation → Value → Bool
 typed ds a r v = any (λ d. same (d .name) a && hasRelation (d .kind) r && ofKind (d .kind) v) ds
 
 -- a requirement whose relation or value is not of the declared type
-unfoldable pub mistyped : Book → Condition → List Bytes → List Bytes → Bool
+unfoldable pub mistyped : Book → Condition → List Name → List Name → Bool
 mistyped b (differ v u) vs es = false
 mistyped b (demand x a r v) vs es = not (mem x vs && typed (b .vattrs) a r v || mem x es && typed (b .eattrs) a r v)
 

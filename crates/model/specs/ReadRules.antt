@@ -7,7 +7,7 @@ use lib.Dec.{leb, ltb}
 use Rattle.model.specs.Bytes.{Bytes, bytesOf, same}
 use Rattle.model.specs.Choice.{pick, Maybe, nothing, just, andThen}
 use Rattle.model.specs.Lists.{isNil, any, all, each}
-use Rattle.model.specs.Names.{mem, twice}
+use Rattle.model.specs.Names.{Name, mem, twice}
 use Rattle.model.specs.Items.{Item, itemsOf}
 use Rattle.model.specs.Refusal.{Outcome, accepted, refusal, onAccept, Row, lowest, _if_}
 use Rattle.model.specs.Lines.{Line, Step, readLines, linesOf, bytesFirst, faultOr, formStep}
@@ -20,11 +20,11 @@ use Rattle.model.specs.Rules.{Rules, categoryNames}
 
 -- the lines of the rules; of a policy also the count of its bytes
 pub data RulesLine : Type 0 where
-  category : Bytes → List Bytes → List Bytes → RulesLine
-  policy : Bytes → ℕ → QueryText → RulesLine
+  category : Name → List Name → List Name → RulesLine
+  policy : Name → ℕ → QueryText → RulesLine
 
 -- (HEAD NAME...)
-unfoldable pub namesAfter : Bytes → Item → Maybe (List Bytes)
+unfoldable pub namesAfter : Bytes → Item → Maybe (List Name)
 namesAfter head i = andThen (itemsOf i) (λ is. first asWord is (λ w is. pick (same w head) (each asName is) nothing))
 
 -- NAME (actors WORD...) (over CATEGORY...)
@@ -50,15 +50,15 @@ rulesLine is =
     pick (same w (bytesOf "category")) (categoryLine is) (pick (same w (bytesOf "policy")) (policyLine is) nothing))
 
 -- a category that is over one whose actors are not all there
-unfoldable pub lacksActor : Rules → List Bytes → List Bytes → Bool
+unfoldable pub lacksActor : Rules → List Name → List Name → Bool
 lacksActor r actors over = any (λ c. mem (c .name) over && not (all (λ a. mem a actors) (c .actors))) (r .categories)
 
 -- a category has a policy already
-unfoldable pub hasPolicy : Rules → Bytes → Bool
+unfoldable pub hasPolicy : Rules → Name → Bool
 hasPolicy r c = any (λ p. same (p .category) c) (r .policies)
 
 -- the table of faults of a category line
-abbrev pub categoryFaults : Rules → Bytes → List Bytes → List Bytes → List Row
+abbrev pub categoryFaults : Rules → Name → List Name → List Name → List Row
 categoryFaults r n actors over =
     (4 if not (all (λ c. mem c (categoryNames r)) over))
     ∷ (5 if mem n (categoryNames r) || twice actors || twice over)
@@ -67,7 +67,7 @@ categoryFaults r n actors over =
     ∷ []
 
 -- the table of faults of a policy line
-abbrev pub policyFaults : Book → Rules → Bytes → ℕ → QueryText → List Row
+abbrev pub policyFaults : Book → Rules → Name → ℕ → QueryText → List Row
 policyFaults b r c bytes q =
     (4 if not (mem c (categoryNames r)) || hasUndeclared b q)
     ∷ (5 if hasPolicy r c || hasTwice q)

@@ -5,7 +5,7 @@ use mathlib.Core.Bool.{not, _||_}
 use Rattle.model.specs.Bytes.{Bytes, bytesOf, same}
 use Rattle.model.specs.Choice.{pick, Maybe, nothing, just, andThen}
 use Rattle.model.specs.Lists.{isNil, any, each}
-use Rattle.model.specs.Names.{mem, twice, place}
+use Rattle.model.specs.Names.{Name, mem, twice, place}
 use Rattle.model.specs.Items.{Item, itemsOf}
 use Rattle.model.specs.Refusal.{Outcome, accepted, refusal, Row, lowest, _if_}
 use Rattle.model.specs.Lines.{Line, Step, stepThen, linesOf, bytesFirst, faultOr, formStep}
@@ -15,17 +15,17 @@ use Rattle.model.specs.Rules.{Rules, categoryNames, actorsOf}
 
 -- an identity as it is written
 pub record Claim : Type 0 where
-  pub actor : Bytes
-  pub node : Bytes
+  pub actor : Name
+  pub node : Name
 
 -- an identity: an actor, and the number of its node
 pub record Identity : Type 0 where
-  pub actor : Bytes
+  pub actor : Name
   pub node : ℕ
 
 -- what a request asks
 pub record Request : Type 0 where
-  pub category : Bytes
+  pub category : Name
   pub identities : List Identity
 
 -- (id ACTOR NODE)
@@ -39,7 +39,7 @@ claimOf i =
 
 -- a request as it is written
 pub record RequestLine : Type 0 where
-  pub category : Bytes
+  pub category : Name
   pub claims : List Claim
 
 -- request CATEGORY (id ACTOR NODE)...

@@ -3,21 +3,21 @@ use Prim.Native.Nat.{ℕ, zero, suc}
 use mathlib.Core.List.{List, [], _∷_, map}
 use mathlib.Core.Bool.{_&&_, _||_}
 use lib.ListN.{length}
-use Rattle.model.specs.Bytes.{Bytes, same}
+use Rattle.model.specs.Bytes.{same}
 use Rattle.model.specs.Choice.{pick}
 use Rattle.model.specs.Lists.{any, keep, joined}
-use Rattle.model.specs.Names.{mem}
+use Rattle.model.specs.Names.{Name, mem}
 use Rattle.model.specs.QueryText.{QueryText}
 
 -- a category with its actors and the categories it is over
 pub record Category : Type 0 where
-  pub name : Bytes
-  pub actors : List Bytes
-  pub over : List Bytes
+  pub name : Name
+  pub actors : List Name
+  pub over : List Name
 
 -- a policy of a category
 pub record Policy : Type 0 where
-  pub category : Bytes
+  pub category : Name
   pub text : QueryText
 
 -- all in rules order
@@ -26,26 +26,26 @@ pub record Rules : Type 0 where
   pub policies : List Policy
 
 -- the names declared so far
-unfoldable pub categoryNames : Rules → List Bytes
+unfoldable pub categoryNames : Rules → List Name
 categoryNames r = map (λ c. c .name) (r .categories)
 
 -- the actors of a category
-unfoldable pub actorsOf : Rules → Bytes → List Bytes
+unfoldable pub actorsOf : Rules → Name → List Name
 actorsOf r c = joined (λ x. pick (same (x .name) c) (x .actors) []) (r .categories)
 
 -- one step down from some categories: these and those they are over, in rules order
-unfoldable pub stepDown : Rules → List Bytes → List Bytes
+unfoldable pub stepDown : Rules → List Name → List Name
 stepDown r cs = map (λ c. c .name) (keep (λ c. mem (c .name) cs || any (λ d. mem (d .name) cs && mem (c .name) (d .over)) (r .categories)) (r .categories))
 
 -- k steps down
-unfoldable pub stepsDown : ℕ → Rules → List Bytes → List Bytes
+unfoldable pub stepsDown : ℕ → Rules → List Name → List Name
 stepsDown zero r cs = cs
 stepsDown (suc k) r cs = stepsDown k r (stepDown r cs)
 
 -- a category and all it is over, directly or through others, in rules order
-unfoldable pub downFrom : Rules → Bytes → List Bytes
+unfoldable pub downFrom : Rules → Name → List Name
 downFrom r c = stepsDown (length (r .categories)) r (c ∷ [])
 
 -- the enforced policies, in the order of their categories
-unfoldable pub enforced : Rules → Bytes → List Policy
+unfoldable pub enforced : Rules → Name → List Policy
 enforced r c = joined (λ d. keep (λ p. same (p .category) d) (r .policies)) (downFrom r c)

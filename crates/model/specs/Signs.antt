@@ -6,6 +6,7 @@ use lib.ListN.{length}
 use lib.Dec.{eqb}
 use Rattle.model.specs.Bytes.{Bytes, bytesOf, same}
 use Rattle.model.specs.Choice.{pick, Maybe, nothing, just, andThen}
+use Rattle.model.specs.Names.{Name}
 use Rattle.model.specs.Words.{Got, isLetter, isDigit, wordAt, wholeAt, textAt}
 use Rattle.model.specs.Values.{Value, int, str}
 use Rattle.model.specs.Forms.{nameOf, truthOf}
@@ -96,7 +97,7 @@ unfoldable pub signsOf : Bytes → List Sign
 signsOf s = signs false false 0 s
 
 -- a name that a sign is
-unfoldable pub signName : Sign → Maybe Bytes
+unfoldable pub signName : Sign → Maybe Name
 signName (word w) = nameOf w
 signName (whole n) = nothing
 signName (text t) = nothing

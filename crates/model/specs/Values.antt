@@ -2,6 +2,7 @@
 use Prim.Native.Nat.{ℕ}
 use mathlib.Core.Bool.{Bool, true, false}
 use Rattle.model.specs.Bytes.{Bytes}
+use Rattle.model.specs.Names.{Name}
 
 -- a value is a whole number (kept as z + 2^63), a text or a truth value
 pub data Value : Type 0 where
@@ -15,7 +16,7 @@ pub data Kind : Type 0 where
 
 -- an attribute with its value
 pub record Entry : Type 0 where
-  pub attr : Bytes
+  pub attr : Name
   pub value : Value
 
 -- a value is of a declared type

@@ -7,7 +7,7 @@ use lib.Dec.{ltb, eqb}
 use Rattle.model.specs.Bytes.{Bytes}
 use Rattle.model.specs.Choice.{pick, Maybe}
 use Rattle.model.specs.Lists.{any, all, keep, joined, memℕ, below}
-use Rattle.model.specs.Names.{mem, place, firsts}
+use Rattle.model.specs.Names.{Name, mem, place, firsts}
 use Rattle.model.specs.Refusal.{Row, lowest, _if_}
 use Rattle.model.specs.QueryText.{QueryText}
 use Rattle.model.specs.Pattern.{Pattern, Edge, Clause, excluded, vertexHas, edgeHas, patternOf}
@@ -17,7 +17,7 @@ use Rattle.model.specs.Request.{Identity, Request}
 -- a text to be met, with the actors of its own category
 pub record Asked : Type 0 where
   pub text : QueryText
-  pub actors : List Bytes
+  pub actors : List Name
 
 -- the query, with the actors of the request's category
 unfoldable pub askedQuery : Rules → Request → QueryText → Asked

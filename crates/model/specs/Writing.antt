@@ -7,6 +7,7 @@ use lib.Dec.{leb, ltb}
 use Rattle.model.specs.Bytes.{Bytes, bytesOf}
 use Rattle.model.specs.Choice.{pick}
 use Rattle.model.specs.Lists.{isNil}
+use Rattle.model.specs.Names.{Name}
 use Rattle.model.specs.Values.{Value, int, str, bool}
 use Rattle.model.specs.QueryText.{Relation, eq, ne, lt, le, gt, ge}
 use Rattle.model.specs.Pattern.{Edge, Clause, excluded, vertexHas, edgeHas, Pattern}
@@ -47,15 +48,15 @@ relationText gt = bytesOf ">"
 relationText ge = bytesOf ">="
 
 -- the name of a vertex, by number
-unfoldable pub vertexName : Pattern → ℕ → Bytes
+unfoldable pub vertexName : Pattern → ℕ → Name
 vertexName p v = getD (p .vertices) v []
 
 -- the name of an edge, by number
-unfoldable pub edgeName : Pattern → ℕ → Bytes
+unfoldable pub edgeName : Pattern → ℕ → Name
 edgeName p e = getD (map (λ x. x .name) (p .edges)) e []
 
 -- x.attr REL value
-unfoldable pub demandText : Bytes → Bytes → Relation → Value → Bytes
+unfoldable pub demandText : Name → Name → Relation → Value → Bytes
 demandText x a r v = x ++ bytesOf "." ++ a ++ bytesOf " " ++ relationText r ++ bytesOf " " ++ valueText v
 
 -- a condition as it is written

@@ -25,7 +25,7 @@ use Rattle.model.specs.Graph.{Each}
 use Rattle.model.specs.Query.{vertexNames, edgeNames, edgesOf, conditionsOf}
 use Rattle.model.specs.ReadQuery.{unknown, isDiffer, hasTwice, tooMany}
 use Rattle.model.proofs.Members.{_∈_, is-true, any-i, mem-e, map-e, joined-e, each-e, firsts-e}
-use Rattle.model.proofs.WrittenConditions.{Name, WritableValue, WritableCondition}
+use Rattle.model.proofs.WrittenConditions.{IsName, WritableValue, WritableCondition}
 use Rattle.model.proofs.WritableSigns.{IfThere, signs-writable}
 use Rattle.model.proofs.WritablePieces.{WritablePiece, pieces-writable}
 use Rattle.pieces.specs.Walk.{stopped, ahead, orStopped, endsWell, walk, Ordered}
@@ -237,12 +237,12 @@ pub record Short (w : Bytes) : Type 0 where
   pub some : 0 < length w
   pub few : length w ≤ 24
 
-name-short : (w : Bytes) → Name w → Short w
+name-short : (w : Bytes) → IsName w → Short w
 name-short [] h = absurd (h .0)
 name-short (x ∷ w) h = record { some = omega arith; few = omega (arith, h .0 .2) }
 
-one-in : (v w : Bytes) → Name v → w ∈ (v ∷ []) → Name w
-one-in v w h m = ⊎-elim (λ e. subst Name (sym e) h) (λ z. elim z [ ]) (cases-cons m)
+one-in : (v w : Bytes) → IsName v → w ∈ (v ∷ []) → IsName w
+one-in v w h m = ⊎-elim (λ e. subst IsName (sym e) h) (λ z. elim z [ ]) (cases-cons m)
 
 module _ (b : Book) (s : Bytes) (clear : Clear b s) (allowed : T (all isAllowed s)) where
   writable : Each WritablePiece (textPieces s)
@@ -250,7 +250,7 @@ module _ (b : Book) (s : Bytes) (clear : Clear b s) (allowed : T (all isAllowed 
   writable = subst (λ t. IfThere (Each WritablePiece) (pick t (just (textPieces s)) nothing)) (clear .whole)
       (subst (IfThere (Each WritablePiece)) (pieces-are-walked atStart 0 (signsOf s)) (pieces-writable atStart 0 (signsOf s) (signs-writable false false 0 s allowed)))
 
-  vertex-in : (p : Piece) → WritablePiece p → (w : Bytes) → w ∈ vertexIn p → Name w
+  vertex-in : (p : Piece) → WritablePiece p → (w : Bytes) → w ∈ vertexIn p → IsName w
   unfolding vertexIn
   vertex-in (start v) h w m = one-in v w h m
   vertex-in (goes e l v) h w m = one-in v w (h .2) m
@@ -258,7 +258,7 @@ module _ (b : Book) (s : Bytes) (clear : Clear b s) (allowed : T (all isAllowed 
   vertex-in (asks c) h w m = elim m [ ]
   vertex-in (returns v) h w m = elim m [ ]
 
-  edge-in : (p : Piece) → WritablePiece p → (w : Bytes) → w ∈ edgeIn p → Name w
+  edge-in : (p : Piece) → WritablePiece p → (w : Bytes) → w ∈ edgeIn p → IsName w
   unfolding edgeIn
   edge-in (start v) h w m = elim m [ ]
   edge-in (goes e l v) h w m = one-in e w (h .0) m
