@@ -19,6 +19,7 @@ pub mod FirstNames
 pub mod Outcomes
 pub mod AllowedBytes
 pub mod Skips
+pub mod Standings
 -- models of a text, by nodes and by number
 pub mod Chains
 pub mod ByNodes

@@ -40,6 +40,10 @@ use Rattle.model.specs.declared.RowsListed.the-variants as listed
 unfoldable pub refusalOf : RefusalData → Refusal
 refusalOf r = record { number = r .number; text = r .text; line = r .line }
 
+-- a refusal as data
+unfoldable pub refusalData : Refusal → RefusalData
+refusalData r = record { number = r .number; text = r .text; line = r .line }
+
 -- what the book reader answers
 unfoldable pub bookAnswer : BookRead → Outcome BookAnswer
 bookAnswer (book.Counts n r e) = accepted (record { nodes = n; rels = r; entries = e })

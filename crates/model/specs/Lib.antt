@@ -33,4 +33,6 @@ pub mod Answers
 pub mod PlainData
 pub mod RequestPlaces
 pub mod RequestAnswer
+pub mod Places
+pub mod WholeAnswers
 pub mod Computing

@@ -1,6 +1,6 @@
 -- Plain data of answers: what stands past the end of an array, what fits its words, what lies within its text.
 use Prim.Native.Nat.{ℕ, _+_, _<_, _≤_}
-use lib.ListN.{getD}
+use lib.ListN.{getD, replicate}
 use Rattle.model.specs.declared.Value.{Value}
 use Rattle.model.specs.declared.Value.the-variants.{Number, Text, Truth}
 use Rattle.model.specs.declared.Part.{Part}
@@ -20,6 +20,16 @@ noEdge = record { name = noPart; label = 0; from = 0; to = 0 }
 
 abbrev pub noClause : Clause
 noClause = record { condition = Excluded 0 0 }
+
+-- the empty pattern
+abbrev pub noPattern : Pattern
+noPattern = record {
+  vertices = replicate 8 noPart;
+  edges = replicate 16 noEdge;
+  clauses = replicate 32 noClause;
+  returns = replicate 4 0;
+  counts = record { vertices = 0; edges = 0; clauses = 0; returns = 0 };
+}
 
 -- a name fits a word: it stands below 65,536, and has fewer than 32 bytes; base is where its text begins
 abbrev pub NameFits : ℕ → Part → Type 0

@@ -3,16 +3,12 @@ use Prim.Native.Nat.{ℕ}
 use mathlib.Core.List.{[]}
 use lib.ListN.{length}
 use Rattle.model.specs.Bytes.{Bytes}
-use Rattle.model.specs.Refusal.{Refusal, Outcome, accepted, refused}
+use Rattle.model.specs.Refusal.{Outcome, accepted, refused}
 use Rattle.model.specs.Service.{RequestAnswer, requestService}
+use Rattle.model.specs.Answers.{refusalData}
 use Rattle.model.specs.RequestPlaces.{identityPlaces, slots}
-use Rattle.model.specs.declared.Refusal.{Refusal as RefusalData}
 use Rattle.model.specs.declared.Verdict.the-variants as verdict
 use Rattle.model.specs.declared.RequestRead.{RequestRead}
-
--- a refusal's three numbers as data
-unfoldable pub refusalData : Refusal → RefusalData
-refusalData r = record { number = r .number; text = r .text; line = r .line }
 
 -- the answer about a text: accepted with the category's number and the identities, each where its own actor stands; or refused, beside no category and no identity
 unfoldable pub toldRequest : Bytes → Outcome RequestAnswer → RequestRead

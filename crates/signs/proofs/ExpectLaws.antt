@@ -1,7 +1,7 @@
 -- Laws of what is expected next: by the first sign that is not broken.
 use Prim.Native.Nat.{ℕ, zero, suc, _<_}
 use mathlib.Core.Path.{_≡_, refl, sym, ap, _∙_, subst}
-use mathlib.Core.List.{List, [], _∷_}
+use mathlib.Core.List.{List, [], _∷_, _++_}
 use mathlib.Core.Bool.{Bool, true, false, not, _&&_, _||_}
 use native.Mathlib.Omega.{arith}
 use lib.Dec.{T, eqb}
@@ -16,6 +16,7 @@ use Rattle.model.specs.Signs.{Sign, word, whole, text, mark, broken, isWord, is
 use Rattle.model.specs.QueryText.{Relation}
 use Rattle.model.specs.Grammar.{signRelation}
 use Rattle.model.specs.Answers.{nameAt, relationOf, valueOf, partOf}
+use Rattle.model.specs.Places.{Bracket, none, bracketOf, Standing, variableAt}
 use Rattle.model.specs.declared.Part.{Part}
 use Rattle.model.specs.declared.Relation.{Relation as RelationData}
 use Rattle.model.specs.declared.Relation.the-variants.{Equal, Differs, Less, AtMost, Greater, AtLeast}
@@ -35,8 +36,8 @@ use Rattle.signs.specs.declared.RelationRead.the-variants as relation
 use Rattle.signs.specs.declared.ValueRead.{ValueRead}
 use Rattle.signs.specs.declared.ValueRead.the-variants as value
 use Rattle.signs.specs.Marks.{markBytes}
-use Rattle.signs.specs.Reads.{signOf, isWordy, signsFrom, First, first, firstOf, NextSign, Behind}
-use Rattle.signs.specs.Expected.{Then, codeOf, behindMark, MarkBehind, MarkNext, nameOr, behindName, NameBehind, NameNext, relationOr, behindRelation, RelationBehind, RelationNext, truthOr, behindValue, ValueBehind, ValueNext}
+use Rattle.signs.specs.Reads.{signOf, isWordy, signsFrom, First, first, firstOf, NextSign, Behind, standingsFrom, standingOf, SignStands}
+use Rattle.signs.specs.Expected.{Then, codeOf, behindMark, MarkBehind, MarkNext, nameOr, behindName, NameBehind, NameNext, relationOr, behindRelation, RelationBehind, RelationNext, truthOr, behindValue, ValueBehind, valueStanding, ValueNext}
 use Rattle.signs.proofs.MarkLaws.{same-marks}
 use Rattle.signs.proofs.SignLaws.{wordy-sign}
 
@@ -124,23 +125,36 @@ code-is s (sign.Whole n) c h e = absurd (omega arith)
 code-is s (sign.Text p) c h e = absurd (omega arith)
 code-is s (sign.Mark m) c h e = ap (λ n. mark (markBytes n)) e
 
+-- a mark is no variable and no text value
+code-quiet : (o : Bracket) (t : SignData) (c : ℕ) → 0 < c → codeOf t ≡ c → standingOf o t ≡ []
+unfolding standingOf codeOf
+code-quiet o (sign.Word p) c h e = absurd (omega arith)
+code-quiet o (sign.Whole n) c h e = refl
+code-quiet o (sign.Text p) c h e = absurd (omega arith)
+code-quiet o (sign.Mark m) c h e = refl
+
 -- a mark that is expected
 module _ (chain close : Bool) (s : Bytes) (from c : ℕ) (p : 0 < c) where
   pub mark-end : (r : SignRead) → NextSign chain close s from r → r ≡ read.None → MarkNext chain close s from c end.None
   unfolding firstOf behindMark andThen
-  mark-end r h e = record { reads = expect-first (markBytes c) (signsFrom chain close s from) just ∙ rw (h .reads, e); moves = tt }
+  mark-end r h e = record { reads = expect-first (markBytes c) (signsFrom chain close s from) just ∙ rw (h .reads, e); moves = tt; stands = λ o. tt }
 
   module _ (r : SignRead) (h : NextSign chain close s from r) (t : SignData) (q : ℕ) (e : r ≡ read.Found t q) where
+    mark-stands : codeOf t ≡ c → (o : Bracket) → standingsFrom o chain close s from ≡ standingsFrom (bracketOf (mark (markBytes c))) chain false s q
+    unfolding wordy
+    mark-stands k o = subst (SignStands o chain close s from) e (h .stands o) ∙ rw (code-quiet o t c p k, code-is s t c p k, chain-mark chain (markBytes c))
+
     pub mark-met : codeOf t ≡ c → MarkNext chain close s from c (end.At q)
     unfolding firstOf behindMark andThen wordy
     mark-met k = record {
       reads = expect-first (markBytes c) (signsFrom chain close s from) just ∙ rw (h .reads, e, code-mark s t c p, eq-eqb (codeOf t) c k, code-is s t c p k, chain-mark chain (markBytes c));
       moves = subst (Behind from) e (h .moves);
+      stands = mark-stands k;
     }
 
     pub mark-other : (codeOf t ≡ c → ⊥) → MarkNext chain close s from c end.None
     unfolding firstOf behindMark andThen
-    mark-other k = record { reads = expect-first (markBytes c) (signsFrom chain close s from) just ∙ rw (h .reads, e, code-mark s t c p, ne-eqb (codeOf t) c k); moves = tt }
+    mark-other k = record { reads = expect-first (markBytes c) (signsFrom chain close s from) just ∙ rw (h .reads, e, code-mark s t c p, ne-eqb (codeOf t) c k); moves = tt; stands = λ o. tt }
 
 -- a name that is expected
 module _ (chain close : Bool) (s : Bytes) (from : ℕ) where
@@ -149,12 +163,17 @@ module _ (chain close : Bool) (s : Bytes) (from : ℕ) where
 
   pub name-end : (r : SignRead) → NextSign chain close s from r → r ≡ read.None → NameNext chain close s from name.None
   unfolding firstOf behindName andThen signName
-  name-end r h e = record { reads = next-first signName (signsFrom chain close s from) named refl ∙ rw (h .reads, e); moves = tt }
+  name-end r h e = record { reads = next-first signName (signsFrom chain close s from) named refl ∙ rw (h .reads, e); moves = tt; stands = λ o. tt }
 
   module _ (r : SignRead) (h : NextSign chain close s from r) (q : ℕ) where
     pub name-other : (t : SignData) → signName (signOf s t) ≡ nothing → r ≡ read.Found t q → NameNext chain close s from name.None
     unfolding firstOf behindName andThen signName
-    name-other t k e = record { reads = next-first signName (signsFrom chain close s from) named refl ∙ rw (h .reads, e, k); moves = tt }
+    name-other t k e = record { reads = next-first signName (signsFrom chain close s from) named refl ∙ rw (h .reads, e, k); moves = tt; stands = λ o. tt }
+
+    name-stands : (p : Part) → r ≡ read.Found (sign.Word p) q → mem (nameAt s p) neverNames ≡ false → (o : Bracket)
+        → standingsFrom o chain close s from ≡ variableAt o p ++ standingsFrom none chain true s q
+    unfolding standingOf signOf wordy bracketOf isMark
+    name-stands p e k o = subst (SignStands o chain close s from) e (h .stands o) ∙ rw (chain-name chain (nameAt s p) k)
 
     pub name-met : (p : Part) → r ≡ read.Found (sign.Word p) q → NameNext chain close s from (nameOr s p q)
     unfolding nameOr signName signOf nameOf firstOf behindName andThen wordy
@@ -165,6 +184,7 @@ module _ (chain close : Bool) (s : Bytes) (from : ℕ) where
         go false k = record {
           reads = next-first signName (signsFrom chain close s from) named refl ∙ rw (h .reads, e, k, chain-name chain (nameAt s p) k);
           moves = subst (Behind from) e (h .moves);
+          stands = name-stands p e k;
         }
 
 -- a relation that is expected
@@ -192,7 +212,7 @@ relation-code s t = rw (
 module _ (close : Bool) (s : Bytes) (from : ℕ) where
   pub relation-end : (r : SignRead) → NextSign false close s from r → r ≡ read.None → RelationNext close s from relation.None
   unfolding firstOf behindRelation andThen signRelation isMark
-  relation-end r h e = record { reads = next-first signRelation (signsFrom false close s from) related refl ∙ rw (h .reads, e); moves = tt }
+  relation-end r h e = record { reads = next-first signRelation (signsFrom false close s from) related refl ∙ rw (h .reads, e); moves = tt; stands = λ o. tt }
 
   module _ (r : SignRead) (h : NextSign false close s from r) (t : SignData) (q : ℕ) (e : r ≡ read.Found t q) where
     abbrev found : Maybe Relation → Maybe (Then Relation)
@@ -202,30 +222,35 @@ module _ (close : Bool) (s : Bytes) (from : ℕ) where
     unfolding firstOf andThen signRelation isMark
     relation-reads = next-first signRelation (signsFrom false close s from) related refl ∙ rw (h .reads, e)
 
-    relation-is : (k : ℕ) (d : RelationData) → 0 < k → codeOf t ≡ k → signRelation (signOf s t) ≡ just (relationOf d) → RelationNext close s from (relation.Found d q)
+    relation-stands : (k : ℕ) → 0 < k → codeOf t ≡ k → bracketOf (mark (markBytes k)) ≡ none → (o : Bracket) → standingsFrom o false close s from ≡ standingsFrom none false false s q
+    unfolding wordy
+    relation-stands k p c n o = subst (SignStands o false close s from) e (h .stands o) ∙ rw (code-quiet o t k p c, code-is s t k p c, chain-mark false (markBytes k), n)
+
+    relation-is : (k : ℕ) (d : RelationData) → 0 < k → bracketOf (mark (markBytes k)) ≡ none → codeOf t ≡ k → signRelation (signOf s t) ≡ just (relationOf d) → RelationNext close s from (relation.Found d q)
     unfolding behindRelation andThen wordy
-    relation-is k d p c m = record {
+    relation-is k d p n c m = record {
       reads = relation-reads ∙ rw (m, code-is s t k p c, chain-mark false (markBytes k));
       moves = subst (Behind from) e (h .moves);
+      stands = relation-stands k p c n;
     }
 
-    relation-or : (k : ℕ) (d : RelationData) (R : RelationRead) (M : Maybe Relation) → 0 < k → signRelation (signOf s t) ≡ pick (eqb (codeOf t) k) (just (relationOf d)) M
+    relation-or : (k : ℕ) (d : RelationData) (R : RelationRead) (M : Maybe Relation) → 0 < k → bracketOf (mark (markBytes k)) ≡ none → signRelation (signOf s t) ≡ pick (eqb (codeOf t) k) (just (relationOf d)) M
         → (signRelation (signOf s t) ≡ M → RelationNext close s from R) → RelationNext close s from (pick (eqb (codeOf t) k) (relation.Found d q) R)
-    relation-or k d R M p m f = go (eqb (codeOf t) k) refl m
+    relation-or k d R M p n m f = go (eqb (codeOf t) k) refl m
       where
         go : (x : Bool) → eqb (codeOf t) k ≡ x → signRelation (signOf s t) ≡ pick x (just (relationOf d)) M → RelationNext close s from (pick x (relation.Found d q) R)
-        go true c m = relation-is k d p (eqb-true (codeOf t) k c) m
+        go true c m = relation-is k d p n (eqb-true (codeOf t) k c) m
         go false c m = f m
 
     pub relation-met : RelationNext close s from (relationOr (codeOf t) q)
-    unfolding relationOr relationOf behindRelation andThen
+    unfolding relationOr relationOf behindRelation andThen bracketOf isMark same markBytes
     relation-met =
-        relation-or 61 Equal _ _ (omega arith) (relation-code s t) (λ m.
-        relation-or 15422 Differs _ _ (omega arith) m (λ m.
-        relation-or 60 Less _ _ (omega arith) m (λ m.
-        relation-or 15421 AtMost _ _ (omega arith) m (λ m.
-        relation-or 62 Greater _ _ (omega arith) m (λ m.
-        relation-or 15933 AtLeast _ _ (omega arith) m (λ m. record { reads = relation-reads ∙ rw m; moves = tt }))))))
+        relation-or 61 Equal _ _ (omega arith) refl (relation-code s t) (λ m.
+        relation-or 15422 Differs _ _ (omega arith) refl m (λ m.
+        relation-or 60 Less _ _ (omega arith) refl m (λ m.
+        relation-or 15421 AtMost _ _ (omega arith) refl m (λ m.
+        relation-or 62 Greater _ _ (omega arith) refl m (λ m.
+        relation-or 15933 AtLeast _ _ (omega arith) refl m (λ m. record { reads = relation-reads ∙ rw m; moves = tt; stands = λ o. tt }))))))
 
 -- a value that is expected
 abbrev valued : Value → List Sign → Maybe (Then Value)
@@ -234,26 +259,30 @@ valued v ts = just (record { got = v; rest = ts })
 module _ (close : Bool) (s : Bytes) (from : ℕ) where
   pub value-end : (r : SignRead) → NextSign false close s from r → r ≡ read.None → ValueNext close s from value.None
   unfolding firstOf behindValue andThen signValue
-  value-end r h e = record { reads = next-first signValue (signsFrom false close s from) valued refl ∙ rw (h .reads, e); moves = tt }
+  value-end r h e = record { reads = next-first signValue (signsFrom false close s from) valued refl ∙ rw (h .reads, e); moves = tt; stands = tt }
 
   module _ (r : SignRead) (h : NextSign false close s from r) (q : ℕ) where
+    value-stands : (t : SignData) → r ≡ read.Found t q → chainBehind false (signOf s t) ≡ false → bracketOf (signOf s t) ≡ none
+        → standingsFrom none false close s from ≡ standingOf none t ++ standingsFrom none false (wordy (signOf s t)) s q
+    value-stands t e c o = subst (SignStands none false close s from) e (h .stands none) ∙ rw (c, o)
+
     pub value-mark : (c : ℕ) → r ≡ read.Found (sign.Mark c) q → ValueNext close s from value.None
     unfolding firstOf behindValue andThen signValue signOf
-    value-mark c e = record { reads = next-first signValue (signsFrom false close s from) valued refl ∙ rw (h .reads, e); moves = tt }
+    value-mark c e = record { reads = next-first signValue (signsFrom false close s from) valued refl ∙ rw (h .reads, e); moves = tt; stands = tt }
 
     pub value-whole : (n : ℕ) → r ≡ read.Found (sign.Whole n) q → ValueNext close s from (value.Found (given.Number n) q true)
-    unfolding firstOf behindValue andThen signValue signOf valueOf chainBehind isWord wordy
-    value-whole n e = record { reads = next-first signValue (signsFrom false close s from) valued refl ∙ rw (h .reads, e); moves = subst (Behind from) e (h .moves) }
+    unfolding firstOf behindValue andThen signValue signOf valueOf chainBehind isWord isMark wordy bracketOf standingOf valueStanding
+    value-whole n e = record { reads = next-first signValue (signsFrom false close s from) valued refl ∙ rw (h .reads, e); moves = subst (Behind from) e (h .moves); stands = value-stands (sign.Whole n) e refl refl }
 
     pub value-text : (p : Part) → r ≡ read.Found (sign.Text p) q → ValueNext close s from (value.Found (given.Text (p .start) (p .length)) q false)
-    unfolding firstOf behindValue andThen signValue signOf valueOf nameAt chainBehind isWord wordy
-    value-text p e = record { reads = next-first signValue (signsFrom false close s from) valued refl ∙ rw (h .reads, e); moves = subst (Behind from) e (h .moves) }
+    unfolding firstOf behindValue andThen signValue signOf valueOf nameAt chainBehind isWord isMark wordy bracketOf standingOf valueStanding
+    value-text p e = record { reads = next-first signValue (signsFrom false close s from) valued refl ∙ rw (h .reads, e); moves = subst (Behind from) e (h .moves); stands = value-stands (sign.Text p) e refl refl }
 
     truth-chain : (w b : Bytes) → same w b ≡ true → chainBehind false (word b) ≡ false → chainBehind false (word w) ≡ false
     truth-chain w b k f = rw (same→eq w b (subst T (sym k) tt)) f
 
     pub value-word : (p : Part) → r ≡ read.Found (sign.Word p) q → ValueNext close s from (truthOr s p q)
-    unfolding truthOr firstOf behindValue andThen signValue signOf truthOf valueOf wordy
+    unfolding truthOr firstOf behindValue andThen signValue signOf truthOf valueOf wordy bracketOf isMark standingOf variableAt valueStanding
     value-word p e = go (same (nameAt s p) (bytesOf "true")) refl (same (nameAt s p) (bytesOf "false")) refl
       where
         go : (x : Bool) → same (nameAt s p) (bytesOf "true") ≡ x → (y : Bool) → same (nameAt s p) (bytesOf "false") ≡ y
@@ -261,9 +290,11 @@ module _ (close : Bool) (s : Bytes) (from : ℕ) where
         go true k y l = record {
           reads = next-first signValue (signsFrom false close s from) valued refl ∙ rw (h .reads, e, k, truth-chain (nameAt s p) (bytesOf "true") k (unfold chainBehind isWord same in refl));
           moves = subst (Behind from) e (h .moves);
+          stands = value-stands (sign.Word p) e (truth-chain (nameAt s p) (bytesOf "true") k (unfold chainBehind isWord same in refl)) refl;
         }
         go false k true l = record {
           reads = next-first signValue (signsFrom false close s from) valued refl ∙ rw (h .reads, e, k, l, truth-chain (nameAt s p) (bytesOf "false") l (unfold chainBehind isWord same in refl));
           moves = subst (Behind from) e (h .moves);
+          stands = value-stands (sign.Word p) e (truth-chain (nameAt s p) (bytesOf "false") l (unfold chainBehind isWord same in refl)) refl;
         }
-        go false k false l = record { reads = next-first signValue (signsFrom false close s from) valued refl ∙ rw (h .reads, e, k, l); moves = tt }
+        go false k false l = record { reads = next-first signValue (signsFrom false close s from) valued refl ∙ rw (h .reads, e, k, l); moves = tt; stands = tt }

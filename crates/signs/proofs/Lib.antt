@@ -1,3 +1,4 @@
 pub mod MarkLaws
 pub mod SignLaws
+pub mod PlacedLaws
 pub mod ExpectLaws

@@ -34,11 +34,11 @@ use Rattle.signs.specs.declared.SignRead.{SignRead}
 use Rattle.signs.specs.declared.SignRead.the-variants as read
 use Rattle.signs.specs.Reads.{isBlank, isWordy, signOf, gotOf, signsFrom, First, first, firstOf}
 
-and-false : (a : Bool) → (a && false) ≡ false
+pub and-false : (a : Bool) → (a && false) ≡ false
 and-false true = refl
 and-false false = refl
 
-and-true : (a : Bool) → (a && true) ≡ a
+pub and-true : (a : Bool) → (a && true) ≡ a
 and-true true = refl
 and-true false = refl
 
@@ -53,7 +53,7 @@ signs-blanks chain close (b ∷ t) = go (eqb b 32 || eqb b 10) refl (signs-blank
     go true e h = rw (e, and-false close) h
     go false e h = rw (and-true close)
 
-nil-length : (t : Bytes) (n : ℕ) → isNil t ≡ eqb (n + length t) n
+pub nil-length : (t : Bytes) (n : ℕ) → isNil t ≡ eqb (n + length t) n
 unfolding isNil
 nil-length [] n = sym (eq-eqb (n + 0) n (omega arith))
 nil-length (b ∷ t) n = sym (ne-eqb (n + suc (length t)) n (λ z. omega arith))
@@ -166,7 +166,7 @@ module _ (chain close : Bool) (s : Bytes) (from at : ℕ) (p : at ≡ past isBla
   no-signs h = rw (blanks-at, drop-end s at h)
 
   module _ (l : at < length s) where
-    no-blank : (eqb (peekAt s at) 32 || eqb (peekAt s at) 10) ≡ false
+    pub no-blank : (eqb (peekAt s at) 32 || eqb (peekAt s at) 10) ≡ false
     unfolding isBlank
     no-blank = rw p (past-test isBlank s from refl)
 

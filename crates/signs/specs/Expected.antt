@@ -1,7 +1,7 @@
 -- What is expected next: a mark, a name, a relation or a value, and the signs behind it.
 use Prim.Native.Nat.{ℕ, _<_}
 use mathlib.Core.Path.{_≡_}
-use mathlib.Core.List.{List}
+use mathlib.Core.List.{List, [], _∷_, _++_}
 use mathlib.Core.Bool.{Bool, true, false, not}
 use lib.Dec.{T, eqb}
 use Rattle.model.specs.Bytes.{Bytes, bytesOf, same}
@@ -9,13 +9,15 @@ use Rattle.model.specs.Choice.{pick, Maybe, nothing, just}
 use Rattle.model.specs.Names.{mem}
 use Rattle.model.specs.Forms.{neverNames}
 use Rattle.model.specs.Values.{Value}
-use Rattle.model.specs.Signs.{Sign, signName, signValue, next, expect}
+use Rattle.model.specs.Signs.{Sign, mark, signName, signValue, next, expect}
 use Rattle.model.specs.QueryText.{Relation}
 use Rattle.model.specs.Grammar.{signRelation}
 use Rattle.model.specs.Answers.{nameAt, relationOf, valueOf}
+use Rattle.model.specs.Places.{Bracket, none, bracketOf, Standing, value as valueAt, variableAt}
 use Rattle.model.specs.declared.Part.{Part}
 use Rattle.model.specs.declared.Relation.the-variants.{Equal, Differs, Less, AtMost, Greater, AtLeast}
-use Rattle.model.specs.declared.Value.the-variants.{Truth}
+use Rattle.model.specs.declared.Value.{Value as ValueData}
+use Rattle.model.specs.declared.Value.the-variants.{Number, Text, Truth}
 use Rattle.text.specs.declared.End.{End}
 use Rattle.text.specs.declared.End.the-variants as end
 use Rattle.signs.specs.declared.Sign.{Sign as SignData}
@@ -27,7 +29,7 @@ use Rattle.signs.specs.declared.RelationRead.the-variants as relation
 use Rattle.signs.specs.declared.ValueRead.{ValueRead}
 use Rattle.signs.specs.declared.ValueRead.the-variants as value
 use Rattle.signs.specs.Marks.{markBytes}
-use Rattle.signs.specs.Reads.{signsFrom}
+use Rattle.signs.specs.Reads.{signsFrom, standingsFrom}
 
 -- what was read, and the signs behind it
 pub record Then (A : Type 0) : Type 0 where
@@ -50,10 +52,16 @@ abbrev pub MarkBehind : ℕ → End → Type 0
 MarkBehind from end.None = T true
 MarkBehind from (end.At q) = from < q
 
+-- a mark stands before what stands behind it
+abbrev pub MarkStands : Bracket → Bool → Bool → Bytes → ℕ → ℕ → End → Type 0
+MarkStands o chain close s from code end.None = T true
+MarkStands o chain close s from code (end.At q) = standingsFrom o chain close s from ≡ standingsFrom (bracketOf (mark (markBytes code))) chain false s q
+
 -- r is where the expected mark ends
 pub record MarkNext (chain close : Bool) (s : Bytes) (from code : ℕ) (r : End) : Type 0 where
   pub reads : expect (markBytes code) (signsFrom chain close s from) just ≡ behindMark chain s r
   pub moves : MarkBehind from r
+  pub stands : (o : Bracket) → MarkStands o chain close s from code r
 
 -- a word that is a name, and the place behind it
 unfoldable pub nameOr : Bytes → Part → ℕ → NameRead
@@ -68,10 +76,16 @@ abbrev pub NameBehind : ℕ → NameRead → Type 0
 NameBehind from name.None = T true
 NameBehind from (name.Found p q) = from < q
 
+-- a name stands before what stands behind it
+abbrev pub NameStands : Bracket → Bool → Bool → Bytes → ℕ → NameRead → Type 0
+NameStands o chain close s from name.None = T true
+NameStands o chain close s from (name.Found p q) = standingsFrom o chain close s from ≡ variableAt o p ++ standingsFrom none chain true s q
+
 -- r is the name that stands next
 pub record NameNext (chain close : Bool) (s : Bytes) (from : ℕ) (r : NameRead) : Type 0 where
   pub reads : next signName (signsFrom chain close s from) (λ v ts. just (record { got = v; rest = ts })) ≡ behindName chain s r
   pub moves : NameBehind from r
+  pub stands : (o : Bracket) → NameStands o chain close s from r
 
 -- the relation that a code is, and the place behind it
 unfoldable pub relationOr : ℕ → ℕ → RelationRead
@@ -92,10 +106,16 @@ abbrev pub RelationBehind : ℕ → RelationRead → Type 0
 RelationBehind from relation.None = T true
 RelationBehind from (relation.Found r q) = from < q
 
+-- a relation stands before what stands behind it
+abbrev pub RelationStands : Bracket → Bool → Bytes → ℕ → RelationRead → Type 0
+RelationStands o close s from relation.None = T true
+RelationStands o close s from (relation.Found r q) = standingsFrom o false close s from ≡ standingsFrom none false false s q
+
 -- r is the relation that stands next
 pub record RelationNext (close : Bool) (s : Bytes) (from : ℕ) (r : RelationRead) : Type 0 where
   pub reads : next signRelation (signsFrom false close s from) (λ x ts. just (record { got = x; rest = ts })) ≡ behindRelation s r
   pub moves : RelationBehind from r
+  pub stands : (o : Bracket) → RelationStands o close s from r
 
 -- true or false, and the place behind it
 unfoldable pub truthOr : Bytes → Part → ℕ → ValueRead
@@ -112,7 +132,19 @@ abbrev pub ValueBehind : ℕ → ValueRead → Type 0
 ValueBehind from value.None = T true
 ValueBehind from (value.Found v q close) = from < q
 
+-- a text value, for a value that is one
+unfoldable pub valueStanding : ValueData → List Standing
+valueStanding (Number n) = []
+valueStanding (Text start length) = valueAt (record { start = start; length = length }) ∷ []
+valueStanding (Truth t) = []
+
+-- a value stands before what stands behind it
+abbrev pub ValueStands : Bool → Bytes → ℕ → ValueRead → Type 0
+ValueStands close s from value.None = T true
+ValueStands close s from (value.Found v q c) = standingsFrom none false close s from ≡ valueStanding v ++ standingsFrom none false c s q
+
 -- r is the value that stands next
 pub record ValueNext (close : Bool) (s : Bytes) (from : ℕ) (r : ValueRead) : Type 0 where
   pub reads : next signValue (signsFrom false close s from) (λ v ts. just (record { got = v; rest = ts })) ≡ behindValue s r
   pub moves : ValueBehind from r
+  pub stands : ValueStands close s from r

@@ -1,9 +1,9 @@
 -- What the readers of signs give: the first sign of a text from a place on, and the signs behind it.
-use Prim.Native.Nat.{ℕ, _-_, _<_}
+use Prim.Native.Nat.{ℕ, _+_, _-_, _<_}
 use mathlib.Core.Path.{_≡_}
-use mathlib.Core.List.{List, [], _∷_}
+use mathlib.Core.List.{List, [], _∷_, _++_}
 use mathlib.Core.Bool.{Bool, true, false, _||_}
-use lib.ListN.{drop}
+use lib.ListN.{length, drop}
 use lib.Dec.{T, eqb}
 use Rattle.model.specs.Bytes.{Bytes}
 use Rattle.model.specs.Choice.{Maybe, nothing, just}
@@ -12,6 +12,7 @@ use Rattle.model.specs.Values.{Value}
 use Rattle.model.specs.Signs.{Sign, word, whole, text, mark, broken, chainBehind, wordy, signs, signName, signValue, next, expect}
 use Rattle.model.specs.QueryText.{Relation}
 use Rattle.model.specs.Answers.{nameAt, relationOf, valueOf}
+use Rattle.model.specs.Places.{placed, Bracket, bracketOf, Standing, value as valueAt, variableAt, standings}
 use Rattle.model.specs.declared.Part.{Part}
 use Rattle.text.specs.declared.End.{End}
 use Rattle.text.specs.declared.End.the-variants as end
@@ -43,6 +44,22 @@ unfoldable pub gotOf : Bytes → ℕ → SignRead → Got Sign
 gotOf s at read.None = record { got = broken; size = 1 }
 gotOf s at (read.Found t q) = record { got = signOf s t; size = q - at }
 
+-- the part of a word, and of a text value behind its apostrophe, for a sign at a place
+abbrev pub PartAt : Bytes → ℕ → SignData → Type 0
+PartAt s at (sign.Word p) = p ≡ record { start = at; length = length (nameAt s p) }
+PartAt s at (sign.Whole n) = T true
+PartAt s at (sign.Text p) = p ≡ record { start = at + 1; length = length (nameAt s p) }
+PartAt s at (sign.Mark c) = T true
+
+abbrev pub ReadPartAt : Bytes → ℕ → SignRead → Type 0
+ReadPartAt s at read.None = T true
+ReadPartAt s at (read.Found t q) = PartAt s at t
+
+-- r is the sign g, read at a place
+pub record SignGot (s : Bytes) (at : ℕ) (g : Got Sign) (r : SignRead) : Type 0 where
+  pub got : gotOf s at r ≡ g
+  pub part : ReadPartAt s at r
+
 -- a word or a number
 unfoldable pub isWordy : SignData → Bool
 isWordy (sign.Word p) = true
@@ -58,6 +75,23 @@ Behind at (read.Found t q) = at < q
 -- the signs from a place on, in a chain or not, behind a word or number or not
 abbrev pub signsFrom : Bool → Bool → Bytes → ℕ → List Sign
 signsFrom chain close s at = signs chain close 0 (drop at s)
+
+-- the variables and text values from a place on, the first sign being behind a bracket or none
+abbrev pub standingsFrom : Bracket → Bool → Bool → Bytes → ℕ → List Standing
+standingsFrom o chain close s at = standings o (placed chain close 0 at (drop at s))
+
+-- what a sign is, behind a bracket or none
+unfoldable pub standingOf : Bracket → SignData → List Standing
+standingOf o (sign.Word p) = variableAt o p
+standingOf o (sign.Whole n) = []
+standingOf o (sign.Text p) = valueAt p ∷ []
+standingOf o (sign.Mark c) = []
+
+-- a sign that was read stands before what stands behind it
+abbrev pub SignStands : Bracket → Bool → Bool → Bytes → ℕ → SignRead → Type 0
+SignStands o chain close s from read.None = T true
+SignStands o chain close s from (read.Found t q) =
+    standingsFrom o chain close s from ≡ standingOf o t ++ standingsFrom (bracketOf (signOf s t)) (chainBehind chain (signOf s t)) (wordy (signOf s t)) s q
 
 -- a sign that is not broken, and the signs behind it
 pub record First : Type 0 where
@@ -81,3 +115,4 @@ firstOf chain s (read.Found t q) = let x = signOf s t in just (record { sign = x
 pub record NextSign (chain close : Bool) (s : Bytes) (from : ℕ) (r : SignRead) : Type 0 where
   pub reads : first (signsFrom chain close s from) ≡ firstOf chain s r
   pub moves : Behind from r
+  pub stands : (o : Bracket) → SignStands o chain close s from r

@@ -1,11 +1,10 @@
 // The sign at a place, and the next sign from a place on.
-ghost use mathlib.Core.Path.{_≡_};
 ghost use Prim.Native.Nat.{_+_, _<_};
 ghost use lib.ListN.{length, drop};
 ghost use Rattle.model.specs.Words.{wordAt, wholeAt, textAt};
 ghost use Rattle.model.specs.Signs.{orBroken, markAt, signAt};
 ghost use Rattle.text.specs.Places.{peekAt};
-ghost use Rattle.signs.specs.Reads.{gotOf, signsFrom, NextSign};
+ghost use Rattle.signs.specs.Reads.{SignGot, NextSign};
 use crate::Sign;
 use crate::SignRead;
 use crate::kinds;
@@ -20,7 +19,7 @@ use text::words;
 
 // The word at a place.
 fn word_sign(s: &[u8], at: usize) -> SignRead
-    ensures { λ r. ⌜ gotOf (now (s .entry)) at r ≡ orBroken Rattle.model.specs.Signs.Sign.word (wordAt (drop at (now (s .entry)))) ⌝ }
+    ensures { λ r. ⌜ SignGot (now (s .entry)) at (orBroken Rattle.model.specs.Signs.Sign.word (wordAt (drop at (now (s .entry))))) r ⌝ }
 {
     let End::At(q) = words::word(s, at) else {
         return SignRead::None;
@@ -36,7 +35,7 @@ fn word_sign(s: &[u8], at: usize) -> SignRead
 
 // The whole number at a place.
 fn number_sign(s: &[u8], at: usize) -> SignRead
-    ensures { λ r. ⌜ gotOf (now (s .entry)) at r ≡ orBroken Rattle.model.specs.Signs.Sign.whole (wholeAt (drop at (now (s .entry)))) ⌝ }
+    ensures { λ r. ⌜ SignGot (now (s .entry)) at (orBroken Rattle.model.specs.Signs.Sign.whole (wholeAt (drop at (now (s .entry))))) r ⌝ }
 {
     let NumberRead::Number(n, q) = numbers::whole(s, at) else {
         return SignRead::None;
@@ -47,7 +46,7 @@ fn number_sign(s: &[u8], at: usize) -> SignRead
 // The text value whose first apostrophe stands at a place.
 fn text_sign(s: &[u8], at: usize) -> SignRead
     requires { ⌜ at < length (now s) ⌝ }
-    ensures { λ r. ⌜ gotOf (now (s .entry)) at r ≡ orBroken Rattle.model.specs.Signs.Sign.text (textAt (drop (at + 1) (now (s .entry)))) ⌝ }
+    ensures { λ r. ⌜ SignGot (now (s .entry)) at (orBroken Rattle.model.specs.Signs.Sign.text (textAt (drop (at + 1) (now (s .entry))))) r ⌝ }
 {
     let End::At(q) = quotes::text_value(s, at) else {
         return SignRead::None;
@@ -64,7 +63,7 @@ fn text_sign(s: &[u8], at: usize) -> SignRead
 // The mark at a place, in a chain or not.
 fn mark_sign(s: &[u8], at: usize, chain: bool) -> SignRead
     requires { ⌜ at < length (now s) ⌝ }
-    ensures { λ r. ⌜ gotOf (now (s .entry)) at r ≡ markAt (Rattle.model.specs.Signs.marks chain) (drop at (now (s .entry))) ⌝ }
+    ensures { λ r. ⌜ SignGot (now (s .entry)) at (markAt (Rattle.model.specs.Signs.marks chain) (drop at (now (s .entry)))) r ⌝ }
 {
     let m = marks::mark_at(s, at, chain);
     if m == marks::NONE {
@@ -76,7 +75,7 @@ fn mark_sign(s: &[u8], at: usize, chain: bool) -> SignRead
 // The sign at a place, in a chain or not.
 fn sign_at(s: &[u8], at: usize, chain: bool) -> SignRead
     requires { ⌜ at < length (now s) ⌝ }
-    ensures { λ r. ⌜ gotOf (now (s .entry)) at r ≡ signAt chain (peekAt (now (s .entry)) at) (drop (at + 1) (now (s .entry))) ⌝ }
+    ensures { λ r. ⌜ SignGot (now (s .entry)) at (signAt chain (peekAt (now (s .entry)) at) (drop (at + 1) (now (s .entry)))) r ⌝ }
 {
     let b = bytes::peek(s, at);
     if bytes::is_letter(b) {

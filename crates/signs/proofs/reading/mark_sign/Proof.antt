@@ -16,7 +16,7 @@ mark-at-requires c κs = search needs
 
 -- src/reading.rt:70:9
 returns : tie.Need-returns
-returns c = mark-missing (c .before .before .before .args .s .now) (c .before .before .before .args .at) (c .before .before .before .args .chain) (c .before .mark-at .result) (c .before .mark-at .ensures) (c .if1 .taken)
+returns c = record { got = mark-missing (c .before .before .before .args .s .now) (c .before .before .before .args .at) (c .before .before .before .args .chain) (c .before .mark-at .result) (c .before .mark-at .ensures) (c .if1 .taken); part = tt }
 
 -- src/reading.rt:72:41
 mark-size-requires : tie.Need-mark-size-requires
@@ -28,7 +28,7 @@ add-t8 c = omega (arith, c .mark-size .ensures, mark-small (c .before .before .m
 
 -- src/reading.rt:64:1
 returns-2 : tie.Need-returns-2
-returns-2 c = mark-found (c .before .before .before .before .args .s .now) (c .before .before .before .before .args .at) (c .before .before .before .before .args .chain) (c .before .before .mark-at .result) (c .mark-size .result) (c .before .before .mark-at .ensures) (c .mark-size .ensures) (c .before .if1 .left)
+returns-2 c = record { got = mark-found (c .before .before .before .before .args .s .now) (c .before .before .before .before .args .at) (c .before .before .before .before .args .chain) (c .before .before .mark-at .result) (c .mark-size .result) (c .before .before .mark-at .ensures) (c .mark-size .ensures) (c .before .if1 .left); part = tt }
 
 pub mark-sign-spec : {M : Type 1} → statement M
 mark-sign-spec = tie.close (tie.spec mark-at-requires returns mark-size-requires add-t8 returns-2)

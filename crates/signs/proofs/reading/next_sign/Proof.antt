@@ -1,3 +1,6 @@
+use Rattle.signs.proofs.PlacedLaws.{sign-stands}
+use Rattle.signs.specs.declared.SignRead.{SignRead}
+use Rattle.signs.specs.Reads.{ReadPartAt}
 use Rattle.signs.proofs.SignLaws.{none-left, sign-none, sign-close, sign-first, sign-behind}
 use Rattle.signs.specs.Reads.{isBlank, gotOf, firstOf}
 use Rattle.text.proofs.PlaceLaws.{past-on}
@@ -20,7 +23,7 @@ blanks-end-requires c κs = search needs
 -- src/reading.rt:100:9
 returns : tie.Need-returns
 unfolding firstOf
-returns c = record { reads = none-left (c .before .before .before .args .chain) (c .before .before .before .args .close) (c .before .before .before .args .s .now) (c .before .before .before .args .from) (c .before .blanks-end .result) (c .before .blanks-end .ensures) (c .if1 .taken); moves = tt }
+returns c = record { reads = none-left (c .before .before .before .args .chain) (c .before .before .before .args .close) (c .before .before .before .args .s .now) (c .before .before .before .args .from) (c .before .blanks-end .result) (c .before .blanks-end .ensures) (c .if1 .taken); moves = tt; stands = λ o. tt }
 
 -- src/reading.rt:102:33
 sign-at-requires : tie.Need-sign-at-requires
@@ -37,7 +40,7 @@ enum-told c = search needs
 -- src/reading.rt:103:9
 returns-2 : tie.Need-returns-2
 unfolding firstOf
-returns-2 c = record { reads = sign-none (c .before .before .before .before .before .before .args .chain) (c .before .before .before .before .before .before .args .close) (c .before .before .before .before .before .before .args .s .now) (c .before .before .before .before .before .before .args .from) (c .before .before .before .before .blanks-end .result) (c .before .before .before .before .blanks-end .ensures) (c .before .before .before .if1 .left) (ap (gotOf (c .before .before .before .before .before .before .args .s .now) (c .before .before .before .before .blanks-end .result)) (sym (c .enum-told .given .1)) ∙ c .before .before .sign-at .ensures); moves = tt }
+returns-2 c = record { reads = sign-none (c .before .before .before .before .before .before .args .chain) (c .before .before .before .before .before .before .args .close) (c .before .before .before .before .before .before .args .s .now) (c .before .before .before .before .before .before .args .from) (c .before .before .before .before .blanks-end .result) (c .before .before .before .before .blanks-end .ensures) (c .before .before .before .if1 .left) (ap (gotOf (c .before .before .before .before .before .before .args .s .now) (c .before .before .before .before .blanks-end .result)) (sym (c .enum-told .given .1)) ∙ c .before .before .sign-at .ensures .got); moves = tt; stands = λ o. tt }
 
 -- src/reading.rt:105:8
 adjoins-requires : tie.Need-adjoins-requires
@@ -46,13 +49,14 @@ adjoins-requires c κs = search needs
 -- src/reading.rt:106:9
 returns-3 : tie.Need-returns-3
 unfolding firstOf
-returns-3 c = record { reads = sign-close (c .before .before .before .before .before .before .before .before .before .args .chain) (c .before .before .before .before .before .before .before .before .before .args .close) (c .before .before .before .before .before .before .before .before .before .args .s .now) (c .before .before .before .before .before .before .before .before .before .args .from) (c .before .before .before .before .before .before .before .blanks-end .result) (c .before .before .before .before .before .before .before .blanks-end .ensures) (c .before .before .before .before .before .before .if1 .left) (c .before .before .before .t .given .0 .0) (c .before .before .before .t .given .0 .1 .0) (ap (gotOf (c .before .before .before .before .before .before .before .before .before .args .s .now) (c .before .before .before .before .before .before .before .blanks-end .result)) (sym (c .before .before .before .t .given .1)) ∙ c .before .before .before .before .before .sign-at .ensures) (sym (c .before .adjoins .ensures) ∙ c .if2 .taken); moves = tt }
+returns-3 c = record { reads = sign-close (c .before .before .before .before .before .before .before .before .before .args .chain) (c .before .before .before .before .before .before .before .before .before .args .close) (c .before .before .before .before .before .before .before .before .before .args .s .now) (c .before .before .before .before .before .before .before .before .before .args .from) (c .before .before .before .before .before .before .before .blanks-end .result) (c .before .before .before .before .before .before .before .blanks-end .ensures) (c .before .before .before .before .before .before .if1 .left) (c .before .before .before .t .given .0 .0) (c .before .before .before .t .given .0 .1 .0) (ap (gotOf (c .before .before .before .before .before .before .before .before .before .args .s .now) (c .before .before .before .before .before .before .before .blanks-end .result)) (sym (c .before .before .before .t .given .1)) ∙ c .before .before .before .before .before .sign-at .ensures .got) (sym (c .before .adjoins .ensures) ∙ c .if2 .taken); moves = tt; stands = λ o. tt }
 
 -- src/reading.rt:95:1
 returns-4 : tie.Need-returns-4
-returns-4 c = let e = ap (gotOf (c .before .before .before .before .before .before .before .before .before .args .s .now) (c .before .before .before .before .before .before .before .blanks-end .result)) (sym (c .before .before .before .t .given .1)) ∙ c .before .before .before .before .before .sign-at .ensures in
+returns-4 c = let e = ap (gotOf (c .before .before .before .before .before .before .before .before .before .args .s .now) (c .before .before .before .before .before .before .before .blanks-end .result)) (sym (c .before .before .before .t .given .1)) ∙ c .before .before .before .before .before .sign-at .ensures .got in
     let l = sign-behind (c .before .before .before .before .before .before .before .before .before .args .chain) (c .before .before .before .before .before .before .before .before .before .args .close) (c .before .before .before .before .before .before .before .before .before .args .s .now) (c .before .before .before .before .before .before .before .before .before .args .from) (c .before .before .before .before .before .before .before .blanks-end .result) (c .before .before .before .before .before .before .before .blanks-end .ensures) (c .before .before .before .before .before .before .if1 .left) (c .before .before .before .t .given .0 .0) (c .before .before .before .t .given .0 .1 .0) e in
-    record { reads = sign-first (c .before .before .before .before .before .before .before .before .before .args .chain) (c .before .before .before .before .before .before .before .before .before .args .close) (c .before .before .before .before .before .before .before .before .before .args .s .now) (c .before .before .before .before .before .before .before .before .before .args .from) (c .before .before .before .before .before .before .before .blanks-end .result) (c .before .before .before .before .before .before .before .blanks-end .ensures) (c .before .before .before .before .before .before .if1 .left) (c .before .before .before .t .given .0 .0) (c .before .before .before .t .given .0 .1 .0) e (sym (c .before .adjoins .ensures) ∙ c .if2 .left); moves = omega (arith, l, c .before .before .before .before .before .before .before .blanks-end .ensures, past-on isBlank (c .before .before .before .before .before .before .before .before .before .args .s .now) (c .before .before .before .before .before .before .before .before .before .args .from)) }
+    let part = subst (λ (r : SignRead). ReadPartAt (c .before .before .before .before .before .before .before .before .before .args .s .now) (c .before .before .before .before .before .before .before .blanks-end .result) r) (c .before .before .before .t .given .1) (c .before .before .before .before .before .sign-at .ensures .part) in
+    record { reads = sign-first (c .before .before .before .before .before .before .before .before .before .args .chain) (c .before .before .before .before .before .before .before .before .before .args .close) (c .before .before .before .before .before .before .before .before .before .args .s .now) (c .before .before .before .before .before .before .before .before .before .args .from) (c .before .before .before .before .before .before .before .blanks-end .result) (c .before .before .before .before .before .before .before .blanks-end .ensures) (c .before .before .before .before .before .before .if1 .left) (c .before .before .before .t .given .0 .0) (c .before .before .before .t .given .0 .1 .0) e (sym (c .before .adjoins .ensures) ∙ c .if2 .left); moves = omega (arith, l, c .before .before .before .before .before .before .before .blanks-end .ensures, past-on isBlank (c .before .before .before .before .before .before .before .before .before .args .s .now) (c .before .before .before .before .before .before .before .before .before .args .from)); stands = sign-stands (c .before .before .before .before .before .before .before .before .before .args .chain) (c .before .before .before .before .before .before .before .before .before .args .close) (c .before .before .before .before .before .before .before .before .before .args .s .now) (c .before .before .before .before .before .before .before .before .before .args .from) (c .before .before .before .before .before .before .before .blanks-end .result) (c .before .before .before .before .before .before .before .blanks-end .ensures) (c .before .before .before .before .before .before .if1 .left) (c .before .before .before .t .given .0 .0) (c .before .before .before .t .given .0 .1 .0) e (sym (c .before .adjoins .ensures) ∙ c .if2 .left) part }
 
 pub next-sign-spec : {M : Type 1} → statement M
 next-sign-spec =

@@ -28,7 +28,7 @@ word-sign-requires c κs = search needs
 
 -- src/reading.rt:82:9
 returns : tie.Need-returns
-returns c = sign-word (c .before .before .before .before .before .args .s .now) (c .before .before .before .before .before .args .at) (c .before .before .before .before .before .args .chain) (c .before .before .before .before .before .pre) _ (ap isLetter (sym (c .before .before .before .peek .ensures)) ∙ sym (c .before .before .is-letter .ensures) ∙ c .before .if1 .taken) (c .word-sign .ensures)
+returns c = record { got = sign-word (c .before .before .before .before .before .args .s .now) (c .before .before .before .before .before .args .at) (c .before .before .before .before .before .args .chain) (c .before .before .before .before .before .pre) _ (ap isLetter (sym (c .before .before .before .peek .ensures)) ∙ sym (c .before .before .is-letter .ensures) ∙ c .before .if1 .taken) (c .word-sign .ensures .got); part = c .word-sign .ensures .part }
 
 -- src/reading.rt:84:8
 starts-number-requires : tie.Need-starts-number-requires
@@ -40,7 +40,7 @@ number-sign-requires c κs = search needs
 
 -- src/reading.rt:85:9
 returns-2 : tie.Need-returns-2
-returns-2 c = sign-whole (c .before .before .before .before .before .before .before .args .s .now) (c .before .before .before .before .before .before .before .args .at) (c .before .before .before .before .before .before .before .args .chain) (c .before .before .before .before .before .before .before .pre) _ (ap isLetter (sym (c .before .before .before .before .before .peek .ensures)) ∙ sym (c .before .before .before .before .is-letter .ensures) ∙ c .before .before .before .if1 .left) (sym (c .before .before .starts-number .ensures) ∙ c .before .if2 .taken) (c .number-sign .ensures)
+returns-2 c = record { got = sign-whole (c .before .before .before .before .before .before .before .args .s .now) (c .before .before .before .before .before .before .before .args .at) (c .before .before .before .before .before .before .before .args .chain) (c .before .before .before .before .before .before .before .pre) _ (ap isLetter (sym (c .before .before .before .before .before .peek .ensures)) ∙ sym (c .before .before .before .before .is-letter .ensures) ∙ c .before .before .before .if1 .left) (sym (c .before .before .starts-number .ensures) ∙ c .before .if2 .taken) (c .number-sign .ensures .got); part = c .number-sign .ensures .part }
 
 -- src/reading.rt:88:9
 text-sign-requires : tie.Need-text-sign-requires
@@ -48,7 +48,7 @@ text-sign-requires c κs = search needs
 
 -- src/reading.rt:88:9
 returns-3 : tie.Need-returns-3
-returns-3 c = sign-text (c .before .before .before .before .before .before .before .before .args .s .now) (c .before .before .before .before .before .before .before .before .args .at) (c .before .before .before .before .before .before .before .before .args .chain) (c .before .before .before .before .before .before .before .before .pre) _ (ap isLetter (sym (c .before .before .before .before .before .before .peek .ensures)) ∙ sym (c .before .before .before .before .before .is-letter .ensures) ∙ c .before .before .before .before .if1 .left) (sym (c .before .before .before .starts-number .ensures) ∙ c .before .before .if2 .left) (sym (c .before .before .before .before .before .before .peek .ensures) ∙ c .before .if3 .taken) (c .text-sign .ensures)
+returns-3 c = record { got = sign-text (c .before .before .before .before .before .before .before .before .args .s .now) (c .before .before .before .before .before .before .before .before .args .at) (c .before .before .before .before .before .before .before .before .args .chain) (c .before .before .before .before .before .before .before .before .pre) _ (ap isLetter (sym (c .before .before .before .before .before .before .peek .ensures)) ∙ sym (c .before .before .before .before .before .is-letter .ensures) ∙ c .before .before .before .before .if1 .left) (sym (c .before .before .before .starts-number .ensures) ∙ c .before .before .if2 .left) (sym (c .before .before .before .before .before .before .peek .ensures) ∙ c .before .if3 .taken) (c .text-sign .ensures .got); part = c .text-sign .ensures .part }
 
 -- src/reading.rt:90:5
 mark-sign-requires : tie.Need-mark-sign-requires
@@ -56,7 +56,7 @@ mark-sign-requires c κs = search needs
 
 -- src/reading.rt:76:1
 returns-4 : tie.Need-returns-4
-returns-4 c = sign-mark (c .before .before .before .before .before .before .before .before .args .s .now) (c .before .before .before .before .before .before .before .before .args .at) (c .before .before .before .before .before .before .before .before .args .chain) (c .before .before .before .before .before .before .before .before .pre) _ (ap isLetter (sym (c .before .before .before .before .before .before .peek .ensures)) ∙ sym (c .before .before .before .before .before .is-letter .ensures) ∙ c .before .before .before .before .if1 .left) (sym (c .before .before .before .starts-number .ensures) ∙ c .before .before .if2 .left) (λ z. c .before .if3 .left (c .before .before .before .before .before .before .peek .ensures ∙ z)) (c .mark-sign .ensures)
+returns-4 c = record { got = sign-mark (c .before .before .before .before .before .before .before .before .args .s .now) (c .before .before .before .before .before .before .before .before .args .at) (c .before .before .before .before .before .before .before .before .args .chain) (c .before .before .before .before .before .before .before .before .pre) _ (ap isLetter (sym (c .before .before .before .before .before .before .peek .ensures)) ∙ sym (c .before .before .before .before .before .is-letter .ensures) ∙ c .before .before .before .before .if1 .left) (sym (c .before .before .before .starts-number .ensures) ∙ c .before .before .if2 .left) (λ z. c .before .if3 .left (c .before .before .before .before .before .before .peek .ensures ∙ z)) (c .mark-sign .ensures .got); part = c .mark-sign .ensures .part }
 
 pub sign-at-spec : {M : Type 1} → statement M
 sign-at-spec =

@@ -1,3 +1,4 @@
+use Rattle.signs.proofs.PlacedLaws.{text-part}
 use Rattle.signs.proofs.SignLaws.{text-found, text-none, text-behind}
 use native.Mathlib.Omega.{arith}
 use mathlib.Core.Path.{sym, _∙_}
@@ -22,7 +23,7 @@ enum-told c = search needs
 
 -- src/reading.rt:53:9
 returns : tie.Need-returns
-returns c = text-none (c .before .before .before .before .args .s .now) (c .before .before .before .before .args .at) (sym (c .enum-told .given .1) ∙ c .before .before .text-value .ensures)
+returns c = record { got = text-none (c .before .before .before .before .args .s .now) (c .before .before .before .before .args .at) (sym (c .enum-told .given .1) ∙ c .before .before .text-value .ensures); part = tt }
 
 -- src/reading.rt:57:20
 add-t5 : tie.Need-add-t5
@@ -38,7 +39,7 @@ sub-t7 c = omega (arith, text-behind (c .before .before .before .before .before 
 
 -- src/reading.rt:48:1
 returns-2 : tie.Need-returns-2
-returns-2 c = text-found (c .before .before .before .before .before .args .s .now) (c .before .before .before .before .before .args .at) (c .before .q .given .0 .0) (sym (c .before .q .given .1) ∙ c .before .before .before .text-value .ensures)
+returns-2 c = record { got = text-found (c .before .before .before .before .before .args .s .now) (c .before .before .before .before .before .args .at) (c .before .q .given .0 .0) (sym (c .before .q .given .1) ∙ c .before .before .before .text-value .ensures); part = text-part (c .before .before .before .before .before .args .s .now) (c .before .before .before .before .before .args .at) (c .before .q .given .0 .0) (sym (c .before .q .given .1) ∙ c .before .before .before .text-value .ensures) }
 
 pub text-sign-spec : {M : Type 1} → statement M
 text-sign-spec =

@@ -1,3 +1,4 @@
+use Rattle.signs.proofs.PlacedLaws.{word-part}
 use Rattle.signs.proofs.SignLaws.{word-found, word-none, end-behind}
 use native.Mathlib.Omega.{arith}
 use mathlib.Core.Path.{sym, _∙_}
@@ -22,7 +23,7 @@ enum-told c = search needs
 
 -- src/reading.rt:26:9
 returns : tie.Need-returns
-returns c = word-none (c .before .before .before .before .args .s .now) (c .before .before .before .before .args .at) (sym (c .enum-told .given .1) ∙ c .before .before .word .ensures)
+returns c = record { got = word-none (c .before .before .before .before .args .s .now) (c .before .before .before .before .args .at) (sym (c .enum-told .given .1) ∙ c .before .before .word .ensures); part = tt }
 
 -- src/reading.rt:31:21
 sub-t5 : tie.Need-sub-t5
@@ -30,7 +31,7 @@ sub-t5 c = end-behind (c .before .before .before .before .before .args .at) (c .
 
 -- src/reading.rt:22:1
 returns-2 : tie.Need-returns-2
-returns-2 c = word-found (c .before .before .before .before .before .args .s .now) (c .before .before .before .before .before .args .at) (c .before .q .given .0 .0) (sym (c .before .q .given .1) ∙ c .before .before .before .word .ensures)
+returns-2 c = record { got = word-found (c .before .before .before .before .before .args .s .now) (c .before .before .before .before .before .args .at) (c .before .q .given .0 .0) (sym (c .before .q .given .1) ∙ c .before .before .before .word .ensures); part = word-part (c .before .before .before .before .before .args .s .now) (c .before .before .before .before .before .args .at) (c .before .q .given .0 .0) (sym (c .before .q .given .1) ∙ c .before .before .before .word .ensures) }
 
 pub word-sign-spec : {M : Type 1} → statement M
 word-sign-spec = tie.close (tie.spec word-requires enum-known-q enum-told returns sub-t5 returns-2)
