@@ -21,6 +21,7 @@ use Rattle.lists.specs.Places.{WordPlaces}
 use Rattle.lists.proofs.Forms.{line-unopened, line-opened, no-word, a-word, no-name, a-name}
 use Rattle.request.specs.Claims.{claimsFrom, areRead}
 use Rattle.request.specs.Forms.{lineOf, LineRead, FormRead}
+use Rattle.request.proofs.PlaceLaws.{form-words}
 use Rattle.request.proofs.ClaimLaws.{claims-then}
 
 -- what is made of the items behind the first word
@@ -39,15 +40,15 @@ module _ (s : Bytes) where
   pub unopened : end.None ≡ formOpens s → andThen (lineItems s) requestLine ≡ nothing
   unopened e = line-unopened s requestLine e
 
-  module _ {i : ℕ} (o : end.At i ≡ formOpens s) where
+  module _ {i : ℕ} (opened : end.At i ≡ formOpens s) where
     pub wordless : piece.None ≡ wordNext 3 true s i → andThen (lineItems s) requestLine ≡ nothing
     unfolding requestLine byWord made
-    wordless w = line-opened s requestLine o ∙ no-word true s i byWord w
+    wordless w = line-opened s requestLine opened ∙ no-word true s i byWord w
 
     module _ {a b : ℕ} (w : piece.At a b ≡ wordNext 3 true s i) where
       worded : andThen (lineItems s) requestLine ≡ formAt false b s (byWord (partOf s a (b - a)))
       unfolding requestLine byWord made
-      worded = line-opened s requestLine o ∙ a-word true s i byWord w
+      worded = line-opened s requestLine opened ∙ a-word true s i byWord w
 
       pub of-other : same (partOf s a (b - a)) (bytesOf "request") ≡ false → andThen (lineItems s) requestLine ≡ nothing
       unfolding byWord made
@@ -89,6 +90,7 @@ module _ (s : Bytes) where
                 claims = xs;
                 are = d;
                 is = named ∙ ap (λ (o : Maybe (List Claim)). andThen o (λ cs. just (lineOf s p q cs))) d;
+                words = form-words s i a b p q opened w n;
               }
 
 -- what was read, by the answer

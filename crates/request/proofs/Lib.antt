@@ -1,4 +1,6 @@
 -- Laws of a request's line.
+pub mod WordLaws
+pub mod PlaceLaws
 pub mod ClaimLaws
 pub mod FaultLaws
 pub mod FormLaws

@@ -2,12 +2,13 @@
 use Prim.Native.Nat.{ℕ, _+_, _-_, _≤_, _<_}
 use mathlib.Core.Logic.{_≢_}
 use mathlib.Core.Path.{_≡_, refl, sym, ap, subst, _∙_}
-use mathlib.Core.List.{List}
+use mathlib.Core.List.{List, [], _∷_, _++_, map}
 use mathlib.Core.Bool.{Bool, true, false}
 use native.Mathlib.Omega.{arith}
-use lib.ListN.{length, drop}
+use lib.ListN.{length, getD, take, drop, take-append-drop, length-map}
+use lib.Seq.{take-append-seam}
 use lib.Dec.{eqb, ltb}
-use borrow.Author.Tests.{ne-eqb, ltb-false}
+use borrow.Author.Tests.{ne-eqb, eqb-true, ltb-false, not-false}
 use Rattle.facts.specs.Tests.{either, below-or-not}
 use Rattle.model.specs.Bytes.{Bytes}
 use Rattle.model.specs.Choice.{pick, Maybe, nothing, just, andThen}
@@ -20,22 +21,26 @@ use Rattle.model.specs.Book.{Book}
 use Rattle.model.specs.Rules.{Rules}
 use Rattle.model.specs.Request.{Claim, Request, RequestLine, requestLine, requestFault, requestOf, requestStep, oneLine, readRequest}
 use Rattle.model.specs.Answers.{refusalOf, partOf}
+use Rattle.model.specs.RequestPlaces.{wordsFrom, placedBy, identityPlaces, slots}
+use Rattle.model.specs.declared.Part.{Part}
 use Rattle.model.specs.declared.Refusal.{Refusal as RefusalData}
 use Rattle.model.specs.declared.Verdict.the-variants as verdict
 use Rattle.model.specs.declared.RequestRead.{RequestRead}
 use Rattle.model.proofs.Outcomes.{never}
 use Rattle.text.specs.declared.BytesRead.{BytesRead}
 use Rattle.text.specs.declared.BytesRead.the-variants.{Allowed, TooLong, BadLine}
-use Rattle.text.specs.Places.{past}
+use Rattle.text.specs.Places.{past, isOther}
 use Rattle.text.specs.Lines.{isInLine, onLine, bytesOf, onBytes}
-use Rattle.text.proofs.PlaceLaws.{part-size}
+use Rattle.text.proofs.PlaceLaws.{drop-at, drop-end, past-stops}
 use Rattle.text.proofs.LineLaws.{bytes-first, bad-line-small, lines-none, lines-ended, lines-last}
 use Rattle.tables.specs.View.{nameOf}
 use Rattle.ranks.specs.Layout.{names}
 use Rattle.request.specs.declared.Identities.{Identities}
 use Rattle.request.specs.Forms.{lineOf}
-use Rattle.request.specs.Stored.{ClaimsStored}
-use Rattle.request.specs.RequestReads.{Accepts, Refuses, refusedRead, ByVerdict, Reads}
+use Rattle.request.specs.Claims.{wordsAt}
+use Rattle.request.specs.Stored.{numbered, ClaimsStored}
+use Rattle.request.specs.RequestReads.{Accepts, Refuses, refusedRead, ByVerdict, Reads, fed}
+use Rattle.request.proofs.WordLaws.{words-fed}
 
 -- a line that ends in a line feed
 abbrev pub ended : Bytes → Line
@@ -59,20 +64,27 @@ module _ (b : Book) (r : Rules) (s : Bytes) (k : Request → Outcome Request) wh
 pub no-fault : (o : Maybe ℕ) (n : ℕ) → o ≡ pick (eqb n 0) nothing (just n) → n ≡ 0 → o ≡ nothing
 no-fault o n e z = e ∙ rw z
 
+-- a line is the part before its line feed
+fed-part : (s : Bytes) → partOf (fed s) 0 (length s) ≡ s
+unfolding partOf
+fed-part s = take-append-seam s (10 ∷ [])
+
 -- a line without a fault is accepted
-pub accepts-line : (b : Book) (r : Rules) (nodes : ℕ) (rules : Bytes) (table : List ℕ) (categories : ℕ) (text s : Bytes) (p q k : ℕ) (xs : List Claim) (given : Identities)
+pub accepts-line : (b : Book) (r : Rules) (nodes : ℕ) (rules : Bytes) (table : List ℕ) (categories : ℕ) (s : Bytes) (p q k : ℕ) (xs : List Claim) (given : Identities)
     → andThen (lineItems s) requestLine ≡ just (lineOf s p q xs) → requestFault b r (lineOf s p q xs) ≡ nothing → nameOf rules table names k ≡ partOf s p (q - p) → k < categories
-    → ClaimsStored b nodes s xs given → partOf text 0 (length s) ≡ s
-    → Accepts nodes rules table categories text (stepThen (requestStep b r (ended s)) 4 1 accepted) (record { verdict = verdict.Accepted; category = k; identities = given .list; count = given .count })
-unfolding requestOf
-accepts-line b r nodes rules table categories text s p q k xs given e f n l h d = record {
+    → ClaimsStored b nodes s q xs given → drop 2 (wordsFrom false 0 s) ≡ wordsAt s q
+    → Accepts nodes rules table categories (fed s) (stepThen (requestStep b r (ended s)) 4 1 accepted) (record { verdict = verdict.Accepted; category = k; identities = given .list; count = given .count })
+unfolding requestOf identityPlaces
+accepts-line b r nodes rules table categories s p q k xs given e f n l h w = record {
   request = requestOf b (lineOf s p q xs);
   is = line-known b r s accepted (lineOf s p q xs) e f;
   category = sym n;
   declared = l;
-  identities = sym (h .is text d);
+  identities = sym (h .is (fed s) (fed-part s));
   few = h .few;
   below = h .below;
+  counted = h .counted ∙ sym (length-map xs (numbered b));
+  whole = h .whole ∙ ap (λ (t : List Part). slots (placedBy t (map (numbered b) xs))) (sym w ∙ ap (drop 2) (sym (words-fed s)));
 }
 
 -- a last line without a line feed
@@ -114,8 +126,17 @@ module _ (b : Book) (r : Rules) (text : Bytes) (to : ℕ) (e : to ≡ past isInL
     pub followed : to + 1 < length text → oneLine b r (linesOf text) ≡ stepThen (requestStep b r (ended firstLine)) 4 1 (only false)
     followed m = first-of ∙ ap (λ (t : Bool). stepThen (requestStep b r (ended firstLine)) 4 1 (only t)) (some-line (to + 1) m)
 
-    pub first-whole : partOf text 0 (length firstLine) ≡ firstLine
-    first-whole = ap (partOf text 0) (part-size text 0 (to - 0) (omega arith))
+    feed-at : getD text to 0 ≡ 10
+    unfolding isOther
+    feed-at = rw e (eqb-true (getD text (past isInLine text 0) 0) 10 (not-false _ (past-stops isInLine text 0 (omega arith))))
+
+    -- one line alone is the text
+    pub whole-text : length text ≤ to + 1 → fed firstLine ≡ text
+    unfolding partOf
+    whole-text m =
+        let z : to - 0 ≡ to = omega arith in
+        let last : drop to text ≡ 10 ∷ [] = drop-at text to l ∙ (λ i. feed-at i ∷ drop-end text (to + 1) m i) in
+        (λ i. take (z i) text ++ sym last i) ∙ take-append-drop to text
 
 -- the outcome of a line alone, and what is made of it
 module _ (x : Step Request) (k : Request → Outcome Request) where
@@ -144,13 +165,17 @@ module _ (nodes : ℕ) (rules : Bytes) (table : List ℕ) (categories : ℕ) (te
   pub reads-as : (o o′ : Outcome Request) (r : RequestRead) → o′ ≡ o → Reads nodes rules table categories text o r → Reads nodes rules table categories text o′ r
   reads-as o o′ r e h = subst (λ (x : Outcome Request). Reads nodes rules table categories text x r) (sym e) h
 
+  -- the same text
+  pub reads-in : (request : Bytes) (o : Outcome Request) (r : RequestRead) → text ≡ request → Reads nodes rules table categories text o r → Reads nodes rules table categories request o r
+  reads-in request o r e h = subst (λ (t : Bytes). Reads nodes rules table categories t o r) e h
+
   module _ (x : Step Request) (r : RequestRead) (h : Reads nodes rules table categories text (stepThen x 4 1 accepted) r) where
     -- a refusal of the line is that of the request
-    pub still-refused : (k : Request → Outcome Request) (y : RefusalData) → r .verdict ≡ verdict.Refused y → Reads nodes rules table categories text (stepThen x 4 1 k) r
-    still-refused k y e =
+    pub still-refused : (request : Bytes) (k : Request → Outcome Request) (y : RefusalData) → r .verdict ≡ verdict.Refused y → Reads nodes rules table categories request (stepThen x 4 1 k) r
+    still-refused request k y e =
         let f = subst (ByVerdict nodes rules table categories text (stepThen x 4 1 accepted) r) e h in
         let g : Refuses (stepThen x 4 1 k) r y = record { is = step-refused x k y (f .is); category = f .category; identities = f .identities; count = f .count } in
-        subst (ByVerdict nodes rules table categories text (stepThen x 4 1 k) r) (sym e) g
+        subst (ByVerdict nodes rules table categories request (stepThen x 4 1 k) r) (sym e) g
 
     its-request : r .verdict ≡ verdict.Accepted → Accepts nodes rules table categories text (stepThen x 4 1 accepted) r
     its-request e = subst (ByVerdict nodes rules table categories text (stepThen x 4 1 accepted) r) e h

@@ -1,12 +1,12 @@
 -- The identities stored one after another.
-use Prim.Native.Nat.{ℕ, _+_, _-_, _≤_, _<_}
+use Prim.Native.Nat.{ℕ, suc, _+_, _-_, _≤_, _<_}
 use mathlib.Core.Path.{_≡_, refl, sym, ap, _∙_}
 use mathlib.Core.List.{List, [], _∷_, _++_, map, append-nil, append-assoc}
 use mathlib.Core.Bool.{Bool, true, false}
 use native.Mathlib.Omega.{arith}
 use native.Mathlib.Numerals.{add-one}
-use lib.ListN.{length, getD, set, take, length-append, length-set}
-use lib.Seq.{take-suc-set, getD-set-same, getD-set-other}
+use lib.ListN.{length, getD, set, take, drop, replicate, take-append-drop, length-append, length-set, length-map}
+use lib.Seq.{take-suc-set, drop-set-lt, drop-drop, getD-set-same, getD-set-other}
 use borrow.Author.Tests.{ltb-true}
 use Rattle.facts.specs.Tests.{either, equal-or-not}
 use Rattle.model.specs.Bytes.{Bytes}
@@ -14,17 +14,43 @@ use Rattle.model.specs.Choice.{pick, just}
 use Rattle.model.specs.Lists.{all}
 use Rattle.model.specs.Names.{mem, place}
 use Rattle.model.specs.Book.{Book, nodeNames}
-use Rattle.model.specs.Request.{Claim}
+use Rattle.model.specs.Request.{Claim, Identity}
 use Rattle.model.specs.Answers.{partOf, nameAt, identityIn}
+use Rattle.model.specs.RequestPlaces.{noIdentity, placedBy, slots}
+use Rattle.model.specs.declared.Part.{Part}
 use Rattle.model.specs.declared.Identity.{Identity as IdentityData}
 use Rattle.text.proofs.PlaceLaws.{part-in-part}
 use Rattle.items.specs.Forms.{claimNext}
 use Rattle.tables.proofs.NameLaws.{mem-place}
 use Rattle.tables.proofs.ListedLaws.{map-end}
 use Rattle.request.specs.declared.ClaimAt.the-variants as at
-use Rattle.request.specs.Claims.{claimsFrom, ClaimPlaces, claimAt, claimOn}
-use Rattle.request.specs.Stored.{noIdentity, noIdentities, numbered, ClaimsAsked, ClaimsStored}
+use Rattle.request.specs.Claims.{wordsAt, partAt, claimsFrom, ClaimPlaces, claimAt, claimOn}
+use Rattle.request.specs.Stored.{noIdentities, numbered, ClaimsAsked, ClaimsStored}
+use Rattle.request.proofs.PlaceLaws.{claim-words}
 use Rattle.request.proofs.ClaimLaws.{claim-step, claims-done, claims-over}
+
+-- as many are placed as there are
+placed-length : (words : List Part) (is : List Identity) → length (placedBy words is) ≡ length is
+unfolding placedBy
+placed-length words [] = refl
+placed-length words (i ∷ is) = ap suc (placed-length (drop 3 words) is)
+
+-- the first of identities is placed by its own words
+placed-first : (words behind : List Part) (actor : Part) (n : ℕ) (i : Identity) (is : List Identity) → getD words 1 (noIdentity .actor) ≡ actor → n ≡ i .node → drop 3 words ≡ behind
+    → record { actor = actor; node = n } ∷ placedBy behind is ≡ placedBy words (i ∷ is)
+unfolding placedBy
+placed-first words behind actor n i is e f g = λ t. record { actor = sym e t; node = f t } ∷ placedBy (sym g t) is
+
+-- the slots of an array whose first ones are known, the others holding none
+slots-filled : (list given : List IdentityData) (count : ℕ) → take count list ≡ given → drop count list ≡ replicate (8 - count) noIdentity → count ≡ length given → list ≡ slots given
+unfolding slots
+slots-filled list given count e f g = sym (take-append-drop count list) ∙ (λ t. e t ++ f t) ∙ ap (λ (n : ℕ). given ++ replicate (8 - n) noIdentity) g
+
+-- one slot less is left
+one-less : (list : List IdentityData) (count : ℕ) (x : IdentityData) → count < 8 → drop count list ≡ replicate (8 - count) noIdentity → drop (count + 1) (set list count x) ≡ replicate (8 - (count + 1)) noIdentity
+one-less list count x l e =
+    let z : 8 - count ≡ suc (8 - (count + 1)) = omega arith in
+    drop-set-lt (count + 1) list count x (omega arith) ∙ sym (drop-drop 1 count list) ∙ ap (drop 1) (e ∙ ap (λ (n : ℕ). replicate n noIdentity) z)
 
 -- the identities before the place i stand in the array; those from it on are left
 pub record Storing (b : Book) (nodes : ℕ) (s : Bytes) (from : ℕ) (list : List IdentityData) (count i : ℕ) : Type 0 where
@@ -38,6 +64,8 @@ pub record Storing (b : Book) (nodes : ℕ) (s : Bytes) (from : ℕ) (list : Lis
   pub size : length list ≡ 8
   pub is : (text : Bytes) → partOf text 0 (length s) ≡ s → map (identityIn text) (take count list) ≡ map (numbered b) done
   pub below : (j : ℕ) → j < count → getD list j noIdentity .node < nodes
+  pub places : take count list ++ placedBy (wordsAt s i) (map (numbered b) rest) ≡ placedBy (wordsAt s from) (map (numbered b) (done ++ rest))
+  pub past : drop count list ≡ replicate (8 - count) noIdentity
 
 pub storing-start : (b : Book) (nodes : ℕ) (s : Bytes) (from : ℕ) → ClaimsAsked b s from → Storing b nodes s from noIdentities 0 from
 storing-start b nodes s from a = record {
@@ -51,6 +79,8 @@ storing-start b nodes s from a = record {
   size = refl;
   is = λ text e. refl;
   below = λ j l. absurd (omega arith);
+  places = refl;
+  past = refl;
 }
 
 -- an identity by its places, and the number of its node
@@ -91,15 +121,23 @@ module _ (b : Book) (nodes : ℕ) (s : Bytes) (from : ℕ) (list : List Identity
       node-below : length (nodeNames b) ≡ nodes → node < nodes
       node-below l = omega (arith, ltb-true (place (partOf s x (y - x)) (nodeNames b)) (length (nodeNames b)) (sym (mem-place (partOf s x (y - x)) (nodeNames b)) ∙ both-known .0))
 
+      -- it is placed by its own words
+      next-placed : entryOf a z node ∷ placedBy (wordsAt s e) (map (numbered b) (next .0)) ≡ placedBy (wordsAt s i) (map (numbered b) (h .rest))
+      next-placed =
+          let w = claim-words s i a z x y e n in
+          placed-first (wordsAt s i) (wordsAt s e) (partAt a z) node (numbered b (claimOn s a z x y)) (map (numbered b) (next .0)) (w .0) is-node (w .1)
+          ∙ ap (λ (t : List Claim). placedBy (wordsAt s i) (map (numbered b) t)) (sym (next .2))
+
       -- the identity is stored
       pub storing-next : length (nodeNames b) ≡ nodes → Storing b nodes s from (set list count (entryOf a z node)) (count + 1) e
       storing-next l =
           let r : count < length list = omega (arith, has-room, h .size) in
           let longer : take (count + 1) (set list count (entryOf a z node)) ≡ take count list ++ (entryOf a z node ∷ []) = rw add-one (take-suc-set list count (entryOf a z node) r) in
+          let moved : h .done ++ h .rest ≡ (h .done ++ (claimOn s a z x y ∷ [])) ++ next .0 = ap (λ (t : List Claim). h .done ++ t) (next .2) ∙ sym (append-assoc (h .done) (claimOn s a z x y ∷ []) (next .0)) in
           record {
             done = h .done ++ (claimOn s a z x y ∷ []);
             rest = next .0;
-            whole = h .whole ∙ ap just (ap (λ (t : List Claim). h .done ++ t) (next .2) ∙ sym (append-assoc (h .done) (claimOn s a z x y ∷ []) (next .0)));
+            whole = h .whole ∙ ap just moved;
             left = next .1;
             few = simp length-append (omega (arith, next-few));
             known = both-known .1;
@@ -113,18 +151,35 @@ module _ (b : Book) (nodes : ℕ) (s : Bytes) (from : ℕ) (list : List Identity
             below = λ j m. either (equal-or-not j count)
                 (λ q. rw (q, getD-set-same list count (entryOf a z node) noIdentity r) (node-below l))
                 (λ q. rw (getD-set-other list count j (entryOf a z node) noIdentity (q .1)) (h .below j (omega arith)));
+            places =
+                ap (λ (t : List IdentityData). t ++ placedBy (wordsAt s e) (map (numbered b) (next .0))) longer
+                ∙ append-assoc (take count list) (entryOf a z node ∷ []) (placedBy (wordsAt s e) (map (numbered b) (next .0)))
+                ∙ ap (λ (t : List IdentityData). take count list ++ t) next-placed
+                ∙ h .places
+                ∙ ap (λ (t : List Claim). placedBy (wordsAt s from) (map (numbered b) t)) moved;
+            past = one-less list count (entryOf a z node) has-room (h .past);
           }
 
+  none-left : h .rest ≡ [] → take count list ≡ take count list ++ placedBy (wordsAt s i) (map (numbered b) (h .rest))
+  unfolding placedBy
+  none-left e = sym (append-nil (take count list)) ∙ ap (λ (t : List Claim). take count list ++ placedBy (wordsAt s i) (map (numbered b) t)) (sym e)
+
   -- all are stored
-  pub stored : at.None ≡ claimAt (claimNext 2 s i) → (xs : List Claim) → claimsFrom s from ≡ just xs → ClaimsStored b nodes s xs (record { list = list; count = count })
+  pub stored : at.None ≡ claimAt (claimNext 2 s i) → (xs : List Claim) → claimsFrom s from ≡ just xs → ClaimsStored b nodes s from xs (record { list = list; count = count })
   stored n xs d =
       let w : just (h .done ++ h .rest) ≡ just xs = sym (h .whole) ∙ d in
       let v : h .done ++ h .rest ≡ xs = cc in
-      let u : h .done ≡ xs = sym (append-nil (h .done)) ∙ ap (λ (t : List Claim). h .done ++ t) (sym (claims-done s i (h .rest) n (h .left))) ∙ v in
+      let none : h .rest ≡ [] = claims-done s i (h .rest) n (h .left) in
+      let u : h .done ≡ xs = sym (append-nil (h .done)) ∙ ap (λ (t : List Claim). h .done ++ t) (sym none) ∙ v in
+      let full : count ≡ length xs = h .counted ∙ ap length u in
+      let front : take count list ≡ placedBy (wordsAt s from) (map (numbered b) xs) = none-left none ∙ h .places ∙ ap (λ (t : List Claim). placedBy (wordsAt s from) (map (numbered b) t)) v in
       record {
         few = omega (arith, h .few, h .counted, length-append (h .done) (h .rest));
         is = λ text l. h .is text l ∙ ap (map (numbered b)) u;
         below = h .below;
+        counted = full;
+        whole = slots-filled list (placedBy (wordsAt s from) (map (numbered b) xs)) count front (h .past)
+            (full ∙ sym (placed-length (wordsAt s from) (map (numbered b) xs) ∙ length-map xs (numbered b)));
       }
 
   -- the identities end before the line does

@@ -3,12 +3,15 @@ use Prim.Native.Nat.{ℕ, _-_, _<_}
 use mathlib.Core.Path.{_≡_}
 use mathlib.Core.List.{List, _∷_, map}
 use mathlib.Core.Bool.{Bool, true, false, not, _||_}
+use lib.ListN.{drop}
 use Rattle.model.specs.Bytes.{Bytes}
 use Rattle.model.specs.Choice.{Maybe, nothing, just, andThen}
 use Rattle.model.specs.Lists.{each}
 use Rattle.model.specs.Names.{mem}
 use Rattle.model.specs.Request.{Claim, claimOf}
 use Rattle.model.specs.Answers.{partOf}
+use Rattle.model.specs.RequestPlaces.{wordsFrom}
+use Rattle.model.specs.declared.Part.{Part}
 use Rattle.items.specs.declared.ClaimRead.{ClaimRead}
 use Rattle.items.specs.declared.ClaimRead.the-variants as claim
 use Rattle.items.specs.Rest.{formAt}
@@ -16,6 +19,14 @@ use Rattle.items.specs.Forms.{claimNext}
 use Rattle.lists.specs.Places.{WordPlaces}
 use Rattle.request.specs.declared.ClaimAt.{ClaimAt}
 use Rattle.request.specs.declared.ClaimAt.the-variants as at
+
+-- the words of a line from a place on, where no word byte stands before
+abbrev pub wordsAt : Bytes → ℕ → List Part
+wordsAt s i = wordsFrom false i (drop i s)
+
+-- the part from a place to another
+abbrev pub partAt : ℕ → ℕ → Part
+partAt p q = record { start = p; length = q - p }
 
 -- the identities from a place on, to the end of the line
 unfoldable pub claimsFrom : Bytes → ℕ → Maybe (List Claim)

@@ -11,14 +11,12 @@ use Rattle.model.specs.Names.{mem, place}
 use Rattle.model.specs.Book.{Book, nodeNames}
 use Rattle.model.specs.Request.{Claim, Identity}
 use Rattle.model.specs.Answers.{partOf, identityIn}
+use Rattle.model.specs.RequestPlaces.{noIdentity, placedBy, slots}
 use Rattle.model.specs.declared.Identity.{Identity as IdentityData}
 use Rattle.request.specs.declared.Identities.{Identities}
-use Rattle.request.specs.Claims.{claimsFrom}
+use Rattle.request.specs.Claims.{wordsAt, claimsFrom}
 
--- no identity, and eight of them
-abbrev pub noIdentity : IdentityData
-noIdentity = record { actor = record { start = 0; length = 0 }; node = 0 }
-
+-- eight times no identity
 abbrev pub noIdentities : List IdentityData
 noIdentities = replicate 8 noIdentity
 
@@ -33,8 +31,11 @@ pub record ClaimsAsked (b : Book) (s : Bytes) (from : ℕ) : Type 0 where
   pub few : length claims ≤ 8
   pub known : all (λ c. mem (c .node) (nodeNames b)) claims ≡ true
 
--- these identities stand in the array, wherever the line is the first of a text; their nodes are below a count
-pub record ClaimsStored (b : Book) (nodes : ℕ) (s : Bytes) (xs : List Claim) (r : Identities) : Type 0 where
+-- these identities, from a place on, stand in the array, wherever the line is the first of a text; their nodes are below a count;
+-- each stands where its own words do, and the slots behind them hold none
+pub record ClaimsStored (b : Book) (nodes : ℕ) (s : Bytes) (from : ℕ) (xs : List Claim) (r : Identities) : Type 0 where
   pub few : r .count ≤ 8
   pub is : (text : Bytes) → partOf text 0 (length s) ≡ s → map (identityIn text) (take (r .count) (r .list)) ≡ map (numbered b) xs
   pub below : (i : ℕ) → i < r .count → getD (r .list) i noIdentity .node < nodes
+  pub counted : r .count ≡ length xs
+  pub whole : r .list ≡ slots (placedBy (wordsAt s from) (map (numbered b) xs))

@@ -34,7 +34,7 @@ pub fn identities(
 ) -> Identities
     requires { ⌜ Fits (now book) (now words) counts × ClaimsAsked (bookAt (now book) (now words) counts) (now s) from ⌝ }
     ensures { λ r. ⌜ ((xs : List Claim) → claimsFrom (now (s .entry)) from ≡ just xs
-        → ClaimsStored (bookAt (now (book .entry)) (now (words .entry)) counts) (counts .nodes) (now (s .entry)) xs r) ⌝ }
+        → ClaimsStored (bookAt (now (book .entry)) (now (words .entry)) counts) (counts .nodes) (now (s .entry)) from xs r) ⌝ }
 {
     let mut list = [NONE; MAX_IDENTITIES];
     let mut count = 0;

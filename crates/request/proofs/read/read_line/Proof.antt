@@ -10,6 +10,7 @@ use Rattle.model.specs.Answers.{partOf}
 use Rattle.tables.specs.View.{bookAt}
 use Rattle.ranks.specs.View.{rulesAt}
 use Rattle.request.specs.Forms.{lineOf}
+use Rattle.request.specs.RequestReads.{fed}
 use Rattle.request.proofs.ReadLaws.{line-broken, line-faulty, no-fault, accepts-line, reads-refused}
 use Rattle.request.proofs.FaultLaws.{faultless, is-named, claims-asked}
 use Rattle.request.proofs.FormLaws.{form-at, form-none}
@@ -29,7 +30,7 @@ refused-requires : tie.Need-refused-requires
 refused-requires c κs = search needs
 
 returns : tie.Need-returns
-returns c = let a = c .before .before .before .before .before .before .before .before .before .args in λ text d. reads-refused (a .counts .nodes) (a .rules .now) (a .table .now) (a .sizes .categories) text _ 3 1 _ (c .refused .ensures) (line-broken (bookAt (a .book .now) (a .words .now) (a .counts)) (rulesAt (a .rules .now) (a .table .now) (a .sizes)) (a .s .now) accepted (form-none (a .s .now) (andThen (lineItems (a .s .now)) requestLine) _ (c .before .enum-told .given .1) (c .before .before .before .request-form .ensures)))
+returns c = let a = c .before .before .before .before .before .before .before .before .before .args in reads-refused (a .counts .nodes) (a .rules .now) (a .table .now) (a .sizes .categories) (fed (a .s .now)) _ 3 1 _ (c .refused .ensures) (line-broken (bookAt (a .book .now) (a .words .now) (a .counts)) (rulesAt (a .rules .now) (a .table .now) (a .sizes)) (a .s .now) accepted (form-none (a .s .now) (andThen (lineItems (a .s .now)) requestLine) _ (c .before .enum-told .given .1) (c .before .before .before .request-form .ensures)))
 
 sub-find-name : tie.Need-sub-find-name
 sub-find-name c = let a = c .before .before .before .before .before .before .before .before .before .args in let h = form-at (a .s .now) (andThen (lineItems (a .s .now)) requestLine) _ (c .before .p .given .1) (c .before .before .before .request-form .ensures) in omega (arith, h .places .some, h .places .inside)
@@ -52,7 +53,7 @@ refused-requires-2 c κs = search needs
 returns-2 : tie.Need-returns-2
 unfolding partOf
 returns-2 c = let a = c .before .before .before .before .before .before .before .before .before .before .before .before .before .before .args in let h = form-at (a .s .now) (andThen (lineItems (a .s .now)) requestLine) _ (c .before .before .before .before .before .before .p .given .1) (c .before .before .before .before .before .before .before .before .request-form .ensures) in
-    λ text d. reads-refused (a .counts .nodes) (a .rules .now) (a .table .now) (a .sizes .categories) text _ _ 1 _ (c .refused2 .ensures) (line-faulty (bookAt (a .book .now) (a .words .now) (a .counts)) (rulesAt (a .rules .now) (a .table .now) (a .sizes)) (a .s .now) accepted (lineOf (a .s .now) (c .before .before .before .before .before .before .p .given .0 .0) (c .before .before .before .before .before .before .p .given .0 .1 .0) (h .claims)) _ (h .is) (c .before .before .request-fault .ensures (partOf (a .s .now) (c .before .before .before .before .before .before .p .given .0 .0) ((c .before .before .before .before .before .before .p .given .0 .1 .0) - (c .before .before .before .before .before .before .p .given .0 .0))) (h .claims) (c .before .before .before .find-name .ensures) (h .are)) (c .before .if1 .taken))
+    reads-refused (a .counts .nodes) (a .rules .now) (a .table .now) (a .sizes .categories) (fed (a .s .now)) _ _ 1 _ (c .refused2 .ensures) (line-faulty (bookAt (a .book .now) (a .words .now) (a .counts)) (rulesAt (a .rules .now) (a .table .now) (a .sizes)) (a .s .now) accepted (lineOf (a .s .now) (c .before .before .before .before .before .before .p .given .0 .0) (c .before .before .before .before .before .before .p .given .0 .1 .0) (h .claims)) _ (h .is) (c .before .before .request-fault .ensures (partOf (a .s .now) (c .before .before .before .before .before .before .p .given .0 .0) ((c .before .before .before .before .before .before .p .given .0 .1 .0) - (c .before .before .before .before .before .before .p .given .0 .0))) (h .claims) (c .before .before .before .find-name .ensures) (h .are)) (c .before .if1 .taken))
 
 identities-requires : tie.Need-identities-requires
 unfolding partOf
@@ -66,7 +67,7 @@ unfolding partOf
 returns-3 c = let a = c .before .before .before .before .before .before .before .before .before .before .before .before .before .before .before .args in let h = form-at (a .s .now) (andThen (lineItems (a .s .now)) requestLine) _ (c .before .before .before .before .before .before .before .p .given .1) (c .before .before .before .before .before .before .before .before .before .request-form .ensures) in
     let f = no-fault _ _ (c .before .before .before .request-fault .ensures (partOf (a .s .now) (c .before .before .before .before .before .before .before .p .given .0 .0) ((c .before .before .before .before .before .before .before .p .given .0 .1 .0) - (c .before .before .before .before .before .before .before .p .given .0 .0))) (h .claims) (c .before .before .before .before .find-name .ensures) (h .are)) (c .before .before .if1 .left) in
     let z = faultless (a .rules .now) (a .table .now) (a .sizes) (c .before .before .before .before .before .before .before .before .before .before .before .before .before .before .before .pre .1) (bookAt (a .book .now) (a .words .now) (a .counts)) (partOf (a .s .now) (c .before .before .before .before .before .before .before .p .given .0 .0) ((c .before .before .before .before .before .before .before .p .given .0 .1 .0) - (c .before .before .before .before .before .before .before .p .given .0 .0))) (c .before .before .before .before .find-name .result) (c .before .before .before .before .find-name .ensures) (h .claims) f in
-    λ text d. accepts-line (bookAt (a .book .now) (a .words .now) (a .counts)) (rulesAt (a .rules .now) (a .table .now) (a .sizes)) (a .counts .nodes) (a .rules .now) (a .table .now) (a .sizes .categories) text (a .s .now) (c .before .before .before .before .before .before .before .p .given .0 .0) (c .before .before .before .before .before .before .before .p .given .0 .1 .0) (c .before .before .before .before .find-name .result) (h .claims) (c .before .identities .result) (h .is) f (is-named (a .rules .now) (a .table .now) (a .sizes) (c .before .before .before .before .before .before .before .before .before .before .before .before .before .before .before .pre .1) (bookAt (a .book .now) (a .words .now) (a .counts)) (partOf (a .s .now) (c .before .before .before .before .before .before .before .p .given .0 .0) ((c .before .before .before .before .before .before .before .p .given .0 .1 .0) - (c .before .before .before .before .before .before .before .p .given .0 .0))) (c .before .before .before .before .find-name .result) (c .before .before .before .before .find-name .ensures) (h .claims) (z .0)) (z .0) (c .before .identities .ensures (h .claims) (h .are)) d
+    accepts-line (bookAt (a .book .now) (a .words .now) (a .counts)) (rulesAt (a .rules .now) (a .table .now) (a .sizes)) (a .counts .nodes) (a .rules .now) (a .table .now) (a .sizes .categories) (a .s .now) (c .before .before .before .before .before .before .before .p .given .0 .0) (c .before .before .before .before .before .before .before .p .given .0 .1 .0) (c .before .before .before .before .find-name .result) (h .claims) (c .before .identities .result) (h .is) f (is-named (a .rules .now) (a .table .now) (a .sizes) (c .before .before .before .before .before .before .before .before .before .before .before .before .before .before .before .pre .1) (bookAt (a .book .now) (a .words .now) (a .counts)) (partOf (a .s .now) (c .before .before .before .before .before .before .before .p .given .0 .0) ((c .before .before .before .before .before .before .before .p .given .0 .1 .0) - (c .before .before .before .before .before .before .before .p .given .0 .0))) (c .before .before .before .before .find-name .result) (c .before .before .before .before .find-name .ensures) (h .claims) (z .0)) (z .0) (c .before .identities .ensures (h .claims) (h .are)) (h .words)
 
 pub read-line-spec : {M : Type 1} → statement M
 read-line-spec =

@@ -1,10 +1,12 @@
 -- `request::read::read_one` meets its contract. Assumes nothing.
+use Prim.Native.Nat.{_-_}
 use mathlib.Core.Path.{_∙_}
 use borrow.Author.Needs.{needs}
 use Rattle.model.specs.Answers.{partOf}
 use Rattle.tables.specs.View.{bookAt}
 use Rattle.ranks.specs.View.{rulesAt}
-use Rattle.request.proofs.ReadLaws.{no-feed, alone, followed, first-whole, first-of, reads-refused, reads-as, still-refused, second-line}
+use Rattle.request.specs.RequestReads.{fed}
+use Rattle.request.proofs.ReadLaws.{no-feed, alone, followed, whole-text, first-of, reads-refused, reads-as, reads-in, still-refused, second-line}
 use Rattle.request.proofs.read.read_one.Statement.{statement}
 use Rattle.request.proofs.read.read_one.Tie as tie
 
@@ -44,17 +46,18 @@ refused-requires-2 c κs = search needs
 returns-2 : tie.Need-returns-2
 unfolding partOf
 returns-2 c = let a = c .before .before .before .before .before .before .before .before .before .before .before .before .before .args in
-    reads-refused (a .counts .nodes) (a .rules .now) (a .table .now) (a .sizes .categories) (a .text .now) _ 3 2 _ (c .refused2 .ensures) (followed (bookAt (a .book .now) (a .words .now) (a .counts)) (rulesAt (a .rules .now) (a .table .now) (a .sizes)) (a .text .now) _ (c .before .before .before .before .before .before .before .line-end .ensures) (c .before .before .before .before .before .before .if1 .left) (c .before .if2 .taken) ∙ second-line (a .counts .nodes) (a .rules .now) (a .table .now) (a .sizes .categories) (a .text .now) _ _ (c .before .before .before .before .read-line .ensures (a .text .now) (first-whole (bookAt (a .book .now) (a .words .now) (a .counts)) (rulesAt (a .rules .now) (a .table .now) (a .sizes)) (a .text .now) _ (c .before .before .before .before .before .before .before .line-end .ensures) (c .before .before .before .before .before .before .if1 .left))) (c .before .before .enum-told2 .given .1))
+    reads-refused (a .counts .nodes) (a .rules .now) (a .table .now) (a .sizes .categories) (a .text .now) _ 3 2 _ (c .refused2 .ensures) (followed (bookAt (a .book .now) (a .words .now) (a .counts)) (rulesAt (a .rules .now) (a .table .now) (a .sizes)) (a .text .now) _ (c .before .before .before .before .before .before .before .line-end .ensures) (c .before .before .before .before .before .before .if1 .left) (c .before .if2 .taken) ∙ second-line (a .counts .nodes) (a .rules .now) (a .table .now) (a .sizes .categories) (fed (partOf (a .text .now) 0 (c .before .before .before .before .before .before .before .line-end .result - 0))) _ _ (c .before .before .before .before .read-line .ensures) (c .before .before .enum-told2 .given .1))
 
 returns-3 : tie.Need-returns-3
 unfolding partOf
 returns-3 c = let a = c .before .before .before .before .before .before .before .before .before .before .before .args in
-    reads-as (a .counts .nodes) (a .rules .now) (a .table .now) (a .sizes .categories) (a .text .now) _ _ (c .before .before .read-line .result) (first-of (bookAt (a .book .now) (a .words .now) (a .counts)) (rulesAt (a .rules .now) (a .table .now) (a .sizes)) (a .text .now) _ (c .before .before .before .before .before .line-end .ensures) (c .before .before .before .before .if1 .left)) (still-refused (a .counts .nodes) (a .rules .now) (a .table .now) (a .sizes .categories) (a .text .now) _ (c .before .before .read-line .result) (c .before .before .read-line .ensures (a .text .now) (first-whole (bookAt (a .book .now) (a .words .now) (a .counts)) (rulesAt (a .rules .now) (a .table .now) (a .sizes)) (a .text .now) _ (c .before .before .before .before .before .line-end .ensures) (c .before .before .before .before .if1 .left))) _ _ (c .enum-told .given .1))
+    reads-as (a .counts .nodes) (a .rules .now) (a .table .now) (a .sizes .categories) (a .text .now) _ _ (c .before .before .read-line .result) (first-of (bookAt (a .book .now) (a .words .now) (a .counts)) (rulesAt (a .rules .now) (a .table .now) (a .sizes)) (a .text .now) _ (c .before .before .before .before .before .line-end .ensures) (c .before .before .before .before .if1 .left)) (still-refused (a .counts .nodes) (a .rules .now) (a .table .now) (a .sizes .categories) (fed (partOf (a .text .now) 0 (c .before .before .before .before .before .line-end .result - 0))) _ (c .before .before .read-line .result) (c .before .before .read-line .ensures) (a .text .now) _ _ (c .enum-told .given .1))
 
 returns-4 : tie.Need-returns-4
 unfolding partOf
 returns-4 c = let a = c .before .before .before .before .before .before .before .before .before .before .before .before .args in
-    reads-as (a .counts .nodes) (a .rules .now) (a .table .now) (a .sizes .categories) (a .text .now) _ _ (c .before .before .before .read-line .result) (alone (bookAt (a .book .now) (a .words .now) (a .counts)) (rulesAt (a .rules .now) (a .table .now) (a .sizes)) (a .text .now) _ (c .before .before .before .before .before .before .line-end .ensures) (c .before .before .before .before .before .if1 .left) (c .if2 .left)) (c .before .before .before .read-line .ensures (a .text .now) (first-whole (bookAt (a .book .now) (a .words .now) (a .counts)) (rulesAt (a .rules .now) (a .table .now) (a .sizes)) (a .text .now) _ (c .before .before .before .before .before .before .line-end .ensures) (c .before .before .before .before .before .if1 .left)))
+    reads-as (a .counts .nodes) (a .rules .now) (a .table .now) (a .sizes .categories) (a .text .now) _ _ (c .before .before .before .read-line .result) (alone (bookAt (a .book .now) (a .words .now) (a .counts)) (rulesAt (a .rules .now) (a .table .now) (a .sizes)) (a .text .now) _ (c .before .before .before .before .before .before .line-end .ensures) (c .before .before .before .before .before .if1 .left) (c .if2 .left))
+    (reads-in (a .counts .nodes) (a .rules .now) (a .table .now) (a .sizes .categories) (fed (partOf (a .text .now) 0 (c .before .before .before .before .before .before .line-end .result - 0))) (a .text .now) _ (c .before .before .before .read-line .result) (whole-text (bookAt (a .book .now) (a .words .now) (a .counts)) (rulesAt (a .rules .now) (a .table .now) (a .sizes)) (a .text .now) _ (c .before .before .before .before .before .before .line-end .ensures) (c .before .before .before .before .before .if1 .left) (c .if2 .left)) (c .before .before .before .read-line .ensures))
 
 pub read-one-spec : {M : Type 1} → statement M
 read-one-spec =
