@@ -1,13 +1,13 @@
 -- A vertex has an identity by its word exactly if some identity has its name. Assumes nothing.
 use Prim.Native.Nat.{ℕ, _+_, _<_}
-use mathlib.Core.Path.{_≡_, refl, sym, subst, _∙_}
+use mathlib.Core.Path.{_≡_, sym, subst}
 use mathlib.Core.Logic.{⊎-elim}
 use mathlib.Core.List.{List, map}
 use mathlib.Core.Bool.{Bool, true, false, not, _||_}
 use native.Mathlib.Omega.{arith}
 use lib.Dec.{T, eqb, eqb→eq}
 use lib.ListN.{length, getD}
-use Rattle.facts.specs.Tests.{either, passes-or-not, same-test, eq→eqb, equal-or-not, not-both, or-left, or-right, or-either}
+use Rattle.facts.specs.Tests.{either, passes-or-not, same-test, eq→eqb, not-both, or-left, or-either}
 use Rattle.model.specs.Bytes.{same}
 use Rattle.model.specs.Lists.{all}
 use Rattle.model.specs.Names.{mem}
