@@ -45,7 +45,7 @@ unfolding namesText
 names-more names row i h p q = puts-one-more (bytesOf " ") (bytesOf " ") (nameIn names) row 0 i h p (puts-same (ap (λ t. t ++ nameIn names (getD row i 0)) (sym (before-all (bytesOf " ") i))) q)
 
 -- nothing stands past the end of a list
-past-end : (xs : List Bytes) (n : ℕ) → length xs ≤ n → getD xs n [] ≡ []
+pub past-end : (xs : List Bytes) (n : ℕ) → length xs ≤ n → getD xs n [] ≡ []
 past-end [] n h = refl
 past-end (x ∷ xs) zero h = absurd (omega arith)
 past-end (x ∷ xs) (suc n) h = past-end xs n (omega arith)

@@ -1,12 +1,15 @@
-// The lines that the list program prints: the header, a row, a refusal. Each is put into a lent buffer.
+// The text of a list: the header and the rows, or a refusal, put into a lent buffer.
 ghost use mathlib.Core.List.{_++_};
+ghost use Prim.Native.Nat.{_*_, _≤_};
 ghost use lib.ListN.{length};
 ghost use Rattle.model.specs.Bytes.{bytesOf};
 ghost use Rattle.model.specs.Book.{nodeNames};
-ghost use Rattle.model.specs.Printed.{rowText, refusalText};
+ghost use Rattle.model.specs.Lists.{joined};
+ghost use Rattle.model.specs.Printed.{rowText, rowsText, refusalText};
 ghost use Rattle.model.specs.Answers.{refusalOf};
 ghost use Rattle.tables.specs.View.{bookAt};
 ghost use Rattle.tables.specs.Fits.{Fits};
+ghost use Rattle.rows.specs.Buffer.{rowsIn};
 ghost use Rattle.writer.specs.Putting.{Puts};
 ghost use Rattle.printing.specs.Printing.{headerText, nameIn, namesText};
 
@@ -20,6 +23,50 @@ use writer::values;
 
 // No number that is printed has more decimal digits: a line, a count of rows, a refusal's number.
 pub const MAX_DIGITS: usize = 5;
+
+// Puts so many rows of so many nodes each, which stand one after another in the row words: the header, then a line for each row.
+pub fn put_list(
+    book: &[u8],
+    words: &[u32],
+    counts: BookCounts,
+    rows: &[u32],
+    count: usize,
+    width: usize,
+    out: &mut [u8],
+    at: usize,
+) -> usize
+    requires { ⌜ Fits (now book) (now words) counts × (count * width ≤ length (now rows)) ⌝ }
+    ensures { λ r. ⌜ Puts (now (out .entry)) at (rowsText (nodeNames (bookAt (now (book .entry)) (now (words .entry)) counts)) (rowsIn width count (now (rows .entry)))) (now (out .exit)) r ⌝ }
+{
+    let at = put_header(count, out, at);
+    put_rows(book, words, counts, rows, count, width, out, at)
+}
+
+// Puts the rows, a line each.
+fn put_rows(
+    book: &[u8],
+    words: &[u32],
+    counts: BookCounts,
+    rows: &[u32],
+    count: usize,
+    width: usize,
+    out: &mut [u8],
+    at: usize,
+) -> usize
+    requires { ⌜ Fits (now book) (now words) counts × (count * width ≤ length (now rows)) ⌝ }
+    ensures { λ r. ⌜ Puts (now (out .entry)) at (joined (rowText (nodeNames (bookAt (now (book .entry)) (now (words .entry)) counts))) (rowsIn width count (now (rows .entry)))) (now (out .exit)) r ⌝ }
+{
+    let mut next = at;
+    let mut from = 0;
+    let mut i = 0;
+    while i < count {
+        let to = from + width;
+        next = put_row(book, words, counts, &rows[from..to], out, next);
+        from = to;
+        i += 1;
+    }
+    next
+}
 
 // Puts the header: the row count.
 pub fn put_header(count: usize, out: &mut [u8], at: usize) -> usize

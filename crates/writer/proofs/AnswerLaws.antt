@@ -65,18 +65,18 @@ refused {t} {out} long same = record {
 
 pub refused-past-limit : {o t o′ out out′ : Bytes} {n : ℕ} → Puts o 0 t o′ n → 2048 < n → out′ ≡ out → Writes t out out′ TooLong
 refused-past-limit {t = t} {out = out} {n = n} put h same =
-    let e : n ≡ min 2049 (length t) = counts-length put in
+    let e : n ≡ min 1048577 (length t) = counts-length put in
     refused (past-limit (length out) t (omega arith)) same
 
 pub refused-past-room : {o t o′ out out′ : Bytes} {n : ℕ} → Puts o 0 t o′ n → n ≤ 2048 → length out < n → out′ ≡ out → Writes t out out′ TooLong
 refused-past-room {t = t} {out = out} {n = n} put h l same =
-    let e : n ≡ min 2049 (length t) = counts-length put in
+    let e : n ≡ min 1048577 (length t) = counts-length put in
     refused (past-room (length out) t (omega arith)) same
 
 -- What fits is written.
 pub written-in-front : {o t o′ out out′ : Bytes} {n m : ℕ} → Puts o 0 t o′ n → n ≤ 2048 → n ≤ length out → Puts out 0 t out′ m → Writes t out out′ (Length n)
 written-in-front {t = t} {out = out} {n = n} put h l second =
-    let e : n ≡ min 2049 (length t) = counts-length put in
+    let e : n ≡ min 1048577 (length t) = counts-length put in
     let same : n ≡ length t = omega arith in
     let fits : tooLong (length out) t ≡ false = within-both (length out) t (omega arith) (omega arith) in
     record {

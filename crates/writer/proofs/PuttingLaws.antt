@@ -62,41 +62,41 @@ text-keeps-length b (x ∷ t) = text-keeps-length (withByte b x) t ∙ length-se
 pub puts-keeps-length : {o : Bytes} {a : ℕ} {t o′ : Bytes} {a′ : ℕ} → Puts o a t o′ a′ → length o′ ≡ length o
 puts-keeps-length {o} {a} {t} p = ap (λ (b : Buffer). length (b .bytes)) (p .is) ∙ text-keeps-length (buffer o a) t
 
--- Places are counted to 2,049.
-pub further-on : (a : ℕ) → a ≤ 2048 → further a ≡ a + 1
+-- Places are counted to 1,048,577.
+pub further-on : (a : ℕ) → a ≤ 1048576 → further a ≡ a + 1
 unfolding further
-further-on a h = rw (le-leb a 2048 h)
+further-on a h = rw (le-leb a 1048576 h)
 
-pub further-past : (a : ℕ) → 2048 < a → further a ≡ a
+pub further-past : (a : ℕ) → 1048576 < a → further a ≡ a
 unfolding further
-further-past a h = rw (lt-leb a 2048 h)
+further-past a h = rw (lt-leb a 1048576 h)
 
-pub place-behind : (t o : Bytes) (a : ℕ) → a ≤ 2049 → withText (buffer o a) t .place ≡ min 2049 (a + length t)
+pub place-behind : (t o : Bytes) (a : ℕ) → a ≤ 1048577 → withText (buffer o a) t .place ≡ min 1048577 (a + length t)
 unfolding withText withByte
 place-behind [] o a h = omega arith
 place-behind (x ∷ t) o a h =
-    let e : min 2049 (further a + length t) ≡ min 2049 (a + suc (length t)) = either (below-or-not 2048 a)
+    let e : min 1048577 (further a + length t) ≡ min 1048577 (a + suc (length t)) = either (below-or-not 1048576 a)
     (λ l. let f = further-past a l in omega arith)
     (λ l. let f = further-on a l in omega arith) in
-    let m : further a ≤ 2049 = either (below-or-not 2048 a)
+    let m : further a ≤ 1048577 = either (below-or-not 1048576 a)
     (λ l. let f = further-past a l in omega arith)
     (λ l. let f = further-on a l in omega arith) in
     place-behind t (set o a x) (further a) m ∙ e
 
 -- Up to there, the bytes are stored one by one.
-pub bytes-stored : (t o : Bytes) (a : ℕ) → a + length t ≤ 2049 → withText (buffer o a) t .bytes ≡ sets o a t
+pub bytes-stored : (t o : Bytes) (a : ℕ) → a + length t ≤ 1048577 → withText (buffer o a) t .bytes ≡ sets o a t
 unfolding withText withByte
 bytes-stored [] o a h = refl
 bytes-stored (x ∷ t) o a h =
     let f : further a ≡ suc a = further-on a (omega arith) ∙ add-one a in
     bytes-stored t (set o a x) (further a) (omega arith) ∙ ap (λ (n : ℕ). sets (set o a x) n t) f
 
--- A text put at the start of a buffer: its length, if that is at most 2,048, or that it is longer.
-pub counts-length : {o t o′ : Bytes} {n : ℕ} → Puts o 0 t o′ n → n ≡ min 2049 (length t)
+-- A text put at the start of a buffer: its length, if that is at most 1,048,576, or that it is longer.
+pub counts-length : {o t o′ : Bytes} {n : ℕ} → Puts o 0 t o′ n → n ≡ min 1048577 (length t)
 counts-length {o} {t} p = ap (λ (b : Buffer). b .place) (p .is) ∙ place-behind t o 0 (omega arith) ∙ omega arith
 
 -- A text that fits stands in front of the buffer, and the rest of the buffer is as it was.
-pub fits-in-front : {o t o′ : Bytes} {n : ℕ} → length t ≤ 2048 → length t ≤ length o → Puts o 0 t o′ n → o′ ≡ t ++ drop (length t) o
+pub fits-in-front : {o t o′ : Bytes} {n : ℕ} → length t ≤ 1048576 → length t ≤ length o → Puts o 0 t o′ n → o′ ≡ t ++ drop (length t) o
 fits-in-front {o} {t} h l p =
     ap (λ (b : Buffer). b .bytes) (p .is) ∙ bytes-stored t o 0 (omega arith) ∙ sets-eq t o 0 (omega arith)
     ∙ ap (λ (k : ℕ). t ++ drop k o) (zero-add (length t))

@@ -14,7 +14,7 @@ over-the-end : withText (record { bytes = 7 ∷ 8 ∷ []; place = 1 }) (1 ∷ 2 
 unfolding withText withByte further
 over-the-end = refl
 
-counted-to-the-limit : withText (record { bytes = []; place = 2048 }) (1 ∷ 2 ∷ 3 ∷ []) ≡ record { bytes = []; place = 2049 }
+counted-to-the-limit : withText (record { bytes = []; place = 1048576 }) (1 ∷ 2 ∷ 3 ∷ []) ≡ record { bytes = []; place = 1048577 }
 unfolding withText withByte further
 counted-to-the-limit = refl
 

@@ -12,9 +12,9 @@ pub record Buffer : Type 0 where
   pub bytes : Bytes
   pub place : ℕ
 
--- the next place; places are counted to 2,049, one past what a written query may have
+-- the next place; places are counted to 1,048,577, far past the end of every text that is put, a written query or a printed list
 unfoldable pub further : ℕ → ℕ
-further at = pick (leb at 2048) (at + 1) at
+further at = pick (leb at 1048576) (at + 1) at
 
 -- with a byte more
 unfoldable pub withByte : Buffer → ℕ → Buffer

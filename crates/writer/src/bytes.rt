@@ -7,14 +7,16 @@ ghost use Rattle.model.specs.Answers.{partOf};
 ghost use Rattle.tables.specs.View.{nameOf};
 ghost use Rattle.writer.specs.Putting.{further, Puts};
 ghost use Rattle.writer.specs.Pieces.{before};
-use crate::MAX_WRITTEN;
 use tables::names::NAME_LENGTHS;
 
-// The next place: places are counted to one past what may be written.
+// Places are counted to one past this, which is far past the end of every text that is put: a query's 2,048 bytes, a list's 622,605.
+const MAX_PLACE: usize = 1048576;
+
+// The next place.
 fn further(at: usize) -> usize
     ensures { λ r. ⌜ r ≡ further at ⌝ }
 {
-    if at <= MAX_WRITTEN { at + 1 } else { at }
+    if at <= MAX_PLACE { at + 1 } else { at }
 }
 
 // Puts one byte.
