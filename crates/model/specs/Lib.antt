@@ -2,6 +2,7 @@ pub mod Bytes
 pub mod Choice
 pub mod Lists
 pub mod Names
+pub mod Limits
 pub mod Items
 pub mod Words
 pub mod Refusal

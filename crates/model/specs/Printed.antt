@@ -4,6 +4,7 @@ use mathlib.Core.List.{List, [], _++_, map}
 use lib.ListN.{length, getD}
 use Rattle.model.specs.Bytes.{Bytes, bytesOf}
 use Rattle.model.specs.Lists.{joined}
+use Rattle.model.specs.Limits.{wholeMemory}
 use Rattle.model.specs.Names.{Name}
 use Rattle.model.specs.Refusal.{Outcome, accepted, refused, Refusal}
 use Rattle.model.specs.Book.{Book, nodeNames}
@@ -35,4 +36,4 @@ namesOf (refused r) = []
 
 -- what the list program prints; it lends 16,384 row words
 unfoldable pub printed : Bytes → Bytes → Bytes → Bytes → Bytes
-printed book rules query request = outcomeText (namesOf (readBook book)) (listRows 16384 16384 book rules query request)
+printed book rules query request = outcomeText (namesOf (readBook book)) (listRows wholeMemory 16384 book rules query request)

@@ -7,6 +7,7 @@ use lib.Dec.{leb, ltb, eqb}
 use Rattle.model.specs.Bytes.{Bytes, same}
 use Rattle.model.specs.Choice.{Maybe, andThen}
 use Rattle.model.specs.Lists.{any, all}
+use Rattle.model.specs.Limits.{maxBookBytes, maxNodes, maxRelationships, maxEntries, maxDeclared}
 use Rattle.model.specs.Names.{Name, mem, twice, place}
 use Rattle.model.specs.Refusal.{Outcome, Row, lowest, _if_}
 use Rattle.model.specs.Lines.{Line, Step, faultOr, formStep, readLines, linesOf, bytesFirst}
@@ -29,7 +30,7 @@ related b l x y = any (λ r. same (r .label) l && eqb (r .from) x && eqb (r .to)
 
 -- the table of faults of a declared name: among names declared already
 abbrev pub nameFaults : Name → List Name → List Row
-nameFaults n ns = (5 if mem n ns) ∷ (7 if leb 32 (length ns)) ∷ []
+nameFaults n ns = (5 if mem n ns) ∷ (7 if leb maxDeclared (length ns)) ∷ []
 
 -- the lowest of them
 unfoldable pub nameFault : Name → List Name → Maybe ℕ
@@ -41,7 +42,7 @@ nodeFaults b n es =
     (4 if undeclared (b .vattrs) es)
     ∷ (5 if mem n (nodeNames b) || twice (map (λ e. e .attr) es))
     ∷ (6 if not (all (suits (b .vattrs)) es))
-    ∷ (7 if leb 256 (length (b .nodes)) || ltb 2048 (entryCount b + length es))
+    ∷ (7 if leb maxNodes (length (b .nodes)) || ltb maxEntries (entryCount b + length es))
     ∷ []
 
 -- the lowest of them
@@ -54,7 +55,7 @@ relFaults b l x y es =
     (4 if not (mem l (b .labels)) || not (mem x (nodeNames b)) || not (mem y (nodeNames b)) || undeclared (b .eattrs) es)
     ∷ (5 if related b l (place x (nodeNames b)) (place y (nodeNames b)) || twice (map (λ e. e .attr) es))
     ∷ (6 if not (all (suits (b .eattrs)) es))
-    ∷ (7 if leb 1024 (length (b .rels)) || ltb 2048 (entryCount b + length es))
+    ∷ (7 if leb maxRelationships (length (b .rels)) || ltb maxEntries (entryCount b + length es))
     ∷ []
 
 -- the lowest of them
@@ -88,6 +89,6 @@ addLine b (rel l x y es) =
 unfoldable pub bookStep : Book → Line → Step Book
 bookStep b l = formStep (andThen (formOf l) bookLine) (λ x. faultOr (lineFault b x) (addLine b x))
 
--- text 1: 65,536 bytes
+-- text 1
 unfoldable pub readBook : Bytes → Outcome Book
-readBook s = let book = readLines 1 bookStep 1 emptyBook (linesOf s) in bytesFirst 1 65536 (λ l. l) s book
+readBook s = let book = readLines 1 bookStep 1 emptyBook (linesOf s) in bytesFirst 1 maxBookBytes (λ l. l) s book

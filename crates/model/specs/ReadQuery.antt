@@ -7,6 +7,7 @@ use lib.Dec.{ltb}
 use Rattle.model.specs.Bytes.{Bytes, same}
 use Rattle.model.specs.Choice.{Maybe, nothing, just}
 use Rattle.model.specs.Lists.{any, keep}
+use Rattle.model.specs.Limits.{maxQueryBytes, maxVertices, maxEdges, maxExclusions, maxRequirements, maxReturns}
 use Rattle.model.specs.Names.{Name, mem, twice}
 use Rattle.model.specs.Values.{Value, Kind, ints, strs, bools, ofKind}
 use Rattle.model.specs.Refusal.{Outcome, accepted, refusal, refusedIf, Row, lowest, _if_}
@@ -75,12 +76,12 @@ hasTwice q = twice (edgeNames q) || any (λ e. mem e (vertexNames q)) (edgeNames
 unfoldable pub hasMistyped : Book → QueryText → Bool
 hasMistyped b q = any (λ s. mistyped b (s .condition) (s .vertices) (s .edges)) (scoped [] [] (q .matches))
 
--- 7: more than 8 vertices, 16 edges, 16 exclusions, 16 requirements, 4 Return names
+-- 7: more vertices, edges, exclusions, requirements or Return names than fit
 unfoldable pub tooMany : QueryText → Bool
 tooMany q =
-    ltb 8 (length (vertexNames q)) || ltb 16 (length (edgesOf q))
-    || ltb 16 (length (keep isDiffer (conditionsOf q))) || ltb 16 (length (keep (λ c. not (isDiffer c)) (conditionsOf q)))
-    || ltb 4 (length (q .returns))
+    ltb maxVertices (length (vertexNames q)) || ltb maxEdges (length (edgesOf q))
+    || ltb maxExclusions (length (keep isDiffer (conditionsOf q))) || ltb maxRequirements (length (keep (λ c. not (isDiffer c)) (conditionsOf q)))
+    || ltb maxReturns (length (q .returns))
 
 -- 8: some vertex is excluded from itself
 unfoldable pub hasFromItself : QueryText → Bool
@@ -105,6 +106,6 @@ unfoldable pub textOrFault : Book → Maybe QueryText → Outcome QueryText
 textOrFault b nothing = refusal 3 3 1
 textOrFault b (just q) = refusedIf (queryFault b q) 3 1 (accepted q)
 
--- text 3: 2,048 bytes; line 1 for every number but 1
+-- text 3; line 1 for every number but 1
 unfoldable pub readQuery : Book → Bytes → Outcome QueryText
-readQuery b s = let query = textOrFault b (queryText s) in bytesFirst 3 2048 (λ l. 1) s query
+readQuery b s = let query = textOrFault b (queryText s) in bytesFirst 3 maxQueryBytes (λ l. 1) s query

@@ -7,6 +7,7 @@ use lib.Dec.{leb, ltb}
 use Rattle.model.specs.Bytes.{Bytes, bytesOf, same}
 use Rattle.model.specs.Choice.{pick, Maybe, nothing, just, andThen}
 use Rattle.model.specs.Lists.{isNil, any, all, each}
+use Rattle.model.specs.Limits.{maxRulesBytes, maxCategories, maxActors, maxPolicyBytes}
 use Rattle.model.specs.Names.{Name, mem, twice}
 use Rattle.model.specs.Items.{Item, itemsOf}
 use Rattle.model.specs.Refusal.{Outcome, accepted, refusal, onAccept, Row, lowest, _if_}
@@ -62,7 +63,7 @@ abbrev pub categoryFaults : Rules → Name → List Name → List Name → List 
 categoryFaults r n actors over =
     (4 if not (all (λ c. mem c (categoryNames r)) over))
     ∷ (5 if mem n (categoryNames r) || twice actors || twice over)
-    ∷ (7 if leb 16 (length (r .categories)) || ltb 8 (length actors))
+    ∷ (7 if leb maxCategories (length (r .categories)) || ltb maxActors (length actors))
     ∷ (9 if not (mem (bytesOf "requestor") actors) || lacksActor r actors over)
     ∷ []
 
@@ -72,7 +73,7 @@ policyFaults b r c bytes q =
     (4 if not (mem c (categoryNames r)) || hasUndeclared b q)
     ∷ (5 if hasPolicy r c || hasTwice q)
     ∷ (6 if hasMistyped b q)
-    ∷ (7 if ltb 2048 bytes || tooMany q)
+    ∷ (7 if ltb maxPolicyBytes bytes || tooMany q)
     ∷ (8 if hasFromItself q)
     ∷ []
 
@@ -94,8 +95,8 @@ rulesStep b r l = formStep (andThen (formOf l) rulesLine) (λ x. faultOr (rulesF
 unfoldable pub covered : Rules → Outcome Rules
 covered r = pick (any (λ c. isNil (c .over) && not (hasPolicy r (c .name))) (r .categories)) (refusal 10 2 0) (accepted r)
 
--- text 2: 16,384 bytes
+-- text 2
 unfoldable pub readRules : Book → Bytes → Outcome Rules
 readRules b s =
     let rules = onAccept (readLines 2 (rulesStep b) 1 (record { categories = []; policies = [] }) (linesOf s)) covered in
-    bytesFirst 2 16384 (λ l. l) s rules
+    bytesFirst 2 maxRulesBytes (λ l. l) s rules

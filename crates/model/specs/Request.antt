@@ -5,6 +5,7 @@ use mathlib.Core.Bool.{not, _||_}
 use Rattle.model.specs.Bytes.{Bytes, bytesOf, same}
 use Rattle.model.specs.Choice.{pick, Maybe, nothing, just, andThen}
 use Rattle.model.specs.Lists.{isNil, any, each}
+use Rattle.model.specs.Limits.{maxRequestBytes}
 use Rattle.model.specs.Names.{Name, mem, twice, place}
 use Rattle.model.specs.Items.{Item, itemsOf}
 use Rattle.model.specs.Refusal.{Outcome, accepted, refusal, Row, lowest, _if_}
@@ -75,6 +76,6 @@ unfoldable pub oneLine : Book → Rules → List Line → Outcome Request
 oneLine b r [] = refusal 3 4 1
 oneLine b r (l ∷ ls) = stepThen (requestStep b r l) 4 1 (λ x. pick (isNil ls) (accepted x) (refusal 3 4 2))
 
--- text 4: 2,048 bytes
+-- text 4
 unfoldable pub readRequest : Book → Rules → Bytes → Outcome Request
-readRequest b r s = let request = oneLine b r (linesOf s) in bytesFirst 4 2048 (λ l. l) s request
+readRequest b r s = let request = oneLine b r (linesOf s) in bytesFirst 4 maxRequestBytes (λ l. l) s request

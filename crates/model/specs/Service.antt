@@ -1,5 +1,5 @@
 -- The services: from the texts and the lent buffers to the answer and to what each buffer then holds.
-use Prim.Native.Nat.{ℕ, _-_, _^_, _*_}
+use Prim.Native.Nat.{ℕ, _-_, _*_}
 use mathlib.Core.List.{List, _∷_, _++_}
 use mathlib.Core.Bool.{_||_}
 use lib.ListN.{length, drop, replicate}
@@ -7,6 +7,7 @@ use lib.Dec.{ltb}
 use Rattle.model.specs.Bytes.{Bytes}
 use Rattle.model.specs.Choice.{pick}
 use Rattle.model.specs.Lists.{joined}
+use Rattle.model.specs.Limits.{maxQueryBytes, wholeMemory, noNode}
 use Rattle.model.specs.Names.{place}
 use Rattle.model.specs.Refusal.{Outcome, accepted, refused, onAccept, refusal, refusedIf}
 use Rattle.model.specs.Book.{entryCount}
@@ -22,11 +23,11 @@ use Rattle.model.specs.Rows.{rowsOf}
 
 -- n words of all ones
 unfoldable pub ones : ℕ → List ℕ
-ones n = replicate n (2 ^ 32 - 1)
+ones n = replicate n noNode
 
--- 15 comes first: under 16,384 words of working memory
+-- 15 comes first: the working memory is not whole
 unfoldable pub withWork : {A : Type 0} → ℕ → Outcome A → Outcome A
-withWork work o = pick (ltb work 16384) (refusal 15 0 0) o
+withWork work o = pick (ltb work wholeMemory) (refusal 15 0 0) o
 
 -- what the book reader answers: counts
 pub record BookAnswer : Type 0 where
@@ -80,7 +81,7 @@ requestService work book rules request = record {
   work = ones work;
 }
 
--- the written query, if it fits its buffer and 2,048 bytes
+-- the written query, if it fits its buffer and the bytes of a query
 unfoldable pub writerText : ℕ → ℕ → Bytes → Bytes → Bytes → Outcome Bytes
 writerText work room book rules query =
     withWork work (
@@ -88,7 +89,7 @@ writerText work room book rules query =
     onAccept (readRules b rules) (λ r.
     onAccept (readQuery b query) (λ q.
     let t = writtenQuery (patternOf q) in
-    pick (ltb room (length t) || ltb 2048 (length t)) (refusal 14 3 1) (accepted t)))))
+    pick (ltb room (length t) || ltb maxQueryBytes (length t)) (refusal 14 3 1) (accepted t)))))
 
 -- what the query writer leaves
 pub record Written : Type 0 where

@@ -7,6 +7,7 @@ use lib.Dec.{ltb, eqb}
 use Rattle.model.specs.Bytes.{Bytes}
 use Rattle.model.specs.Choice.{pick, Maybe}
 use Rattle.model.specs.Lists.{any, all, keep, joined, memℕ, below}
+use Rattle.model.specs.Limits.{maxWovenVertices, maxWovenOfAKind}
 use Rattle.model.specs.Names.{Name, mem, place, firsts}
 use Rattle.model.specs.Refusal.{Row, lowest, _if_}
 use Rattle.model.specs.QueryText.{QueryText}
@@ -74,11 +75,11 @@ isExcluded (excluded u v) = true
 isExcluded (vertexHas v a r x) = false
 isExcluded (edgeHas e a r x) = false
 
--- 24 vertices, 48 of each other kind
+-- more vertices or more of another kind than fit
 unfoldable pub wovenTooMany : Pattern → Bool
 wovenTooMany p =
-    ltb 24 (length (p .vertices)) || ltb 48 (length (p .edges))
-    || ltb 48 (length (keep isExcluded (p .clauses))) || ltb 48 (length (keep (λ c. not (isExcluded c)) (p .clauses)))
+    ltb maxWovenVertices (length (p .vertices)) || ltb maxWovenOfAKind (length (p .edges))
+    || ltb maxWovenOfAKind (length (keep isExcluded (p .clauses))) || ltb maxWovenOfAKind (length (keep (λ c. not (isExcluded c)) (p .clauses)))
 
 -- the vertices that have an identity: those of a woven actor vertex's name
 unfoldable pub withIdentity : Pattern → List Identity → List ℕ

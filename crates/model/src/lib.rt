@@ -2,6 +2,7 @@
 ghost use mathlib.Core.Path.{_≡_};
 
 // "A query or policy: 8 vertices, 16 edges, 16 exclusions, 16 requirements, 4 Return names."
+// The limits of specs/Limits.antt; exclusions and requirements together are the conditions.
 pub const MAX_VERTICES: usize = 8;
 
 pub const MAX_EDGES: usize = 16;
