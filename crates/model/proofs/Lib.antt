@@ -3,6 +3,7 @@
 -- the paper's example, and its cases computed
 pub mod Example
 pub mod Cases
+pub mod ReadingExamples
 -- the theorems, a file each
 pub mod ExactModels
 pub mod EdgesMet

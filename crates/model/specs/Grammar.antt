@@ -92,14 +92,14 @@ endsAt inChain = nothing
 endsAt inWhere = nothing
 endsAt inReturn = just []
 
--- the pieces from a spot on. k signs at the front belong to the piece read last.
+-- the pieces from a spot on. A piece is read at its first sign; its other signs, k of which are still to come, are then passed one by one.
 unfoldable pub pieces : Spot → ℕ → List Sign → Maybe (List Piece)
 pieces p k [] = endsAt p
 pieces p (suc k) (t ∷ ts) = pieces p k ts
 pieces p zero (t ∷ ts) =
     andThen (pieceAt p t ts) (λ g. andThen (pieces (spotAfter (g .got)) (g .size - 1) ts) (λ ps. just (g .got ∷ ps)))
 
--- the pieces behind a vertex v of a chain: the rest of the chain, its conditions, and what follows
+-- what the pieces behind a vertex say: given that vertex, the chain from it on; the conditions of its Match; the Matches and Return that follow
 pub record Tail : Type 0 where
   pub chain : Name → Chain
   pub conditions : List Condition

@@ -50,7 +50,7 @@ onwardWith i nothing = nothing
 onwardWith i (just g) = just (record { got = more i (g .got); size = g .size + 1 })
 
 -- the items of a list up to its closing bracket. `free`: a bracket or a space stands before, so that an item may begin.
--- k bytes at the front belong to the item read last.
+-- An item is read at its first byte; its other bytes, k of which are still to come, are then passed one by one.
 unfoldable pub listAt : (Bytes → Maybe (Got Item)) → Bool → ℕ → Bytes → Maybe (Got Items)
 listAt read free k [] = nothing
 listAt read free (suc k) (b ∷ s) = onward (listAt read free k s)

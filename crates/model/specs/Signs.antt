@@ -82,7 +82,7 @@ unfoldable pub chainBehind : Bool → Sign → Bool
 chainBehind chain t = isWord (bytesOf "Match") t || chain && not (isWord (bytesOf "Where") t) && not (isWord (bytesOf "Return") t)
 
 -- the signs of a text, in a chain or not. `close`: a word or a number ends just before.
--- k bytes at the front belong to the sign read last.
+-- A sign is read at its first byte; its other bytes, k of which are still to come, are then passed one by one.
 unfoldable pub signs : Bool → Bool → ℕ → Bytes → List Sign
 signs chain close k [] = []
 signs chain close (suc k) (b ∷ s) = signs chain close k s
