@@ -1,47 +1,57 @@
--- "Checked by hand": the example and its ten cases marked *, one table and one theorem over it.
-use Prim.Native.Nat.{ℕ}
+-- "Checked by hand": the example and its ten cases marked *, one table and one theorem over it: of each the answer and every word of the row buffer.
+use Prim.Native.Nat.{ℕ, _-_}
 use Prim.Native.String.{String}
 use mathlib.Core.Path.{_≡_, refl}
-use mathlib.Core.List.{List, [], _∷_, map}
+use mathlib.Core.List.{List, [], _∷_, _++_, map}
+use lib.ListN.{length}
 use Rattle.model.specs.Bytes.{bytesOf}
 use Rattle.model.specs.Refusal.{Outcome, accepted, refused}
-use Rattle.model.specs.Service.{listRows}
+use Rattle.model.specs.Service.{Listed, ones, listService}
 use Rattle.model.specs.Computing.{computing}
 use Rattle.model.proofs.Example.{book, rules, request}
 
--- a query, the requestor, the words of the row buffer, and what the list gives
-record Case : Type 0 where
-  query : String
-  request : String
-  words : ℕ
-  gives : Outcome (List (List ℕ))
+-- a query, the request, the words of the row buffer; what the list answers, and the words that its rows are
+pub record Case : Type 0 where
+  pub query : String
+  pub request : String
+  pub words : ℕ
+  pub answer : Outcome ℕ
+  pub rows : List ℕ
 
-abbrev run : Case → Outcome (List (List ℕ))
-run c = listRows 16384 (c .words) (bytesOf book) (bytesOf rules) (bytesOf (c .query)) (bytesOf (c .request))
+-- what the list is to leave: its answer, its rows from the first word on and then all ones, a working memory of all ones
+abbrev pub leaves : Case → Listed
+leaves c = record { answer = c .answer; rows = c .rows ++ ones (c .words - length (c .rows)); work = ones 16384 }
 
-abbrev rows : List (List ℕ) → Outcome (List (List ℕ))
-rows rs = accepted rs
+-- what it leaves
+abbrev pub run : Case → Listed
+run c = listService 16384 (c .words) (bytesOf book) (bytesOf rules) (bytesOf (c .query)) (bytesOf (c .request))
 
-abbrev refusal′ : ℕ → ℕ → ℕ → Outcome (List (List ℕ))
-refusal′ n t l = refused (record { number = n; text = t; line = l })
+-- the example's request, and the row buffer that the list program lends
+abbrev asks : String → Outcome ℕ → List ℕ → Case
+asks q o ws = record { query = q; request = request; words = 16384; answer = o; rows = ws }
 
--- ana, hub, S5, S6 are the nodes 0, 1, 2, 3
-abbrev cases : List Case
+-- returned (number, text, line)
+abbrev returned : ℕ → ℕ → ℕ → Outcome ℕ
+returned n t l = refused (record { number = n; text = t; line = l })
+
+-- the example, then the ten cases in the paper's order; ana, hub, S5, S6 are the nodes 0, 1, 2, 3
+abbrev pub cases : List Case
 cases =
-    record { query = "Match (requestor)-[a:runs]->(h)<-[b:feeds]-(s) Where s.rate < 50 Return s"; request = request; words = 16384; gives = rows ((2 ∷ []) ∷ []) }
-    ∷ record { query = "Match (requestor)-[a:runs]->(h)<-[b:feeds]-(s) Return s"; request = request; words = 16384; gives = rows ((2 ∷ []) ∷ (3 ∷ []) ∷ []) }
-    ∷ record { query = "Match (requestor)-[a:runs]->(h)<-[b:feeds]-(s) Where s.rate <> 50 Return s"; request = request; words = 16384; gives = rows ((2 ∷ []) ∷ []) }
-    ∷ record { query = "Match (requestor)-[a:runs]->(h)<-[b:feeds]-(s) Where s.rate < 40 Return s"; request = request; words = 16384; gives = rows [] }
-    ∷ record { query = "Match (requestor)-[a:runs]->(h)<-[b:feeds]-(s) Where s.rate <= 40 Return s"; request = request; words = 16384; gives = rows ((2 ∷ []) ∷ []) }
-    ∷ record { query = "Match (requestor)-[a:runs]->(h)<-[b:feeds]-(s) Where s.rate < 50 Return s"; request = "(request view (id requestor S5))\n"; words = 16384; gives = rows [] }
-    ∷ record { query = "Match (requestor)-[a:runs]->(h)<-[b:feeds]-(s) Where s.rate < 50 Match (t) Return s"; request = request; words = 16384; gives = refusal′ 13 5 0 }
-    ∷ record { query = "Match (requestor)-[a:runs]->(h)<-[b:feeds]-(s) Where h <> h Return s"; request = request; words = 16384; gives = refusal′ 8 3 1 }
-    ∷ record { query = "Match (requestor)-[a:runs]->(h)<-[b:feeds]-(s) Where s.rate < 50 Return s"; request = request; words = 0; gives = refusal′ 14 5 0 }
-    ∷ record { query = "Match (requestor)-[a:runs]->(h)<-[b:feeds]-(s) Where s.rate < 40 Return s"; request = request; words = 0; gives = rows [] }
-    ∷ record { query = "Match (requestor)-[a:runs]->(h)<-[b:feeds]-(s) Where s.rate = 'x' Return s"; request = request; words = 16384; gives = refusal′ 6 3 1 }
-    ∷ record { query = "Match (requestor)-[a:runs]->(h)<-[b:feeds]-(s) Where s.rate < 50 Return s, s"; request = request; words = 16384; gives = refusal′ 5 3 1 }
+    asks "Match (requestor)-[a:runs]->(h)<-[b:feeds]-(s) Where s.rate < 50 Return s" (accepted 1) (2 ∷ [])
+    ∷ asks "Match (requestor)-[a:runs]->(h)<-[b:feeds]-(s) Return s" (accepted 2) (2 ∷ 3 ∷ [])
+    ∷ asks "Match (requestor)-[a:runs]->(h)<-[b:feeds]-(s) Where s.rate <> 50 Return s" (accepted 1) (2 ∷ [])
+    ∷ asks "Match (requestor)-[a:runs]->(h)<-[b:feeds]-(s) Where s.rate < 40 Return s" (accepted 0) []
+    ∷ asks "Match (requestor)-[a:runs]->(h)<-[b:feeds]-(s) Where s.rate <= 40 Return s" (accepted 1) (2 ∷ [])
+    ∷ record { query = "Match (requestor)-[a:runs]->(h)<-[b:feeds]-(s) Where s.rate < 50 Return s"; request = "(request view (id requestor S5))\n"; words = 16384; answer = accepted 0; rows = [] }
+    ∷ asks "Match (requestor)-[a:runs]->(h)<-[b:feeds]-(s) Where s.rate < 50 Match (t) Return s" (returned 13 5 0) []
+    ∷ asks "Match (requestor)-[a:runs]->(h)<-[b:feeds]-(s) Where h <> h Return s" (returned 8 3 1) []
+    ∷ record { query = "Match (requestor)-[a:runs]->(h)<-[b:feeds]-(s) Where s.rate < 50 Return s"; request = request; words = 0; answer = returned 14 5 0; rows = [] }
+    ∷ record { query = "Match (requestor)-[a:runs]->(h)<-[b:feeds]-(s) Where s.rate < 40 Return s"; request = request; words = 0; answer = accepted 0; rows = [] }
+    ∷ asks "Match (requestor)-[a:runs]->(h)<-[b:feeds]-(s) Where s.rate = 'x' Return s" (returned 6 3 1) []
+    ∷ asks "Match (requestor)-[a:runs]->(h)<-[b:feeds]-(s) Where s.rate < 50 Return s, s" (returned 5 3 1) []
     ∷ []
 
-table : map run cases ≡ map (λ c. c .gives) cases
+-- the list leaves of each case what it is to leave
+pub checked-by-hand : map run cases ≡ map leaves cases
 unfolding computing
-table = refl
+checked-by-hand = refl
