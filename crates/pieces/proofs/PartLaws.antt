@@ -1,15 +1,16 @@
 -- What the readers of signs give, put to use in a row of reads.
 use Prim.Native.Nat.{ℕ, _<_}
 use mathlib.Core.Path.{_≡_, refl, sym, ap, _∙_, subst}
-use mathlib.Core.List.{List, [], _∷_}
+use mathlib.Core.List.{List, [], _∷_, _++_}
 use mathlib.Core.Bool.{Bool, true, false}
 use Rattle.model.specs.Bytes.{Bytes, bytesOf}
 use Rattle.model.specs.Choice.{pick, Maybe, nothing, just, andThen}
 use Rattle.model.specs.Values.{Value}
-use Rattle.model.specs.Signs.{Sign, isMark, signName, signValue, next, expect}
+use Rattle.model.specs.Signs.{Sign, mark, isMark, signName, signValue, next, expect}
 use Rattle.model.specs.QueryText.{Relation, Condition}
 use Rattle.model.specs.Grammar.{signRelation}
 use Rattle.model.specs.Answers.{nameAt, relationOf, valueOf}
+use Rattle.model.specs.Places.{Bracket, none, bracketOf, Standing, vertex, edge, variableAt}
 use Rattle.model.specs.declared.Part.{Part}
 use Rattle.model.specs.declared.Relation.{Relation as RelationData}
 use Rattle.model.specs.declared.Value.{Value as ValueData}
@@ -22,8 +23,8 @@ use Rattle.signs.specs.declared.RelationRead.the-variants as relation
 use Rattle.signs.specs.declared.ValueRead.{ValueRead}
 use Rattle.signs.specs.declared.ValueRead.the-variants as value
 use Rattle.signs.specs.Marks.{markBytes}
-use Rattle.signs.specs.Reads.{signsFrom}
-use Rattle.signs.specs.Expected.{Then, behindMark, MarkBehind, MarkNext, behindName, NameBehind, NameNext, behindRelation, RelationBehind, RelationNext, behindValue, ValueBehind, ValueNext}
+use Rattle.signs.specs.Reads.{signsFrom, standingsFrom}
+use Rattle.signs.specs.Expected.{Then, behindMark, MarkBehind, MarkStands, MarkNext, behindName, NameBehind, NameStands, NameNext, behindRelation, RelationBehind, RelationStands, RelationNext, behindValue, ValueBehind, ValueStands, ValueNext, valueStanding}
 use Rattle.signs.proofs.ExpectLaws.{expect-then, next-then}
 use Rattle.pieces.specs.Walk.{Walk}
 use native.Mathlib.Omega.{arith}
@@ -32,7 +33,7 @@ use Rattle.pieces.specs.declared.PieceRead.the-variants as read
 use Rattle.pieces.specs.declared.Link.{Link}
 use Rattle.pieces.specs.declared.LinkRead.{LinkRead}
 use Rattle.pieces.specs.declared.LinkRead.the-variants as link
-use Rattle.pieces.specs.Steps.{otherThen, valueThen, restThen, vertexThen, onVertex, VertexBehind, VertexNext, linkThen, onLink, LinkBehind, LinkNext, StepBehind}
+use Rattle.pieces.specs.Steps.{otherThen, valueThen, restThen, vertexThen, onVertex, VertexBehind, VertexStands, VertexNext, linkThen, onLink, LinkBehind, LinkStands, LinkNext, StepBehind, StepStands}
 
 module _ (chain close : Bool) (s : Bytes) (from code : ℕ) (r : End) (h : MarkNext chain close s from code r) where
   pub mark-read : (q : ℕ) → r ≡ end.At q → (f : List Sign → Maybe Walk) → expect (markBytes code) (signsFrom chain close s from) f ≡ f (signsFrom chain false s q)
@@ -46,6 +47,9 @@ module _ (chain close : Bool) (s : Bytes) (from code : ℕ) (r : End) (h : MarkN
   pub mark-moves : (q : ℕ) → r ≡ end.At q → from < q
   mark-moves q e = subst (MarkBehind from) e (h .moves)
 
+  pub mark-stands : (q : ℕ) → r ≡ end.At q → (o : Bracket) → standingsFrom o chain close s from ≡ standingsFrom (bracketOf (mark (markBytes code))) chain false s q
+  mark-stands q e o = subst (MarkStands o chain close s from code) e (h .stands o)
+
 module _ (chain close : Bool) (s : Bytes) (from : ℕ) (r : NameRead) (h : NameNext chain close s from r) where
   pub name-read : (p : Part) (q : ℕ) → r ≡ name.Found p q → (f : Bytes → List Sign → Maybe Walk) → next signName (signsFrom chain close s from) f ≡ f (nameAt s p) (signsFrom chain true s q)
   unfolding behindName andThen
@@ -57,6 +61,9 @@ module _ (chain close : Bool) (s : Bytes) (from : ℕ) (r : NameRead) (h : NameN
 
   pub name-moves : (p : Part) (q : ℕ) → r ≡ name.Found p q → from < q
   name-moves p q e = subst (NameBehind from) e (h .moves)
+
+  pub name-stands : (p : Part) (q : ℕ) → r ≡ name.Found p q → (o : Bracket) → standingsFrom o chain close s from ≡ variableAt o p ++ standingsFrom none chain true s q
+  name-stands p q e o = subst (NameStands o chain close s from) e (h .stands o)
 
 module _ (close : Bool) (s : Bytes) (from : ℕ) (r : RelationRead) (h : RelationNext close s from r) where
   pub relation-read : (d : RelationData) (q : ℕ) → r ≡ relation.Found d q → (f : Relation → List Sign → Maybe Walk) → next signRelation (signsFrom false close s from) f ≡ f (relationOf d) (signsFrom false false s q)
@@ -70,6 +77,9 @@ module _ (close : Bool) (s : Bytes) (from : ℕ) (r : RelationRead) (h : Relatio
   pub relation-moves : (d : RelationData) (q : ℕ) → r ≡ relation.Found d q → from < q
   relation-moves d q e = subst (RelationBehind from) e (h .moves)
 
+  pub relation-stands : (d : RelationData) (q : ℕ) → r ≡ relation.Found d q → (o : Bracket) → standingsFrom o false close s from ≡ standingsFrom none false false s q
+  relation-stands d q e o = subst (RelationStands o close s from) e (h .stands o)
+
 module _ (close : Bool) (s : Bytes) (from : ℕ) (r : ValueRead) (h : ValueNext close s from r) where
   pub value-read : (v : ValueData) (q : ℕ) (c : Bool) → r ≡ value.Found v q c → (f : Value → List Sign → Maybe Walk) → next signValue (signsFrom false close s from) f ≡ f (valueOf s v) (signsFrom false c s q)
   unfolding behindValue andThen
@@ -81,6 +91,9 @@ module _ (close : Bool) (s : Bytes) (from : ℕ) (r : ValueRead) (h : ValueNext 
 
   pub value-moves : (v : ValueData) (q : ℕ) (c : Bool) → r ≡ value.Found v q c → from < q
   value-moves v q c e = subst (ValueBehind from) e (h .moves)
+
+  pub value-stands : (v : ValueData) (q : ℕ) (c : Bool) → r ≡ value.Found v q c → standingsFrom none false close s from ≡ valueStanding v ++ standingsFrom none false c s q
+  value-stands v q c e = subst (ValueStands close s from) e (h .stands)
 
 -- a condition by the sign behind its variable
 differs-read : (x : Bytes) (ts rest : List Sign) (f : Condition → List Sign → Maybe Walk) → expect (bytesOf "<>") ts just ≡ just rest → restThen x ts f ≡ otherThen x rest f
@@ -125,6 +138,9 @@ module _ (close : Bool) (s : Bytes) (from : ℕ) (r : NameRead) (h : VertexNext 
   pub vertex-moves : (p : Part) (q : ℕ) → r ≡ name.Found p q → from < q
   vertex-moves p q e = subst (VertexBehind from) e (h .moves)
 
+  pub vertex-stands : (p : Part) (q : ℕ) → r ≡ name.Found p q → (o : Bracket) → standingsFrom o true close s from ≡ vertex p ∷ standingsFrom none true false s q
+  vertex-stands p q e o = subst (VertexStands o close s from) e (h .stands o)
+
 module _ (arrow : ℕ) (s : Bytes) (from : ℕ) (r : LinkRead) (h : LinkNext (markBytes arrow) s from r) where
   pub link-read : (l : Link) (q : ℕ) → r ≡ link.Found l q → (f : Bytes → Bytes → Bytes → List Sign → Maybe Walk)
       → linkThen (markBytes arrow) (signsFrom true false s from) f ≡ f (nameAt s (l .edge)) (nameAt s (l .label)) (nameAt s (l .vertex)) (signsFrom true false s q)
@@ -138,7 +154,15 @@ module _ (arrow : ℕ) (s : Bytes) (from : ℕ) (r : LinkRead) (h : LinkNext (ma
   pub link-moves : (l : Link) (q : ℕ) → r ≡ link.Found l q → from < q
   link-moves l q e = subst (LinkBehind from) e (h .moves)
 
+  pub link-stands : (l : Link) (q : ℕ) → r ≡ link.Found l q → standingsFrom none true false s from ≡ edge (l .edge) ∷ vertex (l .vertex) ∷ standingsFrom none true false s q
+  link-stands l q e = subst (LinkStands s from) e (h .stands)
+
 -- what is behind a place is behind each place before it
 pub step-farther : (a b : ℕ) (r : PieceRead) → a < b → StepBehind b r → StepBehind a r
 step-farther a b (read.None w) l h = tt
 step-farther a b (read.Found x) l h = omega arith
+
+-- what stands before a step stands before it where it is written otherwise
+pub step-stands : {l m : List Standing} (s : Bytes) (r : PieceRead) → l ≡ m → StepStands m s r → StepStands l s r
+step-stands s (read.None w) e h = tt
+step-stands s (read.Found x) e h = e ∙ h

@@ -1,7 +1,7 @@
 -- The piece at each spot, by what its first sign is.
 use Prim.Native.Nat.{ℕ, _≤_, _<_}
 use mathlib.Core.Path.{_≡_, refl, sym, ap, _∙_, subst}
-use mathlib.Core.List.{List, [], _∷_}
+use mathlib.Core.List.{List, [], _∷_, _++_}
 use mathlib.Core.Bool.{Bool, true, false}
 use native.Mathlib.Omega.{arith}
 use lib.ListN.{length}
@@ -12,12 +12,14 @@ use Rattle.model.specs.Choice.{pick, Maybe, nothing, just, andThen}
 use Rattle.model.specs.Signs.{Sign, word, whole, text, mark, broken, isWord, isMark, wordy, signs}
 use Rattle.model.specs.Signs.{chainBehind}
 use Rattle.model.specs.Grammar.{Piece, goes, comes, Spot, atStart, inChain, inWhere, inReturn, startAt, linkAt, conditionAt, returnAt, pieceAt}
+use Rattle.model.specs.Places.{none, bracketOf, Standing, variableAt, standingAt}
 use Rattle.model.proofs.Decides.{same→eq}
 use Rattle.signs.specs.declared.Sign.{Sign as SignData}
+use Rattle.signs.specs.declared.Sign.the-variants as read
 use Rattle.signs.specs.declared.SignRead.{SignRead}
 use Rattle.signs.specs.declared.SignRead.the-variants as sign
 use Rattle.signs.specs.Marks.{markBytes}
-use Rattle.signs.specs.Reads.{signOf, signsFrom, First, first, firstOf, Behind, NextSign}
+use Rattle.signs.specs.Reads.{signOf, signsFrom, standingsFrom, standingOf, First, first, firstOf, Behind, SignStands, NextSign}
 use Rattle.signs.specs.Expected.{codeOf}
 use Rattle.signs.specs.Reads.{isBlank}
 use Rattle.signs.proofs.ExpectLaws.{code-is, code-mark}
@@ -28,7 +30,8 @@ use Rattle.pieces.specs.declared.Spot.{Spot as SpotData}
 use Rattle.pieces.specs.declared.Spot.the-variants.{AtStart, InChain, InWhere, InReturn}
 use Rattle.pieces.specs.declared.PieceRead.{PieceRead}
 use Rattle.pieces.specs.Walk.{Walk, stopped, orStopped, endsWell, walk}
-use Rattle.pieces.specs.Steps.{spotOf, chainAt, walkAt, stepOf, StepBehind, piecesBy, StepIs, signsBehind, walkBy}
+use Rattle.pieces.proofs.PartLaws.{step-stands}
+use Rattle.pieces.specs.Steps.{spotOf, chainAt, walkAt, stepOf, StepBehind, piecesBy, StepIs, signsBehind, walkBy, standingsAt, standingsBy}
 
 -- a sign that is this word
 word-is : (w : Bytes) (x : Sign) → isWord w x ≡ true → x ≡ word w
@@ -40,50 +43,66 @@ word-is w (mark m) e = cc
 word-is w broken e = cc
 
 module _ (s : Bytes) (t : SignData) (q : ℕ) where
-  by-sign : (p : SpotData) (x : Sign) → signOf s t ≡ x
-      → walkBy p s t q ≡ piecesBy (pieceAt (spotOf p) x (signsFrom (chainBehind (chainAt p) x) (wordy x) s q)) (signsFrom (chainBehind (chainAt p) x) (wordy x) s q)
+  -- a sign that is no text value says nothing at the front of a piece
+  quiet : (x : Sign) → signOf s t ≡ x → standingAt x none 0 ≡ [] → standingOf none t ≡ []
+  unfolding standingAt signOf standingOf variableAt
+  quiet x e n = go t (ap (λ y. standingAt y none 0) e ∙ n)
+    where
+      go : (t : SignData) → standingAt (signOf s t) none 0 ≡ [] → standingOf none t ≡ []
+      go (read.Word p) h = refl
+      go (read.Whole m) h = refl
+      go (read.Text p) h = cc
+      go (read.Mark c) h = refl
+
+  by-sign : (p : SpotData) (x : Sign) → signOf s t ≡ x → standingAt x none 0 ≡ []
+      → (walkBy p s t q ≡ piecesBy (pieceAt (spotOf p) x (signsFrom (chainBehind (chainAt p) x) (wordy x) s q)) (signsFrom (chainBehind (chainAt p) x) (wordy x) s q))
+      × (standingsBy p s t q ≡ standingsFrom (bracketOf x) (chainBehind (chainAt p) x) (wordy x) s q)
   unfolding walkBy
-  by-sign p x e = rw e
+  by-sign p x e n = (rw e, rw (quiet x e n, e))
 
-  pub first-match : isWord (bytesOf "Match") (signOf s t) ≡ true → walkBy AtStart s t q ≡ piecesBy (startAt (signsFrom true true s q)) (signsFrom true true s q)
-  unfolding pieceAt isWord isMark same chainBehind chainAt spotOf wordy
-  first-match e = by-sign AtStart (word (bytesOf "Match")) (word-is (bytesOf "Match") (signOf s t) e)
+  -- at another spot that is the same
+  pub by-spot : {o p : SpotData} → o ≡ p → (walkBy o s t q ≡ walkBy p s t q) × (standingsBy o s t q ≡ standingsBy p s t q)
+  by-spot e = (ap (λ p. walkBy p s t q) e, ap (λ p. standingsBy p s t q) e)
 
-  pub chain-match : isWord (bytesOf "Match") (signOf s t) ≡ true → walkBy InChain s t q ≡ piecesBy (startAt (signsFrom true true s q)) (signsFrom true true s q)
-  unfolding pieceAt isWord isMark same chainBehind chainAt spotOf wordy
-  chain-match e = by-sign InChain (word (bytesOf "Match")) (word-is (bytesOf "Match") (signOf s t) e)
+  pub first-match : isWord (bytesOf "Match") (signOf s t) ≡ true → (walkBy AtStart s t q ≡ piecesBy (startAt (signsFrom true true s q)) (signsFrom true true s q)) × (standingsBy AtStart s t q ≡ standingsFrom none true true s q)
+  unfolding pieceAt isWord isMark same chainBehind chainAt spotOf wordy bracketOf standingAt variableAt
+  first-match e = by-sign AtStart (word (bytesOf "Match")) (word-is (bytesOf "Match") (signOf s t) e) refl
 
-  pub where-match : isWord (bytesOf "Match") (signOf s t) ≡ true → walkBy InWhere s t q ≡ piecesBy (startAt (signsFrom true true s q)) (signsFrom true true s q)
-  unfolding pieceAt isWord isMark same chainBehind chainAt spotOf wordy
-  where-match e = by-sign InWhere (word (bytesOf "Match")) (word-is (bytesOf "Match") (signOf s t) e)
+  pub chain-match : isWord (bytesOf "Match") (signOf s t) ≡ true → (walkBy InChain s t q ≡ piecesBy (startAt (signsFrom true true s q)) (signsFrom true true s q)) × (standingsBy InChain s t q ≡ standingsFrom none true true s q)
+  unfolding pieceAt isWord isMark same chainBehind chainAt spotOf wordy bracketOf standingAt variableAt
+  chain-match e = by-sign InChain (word (bytesOf "Match")) (word-is (bytesOf "Match") (signOf s t) e) refl
 
-  pub chain-where : isWord (bytesOf "Where") (signOf s t) ≡ true → walkBy InChain s t q ≡ piecesBy (conditionAt (signsFrom false true s q)) (signsFrom false true s q)
-  unfolding pieceAt isWord isMark same chainBehind chainAt spotOf wordy
-  chain-where e = by-sign InChain (word (bytesOf "Where")) (word-is (bytesOf "Where") (signOf s t) e)
+  pub where-match : isWord (bytesOf "Match") (signOf s t) ≡ true → (walkBy InWhere s t q ≡ piecesBy (startAt (signsFrom true true s q)) (signsFrom true true s q)) × (standingsBy InWhere s t q ≡ standingsFrom none true true s q)
+  unfolding pieceAt isWord isMark same chainBehind chainAt spotOf wordy bracketOf standingAt variableAt
+  where-match e = by-sign InWhere (word (bytesOf "Match")) (word-is (bytesOf "Match") (signOf s t) e) refl
 
-  pub where-and : isWord (bytesOf "AND") (signOf s t) ≡ true → walkBy InWhere s t q ≡ piecesBy (conditionAt (signsFrom false true s q)) (signsFrom false true s q)
-  unfolding pieceAt isWord isMark same chainBehind chainAt spotOf wordy
-  where-and e = by-sign InWhere (word (bytesOf "AND")) (word-is (bytesOf "AND") (signOf s t) e)
+  pub chain-where : isWord (bytesOf "Where") (signOf s t) ≡ true → (walkBy InChain s t q ≡ piecesBy (conditionAt (signsFrom false true s q)) (signsFrom false true s q)) × (standingsBy InChain s t q ≡ standingsFrom none false true s q)
+  unfolding pieceAt isWord isMark same chainBehind chainAt spotOf wordy bracketOf standingAt variableAt
+  chain-where e = by-sign InChain (word (bytesOf "Where")) (word-is (bytesOf "Where") (signOf s t) e) refl
 
-  pub chain-return : isWord (bytesOf "Return") (signOf s t) ≡ true → walkBy InChain s t q ≡ piecesBy (returnAt (signsFrom false true s q)) (signsFrom false true s q)
-  unfolding pieceAt isWord isMark same chainBehind chainAt spotOf wordy
-  chain-return e = by-sign InChain (word (bytesOf "Return")) (word-is (bytesOf "Return") (signOf s t) e)
+  pub where-and : isWord (bytesOf "AND") (signOf s t) ≡ true → (walkBy InWhere s t q ≡ piecesBy (conditionAt (signsFrom false true s q)) (signsFrom false true s q)) × (standingsBy InWhere s t q ≡ standingsFrom none false true s q)
+  unfolding pieceAt isWord isMark same chainBehind chainAt spotOf wordy bracketOf standingAt variableAt
+  where-and e = by-sign InWhere (word (bytesOf "AND")) (word-is (bytesOf "AND") (signOf s t) e) refl
 
-  pub where-return : isWord (bytesOf "Return") (signOf s t) ≡ true → walkBy InWhere s t q ≡ piecesBy (returnAt (signsFrom false true s q)) (signsFrom false true s q)
-  unfolding pieceAt isWord isMark same chainBehind chainAt spotOf wordy
-  where-return e = by-sign InWhere (word (bytesOf "Return")) (word-is (bytesOf "Return") (signOf s t) e)
+  pub chain-return : isWord (bytesOf "Return") (signOf s t) ≡ true → (walkBy InChain s t q ≡ piecesBy (returnAt (signsFrom false true s q)) (signsFrom false true s q)) × (standingsBy InChain s t q ≡ standingsFrom none false true s q)
+  unfolding pieceAt isWord isMark same chainBehind chainAt spotOf wordy bracketOf standingAt variableAt
+  chain-return e = by-sign InChain (word (bytesOf "Return")) (word-is (bytesOf "Return") (signOf s t) e) refl
 
-  pub chain-goes : codeOf t ≡ 45 → walkBy InChain s t q ≡ piecesBy (linkAt goes (bytesOf "->") (signsFrom true false s q)) (signsFrom true false s q)
-  unfolding pieceAt isWord isMark same chainBehind chainAt spotOf wordy markBytes
-  chain-goes e = by-sign InChain (mark (bytesOf "-")) (code-is s t 45 (omega arith) e)
+  pub where-return : isWord (bytesOf "Return") (signOf s t) ≡ true → (walkBy InWhere s t q ≡ piecesBy (returnAt (signsFrom false true s q)) (signsFrom false true s q)) × (standingsBy InWhere s t q ≡ standingsFrom none false true s q)
+  unfolding pieceAt isWord isMark same chainBehind chainAt spotOf wordy bracketOf standingAt variableAt
+  where-return e = by-sign InWhere (word (bytesOf "Return")) (word-is (bytesOf "Return") (signOf s t) e) refl
 
-  pub chain-comes : codeOf t ≡ 15405 → walkBy InChain s t q ≡ piecesBy (linkAt comes (bytesOf "-") (signsFrom true false s q)) (signsFrom true false s q)
-  unfolding pieceAt isWord isMark same chainBehind chainAt spotOf wordy markBytes
-  chain-comes e = by-sign InChain (mark (bytesOf "<-")) (code-is s t 15405 (omega arith) e)
+  pub chain-goes : codeOf t ≡ 45 → (walkBy InChain s t q ≡ piecesBy (linkAt goes (bytesOf "->") (signsFrom true false s q)) (signsFrom true false s q)) × (standingsBy InChain s t q ≡ standingsFrom none true false s q)
+  unfolding pieceAt isWord isMark same chainBehind chainAt spotOf wordy bracketOf standingAt variableAt markBytes
+  chain-goes e = by-sign InChain (mark (bytesOf "-")) (code-is s t 45 (omega arith) e) refl
 
-  pub return-comma : codeOf t ≡ 44 → walkBy InReturn s t q ≡ piecesBy (returnAt (signsFrom false false s q)) (signsFrom false false s q)
-  unfolding pieceAt isWord isMark same chainBehind chainAt spotOf wordy markBytes
-  return-comma e = by-sign InReturn (mark (bytesOf ",")) (code-is s t 44 (omega arith) e)
+  pub chain-comes : codeOf t ≡ 15405 → (walkBy InChain s t q ≡ piecesBy (linkAt comes (bytesOf "-") (signsFrom true false s q)) (signsFrom true false s q)) × (standingsBy InChain s t q ≡ standingsFrom none true false s q)
+  unfolding pieceAt isWord isMark same chainBehind chainAt spotOf wordy bracketOf standingAt variableAt markBytes
+  chain-comes e = by-sign InChain (mark (bytesOf "<-")) (code-is s t 15405 (omega arith) e) refl
+
+  pub return-comma : codeOf t ≡ 44 → (walkBy InReturn s t q ≡ piecesBy (returnAt (signsFrom false false s q)) (signsFrom false false s q)) × (standingsBy InReturn s t q ≡ standingsFrom none false false s q)
+  unfolding pieceAt isWord isMark same chainBehind chainAt spotOf wordy bracketOf standingAt variableAt markBytes
+  return-comma e = by-sign InReturn (mark (bytesOf ",")) (code-is s t 44 (omega arith) e) refl
 
   pub first-none : isWord (bytesOf "Match") (signOf s t) ≡ false → walkBy AtStart s t q ≡ stopped false
   unfolding walkBy pieceAt piecesBy andThen orStopped spotOf
@@ -105,8 +124,8 @@ module _ (s : Bytes) (t : SignData) (q : ℕ) where
   return-none a = rw (no-mark 44 (omega arith) a)
 
 -- a step of an equal walk
-pub step-same : (v w : Walk) (s : Bytes) (from : ℕ) (r : PieceRead) → v ≡ w → StepIs w s from r → StepIs v s from r
-step-same v w s from r e h = record { reads = e ∙ h .reads; moves = h .moves }
+pub step-same : {k l : List Standing} (v w : Walk) (s : Bytes) (from : ℕ) (r : PieceRead) → (v ≡ w) × (k ≡ l) → StepIs w l s from r → StepIs v k s from r
+step-same v w s from r e h = record { reads = e .0 ∙ h .reads; moves = h .moves; stands = step-stands s r (e .1) (h .stands) }
 
 -- the first sign of a list that has one
 first-some : (ts : List Sign) (x : First) → first ts ≡ just x → ts ≡ x .sign ∷ x .rest
@@ -156,3 +175,6 @@ module _ (s : Bytes) (place : Place) (at : ℕ) (p : at ≡ past isBlank s (plac
 
     pub place-moves : (t : SignData) (q : ℕ) → r ≡ sign.Found t q → place .at < q
     place-moves t q e = subst (Behind (place .at)) e (h .moves)
+
+    pub place-stands : (t : SignData) (q : ℕ) → r ≡ sign.Found t q → standingsAt s place ≡ standingsBy (place .spot) s t q
+    place-stands t q e = subst (SignStands none (chainAt (place .spot)) (place .close) s (place .at)) e (h .stands none)

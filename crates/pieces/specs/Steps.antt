@@ -1,7 +1,7 @@
 -- The pieces of a text from a place on, one step after another.
 use Prim.Native.Nat.{ℕ, _-_, _<_}
 use mathlib.Core.Path.{_≡_}
-use mathlib.Core.List.{List, [], _∷_}
+use mathlib.Core.List.{List, [], _∷_, _++_}
 use mathlib.Core.Bool.{Bool, true, false}
 use lib.Dec.{T}
 use Rattle.model.specs.Bytes.{Bytes, bytesOf}
@@ -12,7 +12,9 @@ use Rattle.model.specs.Signs.{Sign, isMark, wordy, signName, signValue, next, e
 use Rattle.model.specs.QueryText.{Relation, Condition, differ, demand}
 use Rattle.model.specs.Grammar.{Piece, start, goes, comes, asks, returns, Spot, atStart, inChain, inWhere, inReturn, spotAfter, signRelation, pieceAt}
 use Rattle.model.specs.Answers.{nameAt, relationOf, valueOf}
-use Rattle.signs.specs.Reads.{signOf, signsFrom}
+use Rattle.model.specs.Places.{Bracket, none, bracketOf, Standing, vertex, edge}
+use Rattle.signs.specs.Reads.{signOf, signsFrom, standingsFrom, standingOf}
+use Rattle.signs.specs.Expected.{valueStanding}
 use Rattle.signs.specs.declared.Sign.{Sign as SignData}
 use Rattle.signs.specs.declared.NameRead.{NameRead}
 use Rattle.signs.specs.declared.NameRead.the-variants as name
@@ -55,6 +57,19 @@ pieceOf s (piece.Returns v) = returns (nameAt s v)
 unfoldable pub walkAt : Bytes → Place → Walk
 walkAt s p = walk (spotOf (p .spot)) 0 (signsFrom (chainAt (p .spot)) (p .close) s (p .at))
 
+-- the variables and text values from a place on
+abbrev pub standingsAt : Bytes → Place → List Standing
+standingsAt s p = standingsFrom none (chainAt (p .spot)) (p .close) s (p .at)
+
+-- the variables of a chain's piece, the text value of a condition
+unfoldable pub pieceStanding : PieceData → List Standing
+pieceStanding (piece.Start v) = vertex v ∷ []
+pieceStanding (piece.Goes l) = edge (l .edge) ∷ vertex (l .vertex) ∷ []
+pieceStanding (piece.Comes l) = edge (l .edge) ∷ vertex (l .vertex) ∷ []
+pieceStanding (piece.Differ v u) = []
+pieceStanding (piece.Asks d) = valueStanding (d .value)
+pieceStanding (piece.Returns v) = []
+
 -- a piece and what follows it; or none
 unfoldable pub stepOf : Bytes → PieceRead → Walk
 stepOf s (read.None w) = stopped w
@@ -64,14 +79,20 @@ abbrev pub StepBehind : ℕ → PieceRead → Type 0
 StepBehind from (read.None w) = T true
 StepBehind from (read.Found x) = from < x .next .at
 
+-- what stands is of a piece and of what follows it
+abbrev pub StepStands : List Standing → Bytes → PieceRead → Type 0
+StepStands l s (read.None w) = T true
+StepStands l s (read.Found x) = l ≡ pieceStanding (x .piece) ++ standingsAt s (x .next)
+
 -- a piece that was read at the front of signs, and what follows it
 unfoldable pub piecesBy : Maybe (Got Piece) → List Sign → Walk
 piecesBy m ts = orStopped (andThen m (λ g. just (ahead (g .got) (walk (spotAfter (g .got)) (g .size - 1) ts))))
 
--- a walk is r and what follows it, behind a place
-pub record StepIs (w : Walk) (s : Bytes) (from : ℕ) (r : PieceRead) : Type 0 where
+-- a walk is r and what follows it, behind a place; so is what stands there
+pub record StepIs (w : Walk) (l : List Standing) (s : Bytes) (from : ℕ) (r : PieceRead) : Type 0 where
   pub reads : w ≡ stepOf s r
   pub moves : StepBehind from r
+  pub stands : StepStands l s r
 
 -- the signs behind the first sign, which ends at a place
 abbrev pub signsBehind : SpotData → Bytes → SignData → ℕ → List Sign
@@ -81,10 +102,15 @@ signsBehind p s t q = let x = signOf s t in signsFrom (Rattle.model.specs.Signs
 unfoldable pub walkBy : SpotData → Bytes → SignData → ℕ → Walk
 walkBy p s t q = piecesBy (pieceAt (spotOf p) (signOf s t) (signsBehind p s t q)) (signsBehind p s t q)
 
+-- what stands there, by the first sign and the place behind it
+abbrev pub standingsBy : SpotData → Bytes → SignData → ℕ → List Standing
+standingsBy p s t q = let x = signOf s t in standingOf none t ++ standingsFrom (bracketOf x) (Rattle.model.specs.Signs.chainBehind (chainAt p) x) (wordy x) s q
+
 -- r is the piece at a place
 pub record StepAt (s : Bytes) (p : Place) (r : PieceRead) : Type 0 where
   pub reads : walkAt s p ≡ stepOf s r
   pub moves : StepBehind (p .at) r
+  pub stands : StepStands (standingsAt s p) s r
 
 -- (v), and then the rest
 unfoldable pub vertexThen : List Sign → (Bytes → List Sign → Maybe Walk) → Maybe Walk
@@ -98,9 +124,14 @@ abbrev pub VertexBehind : ℕ → NameRead → Type 0
 VertexBehind from name.None = T true
 VertexBehind from (name.Found p q) = from < q
 
+abbrev pub VertexStands : Bracket → Bool → Bytes → ℕ → NameRead → Type 0
+VertexStands o close s from name.None = T true
+VertexStands o close s from (name.Found p q) = standingsFrom o true close s from ≡ vertex p ∷ standingsFrom none true false s q
+
 pub record VertexNext (close : Bool) (s : Bytes) (from : ℕ) (r : NameRead) : Type 0 where
   pub reads : (f : Bytes → List Sign → Maybe Walk) → vertexThen (signsFrom true close s from) f ≡ onVertex s r f
   pub moves : VertexBehind from r
+  pub stands : (o : Bracket) → VertexStands o close s from r
 
 -- [e:id], an arrow's end, (v), and then the rest
 unfoldable pub linkThen : Bytes → List Sign → (Bytes → Bytes → Bytes → List Sign → Maybe Walk) → Maybe Walk
@@ -121,9 +152,14 @@ abbrev pub LinkBehind : ℕ → LinkRead → Type 0
 LinkBehind from link.None = T true
 LinkBehind from (link.Found l q) = from < q
 
+abbrev pub LinkStands : Bytes → ℕ → LinkRead → Type 0
+LinkStands s from link.None = T true
+LinkStands s from (link.Found l q) = standingsFrom none true false s from ≡ edge (l .edge) ∷ vertex (l .vertex) ∷ standingsFrom none true false s q
+
 pub record LinkNext (arrow : Bytes) (s : Bytes) (from : ℕ) (r : LinkRead) : Type 0 where
   pub reads : (f : Bytes → Bytes → Bytes → List Sign → Maybe Walk) → linkThen arrow (signsFrom true false s from) f ≡ onLink s r f
   pub moves : LinkBehind from r
+  pub stands : LinkStands s from r
 
 -- v <> u, and then the rest; or x.attr REL value, from behind the variable x
 unfoldable pub otherThen : Bytes → List Sign → (Condition → List Sign → Maybe Walk) → Maybe Walk

@@ -7,7 +7,8 @@ ghost use Rattle.model.specs.Signs.{expect};
 ghost use Rattle.model.specs.Grammar.{startAt, linkAt, conditionAt, returnAt};
 ghost use Rattle.model.specs.Answers.{nameAt};
 ghost use Rattle.signs.specs.Marks.{markBytes};
-ghost use Rattle.signs.specs.Reads.{signsFrom};
+ghost use Rattle.model.specs.Places.{none};
+ghost use Rattle.signs.specs.Reads.{signsFrom, standingsFrom};
 ghost use Rattle.pieces.specs.Walk.{orStopped};
 ghost use Rattle.pieces.specs.Steps.{VertexNext, LinkNext, StepIs, piecesBy, otherThen, valueThen, asked};
 use crate::Demand;
@@ -80,7 +81,7 @@ fn link(s: &[u8], from: usize, arrow: usize) -> LinkRead
 
 // Match (v), from behind Match.
 pub fn start(s: &[u8], from: usize) -> PieceRead
-    ensures { λ r. ⌜ StepIs (piecesBy (startAt (signsFrom true true (now (s .entry)) from)) (signsFrom true true (now (s .entry)) from)) (now (s .entry)) from r ⌝ }
+    ensures { λ r. ⌜ StepIs (piecesBy (startAt (signsFrom true true (now (s .entry)) from)) (signsFrom true true (now (s .entry)) from)) (standingsFrom none true true (now (s .entry)) from) (now (s .entry)) from r ⌝ }
 {
     let NameRead::Found(v, q) = vertex(s, from, true) else {
         return PieceRead::None(false);
@@ -97,7 +98,7 @@ pub fn start(s: &[u8], from: usize) -> PieceRead
 
 // -[e:id]->(v), from behind the minus.
 pub fn goes(s: &[u8], from: usize) -> PieceRead
-    ensures { λ r. ⌜ StepIs (piecesBy (linkAt Rattle.model.specs.Grammar.Piece.goes (bytesOf "->") (signsFrom true false (now (s .entry)) from)) (signsFrom true false (now (s .entry)) from)) (now (s .entry)) from r ⌝ }
+    ensures { λ r. ⌜ StepIs (piecesBy (linkAt Rattle.model.specs.Grammar.Piece.goes (bytesOf "->") (signsFrom true false (now (s .entry)) from)) (signsFrom true false (now (s .entry)) from)) (standingsFrom none true false (now (s .entry)) from) (now (s .entry)) from r ⌝ }
 {
     let LinkRead::Found(l, q) = link(s, from, marks::RIGHTWARD) else {
         return PieceRead::None(false);
@@ -114,7 +115,7 @@ pub fn goes(s: &[u8], from: usize) -> PieceRead
 
 // <-[e:id]-(v), from behind the arrow.
 pub fn comes(s: &[u8], from: usize) -> PieceRead
-    ensures { λ r. ⌜ StepIs (piecesBy (linkAt Rattle.model.specs.Grammar.Piece.comes (bytesOf "-") (signsFrom true false (now (s .entry)) from)) (signsFrom true false (now (s .entry)) from)) (now (s .entry)) from r ⌝ }
+    ensures { λ r. ⌜ StepIs (piecesBy (linkAt Rattle.model.specs.Grammar.Piece.comes (bytesOf "-") (signsFrom true false (now (s .entry)) from)) (signsFrom true false (now (s .entry)) from)) (standingsFrom none true false (now (s .entry)) from) (now (s .entry)) from r ⌝ }
 {
     let LinkRead::Found(l, q) = link(s, from, marks::MINUS) else {
         return PieceRead::None(false);
@@ -131,7 +132,7 @@ pub fn comes(s: &[u8], from: usize) -> PieceRead
 
 // v <> u, from behind the sign.
 fn differ(s: &[u8], v: Part, from: usize) -> PieceRead
-    ensures { λ r. ⌜ StepIs (orStopped (otherThen (nameAt (now (s .entry)) v) (signsFrom false false (now (s .entry)) from) asked)) (now (s .entry)) from r ⌝ }
+    ensures { λ r. ⌜ StepIs (orStopped (otherThen (nameAt (now (s .entry)) v) (signsFrom false false (now (s .entry)) from) asked)) (standingsFrom none false false (now (s .entry)) from) (now (s .entry)) from r ⌝ }
 {
     let NameRead::Found(u, q) = expected::name_next(s, from, false, false) else {
         return PieceRead::None(false);
@@ -148,7 +149,7 @@ fn differ(s: &[u8], v: Part, from: usize) -> PieceRead
 
 // x.attr REL value, from behind x.
 fn demand(s: &[u8], subject: Part, from: usize) -> PieceRead
-    ensures { λ r. ⌜ StepIs (orStopped (expect (bytesOf ".") (signsFrom false true (now (s .entry)) from) (λ ts. valueThen (nameAt (now (s .entry)) subject) ts asked))) (now (s .entry)) from r ⌝ }
+    ensures { λ r. ⌜ StepIs (orStopped (expect (bytesOf ".") (signsFrom false true (now (s .entry)) from) (λ ts. valueThen (nameAt (now (s .entry)) subject) ts asked))) (standingsFrom none false true (now (s .entry)) from) (now (s .entry)) from r ⌝ }
 {
     let End::At(a) = expected::mark_next(s, from, false, true, marks::DOT) else {
         return PieceRead::None(false);
@@ -179,7 +180,7 @@ fn demand(s: &[u8], subject: Part, from: usize) -> PieceRead
 
 // A condition, from behind Where or AND.
 pub fn condition(s: &[u8], from: usize) -> PieceRead
-    ensures { λ r. ⌜ StepIs (piecesBy (conditionAt (signsFrom false true (now (s .entry)) from)) (signsFrom false true (now (s .entry)) from)) (now (s .entry)) from r ⌝ }
+    ensures { λ r. ⌜ StepIs (piecesBy (conditionAt (signsFrom false true (now (s .entry)) from)) (signsFrom false true (now (s .entry)) from)) (standingsFrom none false true (now (s .entry)) from) (now (s .entry)) from r ⌝ }
 {
     let NameRead::Found(x, a) = expected::name_next(s, from, false, true) else {
         return PieceRead::None(false);
@@ -192,7 +193,7 @@ pub fn condition(s: &[u8], from: usize) -> PieceRead
 
 // A returned name, from behind Return or a comma.
 pub fn returned(s: &[u8], from: usize, close: bool) -> PieceRead
-    ensures { λ r. ⌜ StepIs (piecesBy (returnAt (signsFrom false close (now (s .entry)) from)) (signsFrom false close (now (s .entry)) from)) (now (s .entry)) from r ⌝ }
+    ensures { λ r. ⌜ StepIs (piecesBy (returnAt (signsFrom false close (now (s .entry)) from)) (signsFrom false close (now (s .entry)) from)) (standingsFrom none false close (now (s .entry)) from) (now (s .entry)) from r ⌝ }
 {
     let NameRead::Found(v, q) = expected::name_next(s, from, false, close) else {
         return PieceRead::None(false);

@@ -4,7 +4,7 @@ ghost use Rattle.model.specs.Signs.{isWord};
 ghost use Rattle.signs.specs.Reads.{signOf};
 ghost use Rattle.pieces.specs.declared.Spot.the-variants.{AtStart, InChain, InWhere, InReturn};
 ghost use Rattle.pieces.specs.Walk.{endsWell};
-ghost use Rattle.pieces.specs.Steps.{StepIs, walkBy, spotOf, chainAt};
+ghost use Rattle.pieces.specs.Steps.{StepIs, walkBy, standingsBy, spotOf, chainAt};
 use crate::PieceRead;
 use crate::Spot;
 use crate::parts;
@@ -55,7 +55,7 @@ pub fn in_chain(spot: Spot) -> bool
 
 // The piece at the beginning, whose first sign ends at q.
 fn first_piece(s: &[u8], t: Sign, q: usize) -> PieceRead
-    ensures { λ r. ⌜ StepIs (walkBy AtStart (now (s .entry)) t q) (now (s .entry)) q r ⌝ }
+    ensures { λ r. ⌜ StepIs (walkBy AtStart (now (s .entry)) t q) (standingsBy AtStart (now (s .entry)) t q) (now (s .entry)) q r ⌝ }
 {
     if is_word(s, t, b"Match") {
         return parts::start(s, q);
@@ -65,7 +65,7 @@ fn first_piece(s: &[u8], t: Sign, q: usize) -> PieceRead
 
 // The piece behind a chain, whose first sign ends at q.
 fn chain_piece(s: &[u8], t: Sign, q: usize) -> PieceRead
-    ensures { λ r. ⌜ StepIs (walkBy InChain (now (s .entry)) t q) (now (s .entry)) q r ⌝ }
+    ensures { λ r. ⌜ StepIs (walkBy InChain (now (s .entry)) t q) (standingsBy InChain (now (s .entry)) t q) (now (s .entry)) q r ⌝ }
 {
     let code = expected::mark_code(t);
     if code == marks::MINUS {
@@ -88,7 +88,7 @@ fn chain_piece(s: &[u8], t: Sign, q: usize) -> PieceRead
 
 // The piece behind a condition, whose first sign ends at q.
 fn where_piece(s: &[u8], t: Sign, q: usize) -> PieceRead
-    ensures { λ r. ⌜ StepIs (walkBy InWhere (now (s .entry)) t q) (now (s .entry)) q r ⌝ }
+    ensures { λ r. ⌜ StepIs (walkBy InWhere (now (s .entry)) t q) (standingsBy InWhere (now (s .entry)) t q) (now (s .entry)) q r ⌝ }
 {
     if is_word(s, t, b"AND") {
         return parts::condition(s, q);
@@ -104,7 +104,7 @@ fn where_piece(s: &[u8], t: Sign, q: usize) -> PieceRead
 
 // The piece behind a returned name, whose first sign ends at q.
 fn return_piece(s: &[u8], t: Sign, q: usize) -> PieceRead
-    ensures { λ r. ⌜ StepIs (walkBy InReturn (now (s .entry)) t q) (now (s .entry)) q r ⌝ }
+    ensures { λ r. ⌜ StepIs (walkBy InReturn (now (s .entry)) t q) (standingsBy InReturn (now (s .entry)) t q) (now (s .entry)) q r ⌝ }
 {
     if expected::mark_code(t) == marks::COMMA {
         return parts::returned(s, q, false);
@@ -114,7 +114,7 @@ fn return_piece(s: &[u8], t: Sign, q: usize) -> PieceRead
 
 // The piece at a spot, whose first sign ends at q.
 pub fn piece_by(s: &[u8], spot: Spot, t: Sign, q: usize) -> PieceRead
-    ensures { λ r. ⌜ StepIs (walkBy spot (now (s .entry)) t q) (now (s .entry)) q r ⌝ }
+    ensures { λ r. ⌜ StepIs (walkBy spot (now (s .entry)) t q) (standingsBy spot (now (s .entry)) t q) (now (s .entry)) q r ⌝ }
 {
     match spot {
         Spot::AtStart => first_piece(s, t, q),

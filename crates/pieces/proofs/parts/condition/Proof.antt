@@ -1,5 +1,9 @@
+use Rattle.model.specs.Places.{none, bracketOf, variableAt}
+use Rattle.model.specs.Signs.{isMark}
+use Rattle.model.specs.Bytes.{same}
+use Rattle.signs.specs.Marks.{markBytes}
 use Rattle.pieces.proofs.StepLaws.{condition-by}
-use Rattle.pieces.proofs.PartLaws.{name-read, name-unread, name-moves, mark-moves, rest-differs, rest-asks, step-farther}
+use Rattle.pieces.proofs.PartLaws.{name-read, name-unread, name-moves, mark-moves, rest-differs, rest-asks, step-farther, name-stands, mark-stands, step-stands}
 use Rattle.pieces.specs.Steps.{stepOf, asked}
 use Rattle.pieces.specs.Walk.{orStopped, stopped}
 use Rattle.signs.specs.Reads.{signsFrom}
@@ -32,7 +36,7 @@ enum-told c = search needs
 -- src/parts.rt:185:9
 returns : tie.Need-returns
 unfolding stepOf orStopped
-returns c = record { reads = condition-by (signsFrom false true (c .before .before .before .before .args .s .now) (c .before .before .before .before .args .from)) ∙ ap orStopped (name-unread false true (c .before .before .before .before .args .s .now) (c .before .before .before .before .args .from) (c .before .before .name-next .result) (c .before .before .name-next .ensures) (c .enum-told .given .1) _); moves = tt }
+returns c = record { reads = condition-by (signsFrom false true (c .before .before .before .before .args .s .now) (c .before .before .before .before .args .from)) ∙ ap orStopped (name-unread false true (c .before .before .before .before .args .s .now) (c .before .before .before .before .args .from) (c .before .before .name-next .result) (c .before .before .name-next .ensures) (c .enum-told .given .1) _); moves = tt; stands = tt }
 
 -- src/parts.rt:187:11
 mark-next-requires : tie.Need-mark-next-requires
@@ -56,16 +60,20 @@ demand-requires c κs = search needs
 
 -- src/parts.rt:181:1
 returns-2 : tie.Need-returns-2
+unfolding bracketOf isMark same markBytes variableAt
 returns-2 c = record {
   reads = condition-by (signsFrom false true (c .before .before .before .before .before .before .before .before .before .before .args .s .now) (c .before .before .before .before .before .before .before .before .before .before .args .from)) ∙ ap orStopped (name-read false true (c .before .before .before .before .before .before .before .before .before .before .args .s .now) (c .before .before .before .before .before .before .before .before .before .before .args .from) (c .before .before .before .before .before .before .before .before .name-next .result) (c .before .before .before .before .before .before .before .before .name-next .ensures) (c .before .before .before .before .before .before .x .given .0 .0) (c .before .before .before .before .before .before .x .given .0 .1 .0) (c .before .before .before .before .before .before .x .given .1) _ ∙ rest-differs (c .before .before .before .before .before .before .before .before .before .before .args .s .now) (c .before .before .before .before .before .before .x .given .0 .1 .0) (c .before .before .before .before .mark-next .result) (c .before .before .before .before .mark-next .ensures) (nameAt (c .before .before .before .before .before .before .before .before .before .before .args .s .now) (c .before .before .before .before .before .before .x .given .0 .0)) asked (c .before .before .b .given .0 .0) (c .before .before .b .given .1)) ∙ c .differ .ensures .reads;
   moves = step-farther (c .before .before .before .before .before .before .before .before .before .before .args .from) (c .before .before .b .given .0 .0) (c .differ .result) (omega (arith, name-moves false true (c .before .before .before .before .before .before .before .before .before .before .args .s .now) (c .before .before .before .before .before .before .before .before .before .before .args .from) (c .before .before .before .before .before .before .before .before .name-next .result) (c .before .before .before .before .before .before .before .before .name-next .ensures) (c .before .before .before .before .before .before .x .given .0 .0) (c .before .before .before .before .before .before .x .given .0 .1 .0) (c .before .before .before .before .before .before .x .given .1), mark-moves false true (c .before .before .before .before .before .before .before .before .before .before .args .s .now) (c .before .before .before .before .before .before .x .given .0 .1 .0) 15422 (c .before .before .before .before .mark-next .result) (c .before .before .before .before .mark-next .ensures) (c .before .before .b .given .0 .0) (c .before .before .b .given .1))) (c .differ .ensures .moves);
+  stands = step-stands (c .before .before .before .before .before .before .before .before .before .before .args .s .now) (c .differ .result) (name-stands false true (c .before .before .before .before .before .before .before .before .before .before .args .s .now) (c .before .before .before .before .before .before .before .before .before .before .args .from) (c .before .before .before .before .before .before .before .before .name-next .result) (c .before .before .before .before .before .before .before .before .name-next .ensures) (c .before .before .before .before .before .before .x .given .0 .0) (c .before .before .before .before .before .before .x .given .0 .1 .0) (c .before .before .before .before .before .before .x .given .1) none ∙ mark-stands false true (c .before .before .before .before .before .before .before .before .before .before .args .s .now) (c .before .before .before .before .before .before .x .given .0 .1 .0) 15422 (c .before .before .before .before .mark-next .result) (c .before .before .before .before .mark-next .ensures) (c .before .before .b .given .0 .0) (c .before .before .b .given .1) none) (c .differ .ensures .stands);
 }
 
 -- src/parts.rt:181:1
 returns-3 : tie.Need-returns-3
+unfolding bracketOf isMark same markBytes variableAt
 returns-3 c = record {
   reads = condition-by (signsFrom false true (c .before .before .before .before .before .before .before .before .before .args .s .now) (c .before .before .before .before .before .before .before .before .before .args .from)) ∙ ap orStopped (name-read false true (c .before .before .before .before .before .before .before .before .before .args .s .now) (c .before .before .before .before .before .before .before .before .before .args .from) (c .before .before .before .before .before .before .before .name-next .result) (c .before .before .before .before .before .before .before .name-next .ensures) (c .before .before .before .before .before .x .given .0 .0) (c .before .before .before .before .before .x .given .0 .1 .0) (c .before .before .before .before .before .x .given .1) _ ∙ rest-asks (c .before .before .before .before .before .before .before .before .before .args .s .now) (c .before .before .before .before .before .x .given .0 .1 .0) (c .before .before .before .mark-next .result) (c .before .before .before .mark-next .ensures) (nameAt (c .before .before .before .before .before .before .before .before .before .args .s .now) (c .before .before .before .before .before .x .given .0 .0)) asked (c .before .enum-told2 .given .1)) ∙ c .demand .ensures .reads;
   moves = step-farther (c .before .before .before .before .before .before .before .before .before .args .from) (c .before .before .before .before .before .x .given .0 .1 .0) (c .demand .result) (name-moves false true (c .before .before .before .before .before .before .before .before .before .args .s .now) (c .before .before .before .before .before .before .before .before .before .args .from) (c .before .before .before .before .before .before .before .name-next .result) (c .before .before .before .before .before .before .before .name-next .ensures) (c .before .before .before .before .before .x .given .0 .0) (c .before .before .before .before .before .x .given .0 .1 .0) (c .before .before .before .before .before .x .given .1)) (c .demand .ensures .moves);
+  stands = step-stands (c .before .before .before .before .before .before .before .before .before .args .s .now) (c .demand .result) (name-stands false true (c .before .before .before .before .before .before .before .before .before .args .s .now) (c .before .before .before .before .before .before .before .before .before .args .from) (c .before .before .before .before .before .before .before .name-next .result) (c .before .before .before .before .before .before .before .name-next .ensures) (c .before .before .before .before .before .x .given .0 .0) (c .before .before .before .before .before .x .given .0 .1 .0) (c .before .before .before .before .before .x .given .1) none) (c .demand .ensures .stands);
 }
 
 pub condition-spec : {M : Type 1} → statement M

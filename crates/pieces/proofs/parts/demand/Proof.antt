@@ -1,7 +1,10 @@
+use Rattle.model.specs.Places.{none, bracketOf, variableAt}
+use Rattle.model.specs.Signs.{isMark}
+use Rattle.model.specs.Bytes.{same}
 use Rattle.pieces.specs.Steps.{valueThen}
-use Rattle.pieces.proofs.PartLaws.{mark-read, mark-unread, mark-moves, name-read, name-unread, name-moves, relation-read, relation-unread, relation-moves, value-read, value-unread, value-moves}
+use Rattle.pieces.proofs.PartLaws.{mark-read, mark-unread, mark-moves, name-read, name-unread, name-moves, relation-read, relation-unread, relation-moves, value-read, value-unread, value-moves, mark-stands, name-stands, relation-stands, value-stands}
 use Rattle.signs.specs.Marks.{markBytes}
-use Rattle.pieces.specs.Steps.{stepOf, walkAt, pieceOf, spotOf, chainAt}
+use Rattle.pieces.specs.Steps.{stepOf, walkAt, pieceOf, spotOf, chainAt, pieceStanding}
 use Rattle.pieces.specs.Walk.{orStopped, stopped, walk}
 use native.Mathlib.Omega.{arith}
 use mathlib.Core.Bool.{true, false}
@@ -31,7 +34,7 @@ enum-told c = search needs
 -- src/parts.rt:154:9
 returns : tie.Need-returns
 unfolding stepOf walkAt pieceOf spotOf chainAt orStopped valueThen markBytes
-returns c = record { reads = ap orStopped (mark-unread false true (c .before .before .before .before .args .s .now) (c .before .before .before .before .args .from) 46 (c .before .before .mark-next .result) (c .before .before .mark-next .ensures) (c .enum-told .given .1) _); moves = tt }
+returns c = record { reads = ap orStopped (mark-unread false true (c .before .before .before .before .args .s .now) (c .before .before .before .before .args .from) 46 (c .before .before .mark-next .result) (c .before .before .mark-next .ensures) (c .enum-told .given .1) _); moves = tt; stands = tt }
 
 -- src/parts.rt:156:41
 name-next-requires : tie.Need-name-next-requires
@@ -48,7 +51,7 @@ enum-told-2 c = search needs
 -- src/parts.rt:157:9
 returns-2 : tie.Need-returns-2
 unfolding stepOf walkAt pieceOf spotOf chainAt orStopped valueThen markBytes
-returns-2 c = record { reads = ap orStopped (mark-read false true (c .before .before .before .before .before .before .before .before .args .s .now) (c .before .before .before .before .before .before .before .before .args .from) 46 (c .before .before .before .before .before .before .mark-next .result) (c .before .before .before .before .before .before .mark-next .ensures) (c .before .before .before .before .a .given .0 .0) (c .before .before .before .before .a .given .1) _ ∙ name-unread false false (c .before .before .before .before .before .before .before .before .args .s .now) (c .before .before .before .before .a .given .0 .0) (c .before .before .name-next .result) (c .before .before .name-next .ensures) (c .enum-told2 .given .1) _); moves = tt }
+returns-2 c = record { reads = ap orStopped (mark-read false true (c .before .before .before .before .before .before .before .before .args .s .now) (c .before .before .before .before .before .before .before .before .args .from) 46 (c .before .before .before .before .before .before .mark-next .result) (c .before .before .before .before .before .before .mark-next .ensures) (c .before .before .before .before .a .given .0 .0) (c .before .before .before .before .a .given .1) _ ∙ name-unread false false (c .before .before .before .before .before .before .before .before .args .s .now) (c .before .before .before .before .a .given .0 .0) (c .before .before .name-next .result) (c .before .before .name-next .ensures) (c .enum-told2 .given .1) _); moves = tt; stands = tt }
 
 -- src/parts.rt:159:44
 relation-next-requires : tie.Need-relation-next-requires
@@ -65,7 +68,7 @@ enum-told-3 c = search needs
 -- src/parts.rt:160:9
 returns-3 : tie.Need-returns-3
 unfolding stepOf walkAt pieceOf spotOf chainAt orStopped valueThen markBytes
-returns-3 c = record { reads = ap orStopped (mark-read false true (c .before .before .before .before .before .before .before .before .before .before .before .before .args .s .now) (c .before .before .before .before .before .before .before .before .before .before .before .before .args .from) 46 (c .before .before .before .before .before .before .before .before .before .before .mark-next .result) (c .before .before .before .before .before .before .before .before .before .before .mark-next .ensures) (c .before .before .before .before .before .before .before .before .a .given .0 .0) (c .before .before .before .before .before .before .before .before .a .given .1) _ ∙ name-read false false (c .before .before .before .before .before .before .before .before .before .before .before .before .args .s .now) (c .before .before .before .before .before .before .before .before .a .given .0 .0) (c .before .before .before .before .before .before .name-next .result) (c .before .before .before .before .before .before .name-next .ensures) (c .before .before .before .before .attribute .given .0 .0) (c .before .before .before .before .attribute .given .0 .1 .0) (c .before .before .before .before .attribute .given .1) _ ∙ relation-unread true (c .before .before .before .before .before .before .before .before .before .before .before .before .args .s .now) (c .before .before .before .before .attribute .given .0 .1 .0) (c .before .before .relation-next .result) (c .before .before .relation-next .ensures) (c .enum-told3 .given .1) _); moves = tt }
+returns-3 c = record { reads = ap orStopped (mark-read false true (c .before .before .before .before .before .before .before .before .before .before .before .before .args .s .now) (c .before .before .before .before .before .before .before .before .before .before .before .before .args .from) 46 (c .before .before .before .before .before .before .before .before .before .before .mark-next .result) (c .before .before .before .before .before .before .before .before .before .before .mark-next .ensures) (c .before .before .before .before .before .before .before .before .a .given .0 .0) (c .before .before .before .before .before .before .before .before .a .given .1) _ ∙ name-read false false (c .before .before .before .before .before .before .before .before .before .before .before .before .args .s .now) (c .before .before .before .before .before .before .before .before .a .given .0 .0) (c .before .before .before .before .before .before .name-next .result) (c .before .before .before .before .before .before .name-next .ensures) (c .before .before .before .before .attribute .given .0 .0) (c .before .before .before .before .attribute .given .0 .1 .0) (c .before .before .before .before .attribute .given .1) _ ∙ relation-unread true (c .before .before .before .before .before .before .before .before .before .before .before .before .args .s .now) (c .before .before .before .before .attribute .given .0 .1 .0) (c .before .before .relation-next .result) (c .before .before .relation-next .ensures) (c .enum-told3 .given .1) _); moves = tt; stands = tt }
 
 -- src/parts.rt:162:45
 value-next-requires : tie.Need-value-next-requires
@@ -82,12 +85,12 @@ enum-told-4 c = search needs
 -- src/parts.rt:163:9
 returns-4 : tie.Need-returns-4
 unfolding stepOf walkAt pieceOf spotOf chainAt orStopped valueThen markBytes
-returns-4 c = record { reads = ap orStopped (mark-read false true (c .before .before .before .before .before .before .before .before .before .before .before .before .before .before .before .before .args .s .now) (c .before .before .before .before .before .before .before .before .before .before .before .before .before .before .before .before .args .from) 46 (c .before .before .before .before .before .before .before .before .before .before .before .before .before .before .mark-next .result) (c .before .before .before .before .before .before .before .before .before .before .before .before .before .before .mark-next .ensures) (c .before .before .before .before .before .before .before .before .before .before .before .before .a .given .0 .0) (c .before .before .before .before .before .before .before .before .before .before .before .before .a .given .1) _ ∙ name-read false false (c .before .before .before .before .before .before .before .before .before .before .before .before .before .before .before .before .args .s .now) (c .before .before .before .before .before .before .before .before .before .before .before .before .a .given .0 .0) (c .before .before .before .before .before .before .before .before .before .before .name-next .result) (c .before .before .before .before .before .before .before .before .before .before .name-next .ensures) (c .before .before .before .before .before .before .before .before .attribute .given .0 .0) (c .before .before .before .before .before .before .before .before .attribute .given .0 .1 .0) (c .before .before .before .before .before .before .before .before .attribute .given .1) _ ∙ relation-read true (c .before .before .before .before .before .before .before .before .before .before .before .before .before .before .before .before .args .s .now) (c .before .before .before .before .before .before .before .before .attribute .given .0 .1 .0) (c .before .before .before .before .before .before .relation-next .result) (c .before .before .before .before .before .before .relation-next .ensures) (c .before .before .before .before .relation .given .0 .0) (c .before .before .before .before .relation .given .0 .1 .0) (c .before .before .before .before .relation .given .1) _ ∙ value-unread false (c .before .before .before .before .before .before .before .before .before .before .before .before .before .before .before .before .args .s .now) (c .before .before .before .before .relation .given .0 .1 .0) (c .before .before .value-next .result) (c .before .before .value-next .ensures) (c .enum-told4 .given .1) _); moves = tt }
+returns-4 c = record { reads = ap orStopped (mark-read false true (c .before .before .before .before .before .before .before .before .before .before .before .before .before .before .before .before .args .s .now) (c .before .before .before .before .before .before .before .before .before .before .before .before .before .before .before .before .args .from) 46 (c .before .before .before .before .before .before .before .before .before .before .before .before .before .before .mark-next .result) (c .before .before .before .before .before .before .before .before .before .before .before .before .before .before .mark-next .ensures) (c .before .before .before .before .before .before .before .before .before .before .before .before .a .given .0 .0) (c .before .before .before .before .before .before .before .before .before .before .before .before .a .given .1) _ ∙ name-read false false (c .before .before .before .before .before .before .before .before .before .before .before .before .before .before .before .before .args .s .now) (c .before .before .before .before .before .before .before .before .before .before .before .before .a .given .0 .0) (c .before .before .before .before .before .before .before .before .before .before .name-next .result) (c .before .before .before .before .before .before .before .before .before .before .name-next .ensures) (c .before .before .before .before .before .before .before .before .attribute .given .0 .0) (c .before .before .before .before .before .before .before .before .attribute .given .0 .1 .0) (c .before .before .before .before .before .before .before .before .attribute .given .1) _ ∙ relation-read true (c .before .before .before .before .before .before .before .before .before .before .before .before .before .before .before .before .args .s .now) (c .before .before .before .before .before .before .before .before .attribute .given .0 .1 .0) (c .before .before .before .before .before .before .relation-next .result) (c .before .before .before .before .before .before .relation-next .ensures) (c .before .before .before .before .relation .given .0 .0) (c .before .before .before .before .relation .given .0 .1 .0) (c .before .before .before .before .relation .given .1) _ ∙ value-unread false (c .before .before .before .before .before .before .before .before .before .before .before .before .before .before .before .before .args .s .now) (c .before .before .before .before .relation .given .0 .1 .0) (c .before .before .value-next .result) (c .before .before .value-next .ensures) (c .enum-told4 .given .1) _); moves = tt; stands = tt }
 
 -- src/parts.rt:150:1
 returns-5 : tie.Need-returns-5
-unfolding stepOf walkAt pieceOf spotOf chainAt orStopped valueThen markBytes
-returns-5 c = record { reads = ap orStopped (mark-read false true (c .before .before .before .before .before .before .before .before .before .before .before .before .before .before .before .before .before .args .s .now) (c .before .before .before .before .before .before .before .before .before .before .before .before .before .before .before .before .before .args .from) 46 (c .before .before .before .before .before .before .before .before .before .before .before .before .before .before .before .mark-next .result) (c .before .before .before .before .before .before .before .before .before .before .before .before .before .before .before .mark-next .ensures) (c .before .before .before .before .before .before .before .before .before .before .before .before .before .a .given .0 .0) (c .before .before .before .before .before .before .before .before .before .before .before .before .before .a .given .1) _ ∙ name-read false false (c .before .before .before .before .before .before .before .before .before .before .before .before .before .before .before .before .before .args .s .now) (c .before .before .before .before .before .before .before .before .before .before .before .before .before .a .given .0 .0) (c .before .before .before .before .before .before .before .before .before .before .before .name-next .result) (c .before .before .before .before .before .before .before .before .before .before .before .name-next .ensures) (c .before .before .before .before .before .before .before .before .before .attribute .given .0 .0) (c .before .before .before .before .before .before .before .before .before .attribute .given .0 .1 .0) (c .before .before .before .before .before .before .before .before .before .attribute .given .1) _ ∙ relation-read true (c .before .before .before .before .before .before .before .before .before .before .before .before .before .before .before .before .before .args .s .now) (c .before .before .before .before .before .before .before .before .before .attribute .given .0 .1 .0) (c .before .before .before .before .before .before .before .relation-next .result) (c .before .before .before .before .before .before .before .relation-next .ensures) (c .before .before .before .before .before .relation .given .0 .0) (c .before .before .before .before .before .relation .given .0 .1 .0) (c .before .before .before .before .before .relation .given .1) _ ∙ value-read false (c .before .before .before .before .before .before .before .before .before .before .before .before .before .before .before .before .before .args .s .now) (c .before .before .before .before .before .relation .given .0 .1 .0) (c .before .before .before .value-next .result) (c .before .before .before .value-next .ensures) (c .before .value .given .0 .0) (c .before .value .given .0 .1 .0) (c .before .value .given .0 .1 .1 .0) (c .before .value .given .1) _); moves = omega (arith, mark-moves false true (c .before .before .before .before .before .before .before .before .before .before .before .before .before .before .before .before .before .args .s .now) (c .before .before .before .before .before .before .before .before .before .before .before .before .before .before .before .before .before .args .from) 46 (c .before .before .before .before .before .before .before .before .before .before .before .before .before .before .before .mark-next .result) (c .before .before .before .before .before .before .before .before .before .before .before .before .before .before .before .mark-next .ensures) (c .before .before .before .before .before .before .before .before .before .before .before .before .before .a .given .0 .0) (c .before .before .before .before .before .before .before .before .before .before .before .before .before .a .given .1), name-moves false false (c .before .before .before .before .before .before .before .before .before .before .before .before .before .before .before .before .before .args .s .now) (c .before .before .before .before .before .before .before .before .before .before .before .before .before .a .given .0 .0) (c .before .before .before .before .before .before .before .before .before .before .before .name-next .result) (c .before .before .before .before .before .before .before .before .before .before .before .name-next .ensures) (c .before .before .before .before .before .before .before .before .before .attribute .given .0 .0) (c .before .before .before .before .before .before .before .before .before .attribute .given .0 .1 .0) (c .before .before .before .before .before .before .before .before .before .attribute .given .1), relation-moves true (c .before .before .before .before .before .before .before .before .before .before .before .before .before .before .before .before .before .args .s .now) (c .before .before .before .before .before .before .before .before .before .attribute .given .0 .1 .0) (c .before .before .before .before .before .before .before .relation-next .result) (c .before .before .before .before .before .before .before .relation-next .ensures) (c .before .before .before .before .before .relation .given .0 .0) (c .before .before .before .before .before .relation .given .0 .1 .0) (c .before .before .before .before .before .relation .given .1), value-moves false (c .before .before .before .before .before .before .before .before .before .before .before .before .before .before .before .before .before .args .s .now) (c .before .before .before .before .before .relation .given .0 .1 .0) (c .before .before .before .value-next .result) (c .before .before .before .value-next .ensures) (c .before .value .given .0 .0) (c .before .value .given .0 .1 .0) (c .before .value .given .0 .1 .1 .0) (c .before .value .given .1)) }
+unfolding stepOf walkAt pieceOf spotOf chainAt orStopped valueThen markBytes pieceStanding bracketOf isMark same variableAt
+returns-5 c = record { reads = ap orStopped (mark-read false true (c .before .before .before .before .before .before .before .before .before .before .before .before .before .before .before .before .before .args .s .now) (c .before .before .before .before .before .before .before .before .before .before .before .before .before .before .before .before .before .args .from) 46 (c .before .before .before .before .before .before .before .before .before .before .before .before .before .before .before .mark-next .result) (c .before .before .before .before .before .before .before .before .before .before .before .before .before .before .before .mark-next .ensures) (c .before .before .before .before .before .before .before .before .before .before .before .before .before .a .given .0 .0) (c .before .before .before .before .before .before .before .before .before .before .before .before .before .a .given .1) _ ∙ name-read false false (c .before .before .before .before .before .before .before .before .before .before .before .before .before .before .before .before .before .args .s .now) (c .before .before .before .before .before .before .before .before .before .before .before .before .before .a .given .0 .0) (c .before .before .before .before .before .before .before .before .before .before .before .name-next .result) (c .before .before .before .before .before .before .before .before .before .before .before .name-next .ensures) (c .before .before .before .before .before .before .before .before .before .attribute .given .0 .0) (c .before .before .before .before .before .before .before .before .before .attribute .given .0 .1 .0) (c .before .before .before .before .before .before .before .before .before .attribute .given .1) _ ∙ relation-read true (c .before .before .before .before .before .before .before .before .before .before .before .before .before .before .before .before .before .args .s .now) (c .before .before .before .before .before .before .before .before .before .attribute .given .0 .1 .0) (c .before .before .before .before .before .before .before .relation-next .result) (c .before .before .before .before .before .before .before .relation-next .ensures) (c .before .before .before .before .before .relation .given .0 .0) (c .before .before .before .before .before .relation .given .0 .1 .0) (c .before .before .before .before .before .relation .given .1) _ ∙ value-read false (c .before .before .before .before .before .before .before .before .before .before .before .before .before .before .before .before .before .args .s .now) (c .before .before .before .before .before .relation .given .0 .1 .0) (c .before .before .before .value-next .result) (c .before .before .before .value-next .ensures) (c .before .value .given .0 .0) (c .before .value .given .0 .1 .0) (c .before .value .given .0 .1 .1 .0) (c .before .value .given .1) _); moves = omega (arith, mark-moves false true (c .before .before .before .before .before .before .before .before .before .before .before .before .before .before .before .before .before .args .s .now) (c .before .before .before .before .before .before .before .before .before .before .before .before .before .before .before .before .before .args .from) 46 (c .before .before .before .before .before .before .before .before .before .before .before .before .before .before .before .mark-next .result) (c .before .before .before .before .before .before .before .before .before .before .before .before .before .before .before .mark-next .ensures) (c .before .before .before .before .before .before .before .before .before .before .before .before .before .a .given .0 .0) (c .before .before .before .before .before .before .before .before .before .before .before .before .before .a .given .1), name-moves false false (c .before .before .before .before .before .before .before .before .before .before .before .before .before .before .before .before .before .args .s .now) (c .before .before .before .before .before .before .before .before .before .before .before .before .before .a .given .0 .0) (c .before .before .before .before .before .before .before .before .before .before .before .name-next .result) (c .before .before .before .before .before .before .before .before .before .before .before .name-next .ensures) (c .before .before .before .before .before .before .before .before .before .attribute .given .0 .0) (c .before .before .before .before .before .before .before .before .before .attribute .given .0 .1 .0) (c .before .before .before .before .before .before .before .before .before .attribute .given .1), relation-moves true (c .before .before .before .before .before .before .before .before .before .before .before .before .before .before .before .before .before .args .s .now) (c .before .before .before .before .before .before .before .before .before .attribute .given .0 .1 .0) (c .before .before .before .before .before .before .before .relation-next .result) (c .before .before .before .before .before .before .before .relation-next .ensures) (c .before .before .before .before .before .relation .given .0 .0) (c .before .before .before .before .before .relation .given .0 .1 .0) (c .before .before .before .before .before .relation .given .1), value-moves false (c .before .before .before .before .before .before .before .before .before .before .before .before .before .before .before .before .before .args .s .now) (c .before .before .before .before .before .relation .given .0 .1 .0) (c .before .before .before .value-next .result) (c .before .before .before .value-next .ensures) (c .before .value .given .0 .0) (c .before .value .given .0 .1 .0) (c .before .value .given .0 .1 .1 .0) (c .before .value .given .1)); stands = mark-stands false true (c .before .before .before .before .before .before .before .before .before .before .before .before .before .before .before .before .before .args .s .now) (c .before .before .before .before .before .before .before .before .before .before .before .before .before .before .before .before .before .args .from) 46 (c .before .before .before .before .before .before .before .before .before .before .before .before .before .before .before .mark-next .result) (c .before .before .before .before .before .before .before .before .before .before .before .before .before .before .before .mark-next .ensures) (c .before .before .before .before .before .before .before .before .before .before .before .before .before .a .given .0 .0) (c .before .before .before .before .before .before .before .before .before .before .before .before .before .a .given .1) none ∙ name-stands false false (c .before .before .before .before .before .before .before .before .before .before .before .before .before .before .before .before .before .args .s .now) (c .before .before .before .before .before .before .before .before .before .before .before .before .before .a .given .0 .0) (c .before .before .before .before .before .before .before .before .before .before .before .name-next .result) (c .before .before .before .before .before .before .before .before .before .before .before .name-next .ensures) (c .before .before .before .before .before .before .before .before .before .attribute .given .0 .0) (c .before .before .before .before .before .before .before .before .before .attribute .given .0 .1 .0) (c .before .before .before .before .before .before .before .before .before .attribute .given .1) none ∙ relation-stands true (c .before .before .before .before .before .before .before .before .before .before .before .before .before .before .before .before .before .args .s .now) (c .before .before .before .before .before .before .before .before .before .attribute .given .0 .1 .0) (c .before .before .before .before .before .before .before .relation-next .result) (c .before .before .before .before .before .before .before .relation-next .ensures) (c .before .before .before .before .before .relation .given .0 .0) (c .before .before .before .before .before .relation .given .0 .1 .0) (c .before .before .before .before .before .relation .given .1) none ∙ value-stands false (c .before .before .before .before .before .before .before .before .before .before .before .before .before .before .before .before .before .args .s .now) (c .before .before .before .before .before .relation .given .0 .1 .0) (c .before .before .before .value-next .result) (c .before .before .before .value-next .ensures) (c .before .value .given .0 .0) (c .before .value .given .0 .1 .0) (c .before .value .given .0 .1 .1 .0) (c .before .value .given .1) }
 
 pub demand-spec : {M : Type 1} → statement M
 demand-spec =

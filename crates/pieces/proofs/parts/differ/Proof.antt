@@ -1,6 +1,7 @@
+use Rattle.model.specs.Places.{none, variableAt}
 use Rattle.pieces.specs.Steps.{otherThen}
-use Rattle.pieces.proofs.PartLaws.{name-read, name-unread, name-moves}
-use Rattle.pieces.specs.Steps.{stepOf, walkAt, pieceOf, spotOf, chainAt}
+use Rattle.pieces.proofs.PartLaws.{name-read, name-unread, name-moves, name-stands}
+use Rattle.pieces.specs.Steps.{stepOf, walkAt, pieceOf, spotOf, chainAt, pieceStanding}
 use Rattle.pieces.specs.Walk.{orStopped, stopped, walk}
 use native.Mathlib.Omega.{arith}
 use mathlib.Core.Bool.{true, false}
@@ -27,12 +28,12 @@ enum-told c = search needs
 -- src/parts.rt:137:9
 returns : tie.Need-returns
 unfolding stepOf walkAt pieceOf spotOf chainAt orStopped otherThen
-returns c = record { reads = ap orStopped (name-unread false false (c .before .before .before .before .args .s .now) (c .before .before .before .before .args .from) (c .before .before .name-next .result) (c .before .before .name-next .ensures) (c .enum-told .given .1) _); moves = tt }
+returns c = record { reads = ap orStopped (name-unread false false (c .before .before .before .before .args .s .now) (c .before .before .before .before .args .from) (c .before .before .name-next .result) (c .before .before .name-next .ensures) (c .enum-told .given .1) _); moves = tt; stands = tt }
 
 -- src/parts.rt:133:1
 returns-2 : tie.Need-returns-2
-unfolding stepOf walkAt pieceOf spotOf chainAt orStopped otherThen
-returns-2 c = record { reads = ap orStopped (name-read false false (c .before .before .before .before .before .args .s .now) (c .before .before .before .before .before .args .from) (c .before .before .before .name-next .result) (c .before .before .before .name-next .ensures) (c .before .u .given .0 .0) (c .before .u .given .0 .1 .0) (c .before .u .given .1) _); moves = omega (arith, name-moves false false (c .before .before .before .before .before .args .s .now) (c .before .before .before .before .before .args .from) (c .before .before .before .name-next .result) (c .before .before .before .name-next .ensures) (c .before .u .given .0 .0) (c .before .u .given .0 .1 .0) (c .before .u .given .1)) }
+unfolding stepOf walkAt pieceOf spotOf chainAt orStopped otherThen pieceStanding variableAt
+returns-2 c = record { reads = ap orStopped (name-read false false (c .before .before .before .before .before .args .s .now) (c .before .before .before .before .before .args .from) (c .before .before .before .name-next .result) (c .before .before .before .name-next .ensures) (c .before .u .given .0 .0) (c .before .u .given .0 .1 .0) (c .before .u .given .1) _); moves = omega (arith, name-moves false false (c .before .before .before .before .before .args .s .now) (c .before .before .before .before .before .args .from) (c .before .before .before .name-next .result) (c .before .before .before .name-next .ensures) (c .before .u .given .0 .0) (c .before .u .given .0 .1 .0) (c .before .u .given .1)); stands = name-stands false false (c .before .before .before .before .before .args .s .now) (c .before .before .before .before .before .args .from) (c .before .before .before .name-next .result) (c .before .before .before .name-next .ensures) (c .before .u .given .0 .0) (c .before .u .given .0 .1 .0) (c .before .u .given .1) none }
 
 pub differ-spec : {M : Type 1} → statement M
 differ-spec = tie.close (tie.spec name-next-requires enum-known-u enum-told returns returns-2)

@@ -3,8 +3,8 @@ use Rattle.signs.specs.Reads.{signsFrom}
 use Rattle.signs.specs.Marks.{markBytes}
 use Rattle.model.specs.Grammar.{goes, comes, spotAfter}
 use Rattle.model.specs.Bytes.{bytesOf}
-use Rattle.pieces.proofs.PartLaws.{link-read, link-unread, link-moves}
-use Rattle.pieces.specs.Steps.{stepOf, walkAt, pieceOf, spotOf, chainAt}
+use Rattle.pieces.proofs.PartLaws.{link-read, link-unread, link-moves, link-stands}
+use Rattle.pieces.specs.Steps.{stepOf, walkAt, pieceOf, spotOf, chainAt, pieceStanding}
 use Rattle.pieces.specs.Walk.{orStopped, stopped, walk}
 use native.Mathlib.Omega.{arith}
 use mathlib.Core.Bool.{true, false}
@@ -31,12 +31,12 @@ enum-told c = search needs
 -- src/parts.rt:103:9
 returns : tie.Need-returns
 unfolding stepOf walkAt pieceOf spotOf chainAt orStopped markBytes spotAfter
-returns c = record { reads = link-by goes (bytesOf "->") (λ e l v. refl) (signsFrom true false (c .before .before .before .before .args .s .now) (c .before .before .before .before .args .from)) ∙ ap orStopped (link-unread 11582 (c .before .before .before .before .args .s .now) (c .before .before .before .before .args .from) (c .before .before .link .result) (c .before .before .link .ensures) (c .enum-told .given .1) _); moves = tt }
+returns c = record { reads = link-by goes (bytesOf "->") (λ e l v. refl) (signsFrom true false (c .before .before .before .before .args .s .now) (c .before .before .before .before .args .from)) ∙ ap orStopped (link-unread 11582 (c .before .before .before .before .args .s .now) (c .before .before .before .before .args .from) (c .before .before .link .result) (c .before .before .link .ensures) (c .enum-told .given .1) _); moves = tt; stands = tt }
 
 -- src/parts.rt:99:1
 returns-2 : tie.Need-returns-2
-unfolding stepOf walkAt pieceOf spotOf chainAt orStopped markBytes spotAfter
-returns-2 c = record { reads = link-by goes (bytesOf "->") (λ e l v. refl) (signsFrom true false (c .before .before .before .before .before .args .s .now) (c .before .before .before .before .before .args .from)) ∙ ap orStopped (link-read 11582 (c .before .before .before .before .before .args .s .now) (c .before .before .before .before .before .args .from) (c .before .before .before .link .result) (c .before .before .before .link .ensures) (c .before .l .given .0 .0) (c .before .l .given .0 .1 .0) (c .before .l .given .1) _); moves = omega (arith, link-moves 11582 (c .before .before .before .before .before .args .s .now) (c .before .before .before .before .before .args .from) (c .before .before .before .link .result) (c .before .before .before .link .ensures) (c .before .l .given .0 .0) (c .before .l .given .0 .1 .0) (c .before .l .given .1)) }
+unfolding stepOf walkAt pieceOf spotOf chainAt orStopped markBytes spotAfter pieceStanding
+returns-2 c = record { reads = link-by goes (bytesOf "->") (λ e l v. refl) (signsFrom true false (c .before .before .before .before .before .args .s .now) (c .before .before .before .before .before .args .from)) ∙ ap orStopped (link-read 11582 (c .before .before .before .before .before .args .s .now) (c .before .before .before .before .before .args .from) (c .before .before .before .link .result) (c .before .before .before .link .ensures) (c .before .l .given .0 .0) (c .before .l .given .0 .1 .0) (c .before .l .given .1) _); moves = omega (arith, link-moves 11582 (c .before .before .before .before .before .args .s .now) (c .before .before .before .before .before .args .from) (c .before .before .before .link .result) (c .before .before .before .link .ensures) (c .before .l .given .0 .0) (c .before .l .given .0 .1 .0) (c .before .l .given .1)); stands = link-stands 11582 (c .before .before .before .before .before .args .s .now) (c .before .before .before .before .before .args .from) (c .before .before .before .link .result) (c .before .before .before .link .ensures) (c .before .l .given .0 .0) (c .before .l .given .0 .1 .0) (c .before .l .given .1) }
 
 pub goes-spec : {M : Type 1} → statement M
 goes-spec = tie.close (tie.spec link-requires enum-known-l enum-told returns returns-2)

@@ -1,5 +1,9 @@
+use Rattle.model.specs.Places.{Standing, none, square, edge, bracketOf, variableAt}
+use Rattle.model.specs.Signs.{isMark}
+use Rattle.model.specs.Bytes.{same}
+use mathlib.Core.List.{List, _∷_}
 use Rattle.pieces.specs.Steps.{linkThen, onLink}
-use Rattle.pieces.proofs.PartLaws.{mark-read, mark-unread, mark-moves, name-read, name-unread, name-moves, vertex-read, vertex-unread, vertex-moves}
+use Rattle.pieces.proofs.PartLaws.{mark-read, mark-unread, mark-moves, name-read, name-unread, name-moves, vertex-read, vertex-unread, vertex-moves, mark-stands, name-stands, vertex-stands}
 use Rattle.signs.specs.Marks.{markBytes}
 use native.Mathlib.Omega.{arith}
 use mathlib.Core.Bool.{true, false}
@@ -28,7 +32,7 @@ enum-told c = search needs
 -- src/parts.rt:51:9
 returns : tie.Need-returns
 unfolding linkThen onLink markBytes
-returns c = record { reads = λ f. mark-unread true false (c .before .before .before .before .args .s .now) (c .before .before .before .before .args .from) 91 (c .before .before .mark-next .result) (c .before .before .mark-next .ensures) (c .enum-told .given .1) _; moves = tt }
+returns c = record { reads = λ f. mark-unread true false (c .before .before .before .before .args .s .now) (c .before .before .before .before .args .from) 91 (c .before .before .mark-next .result) (c .before .before .mark-next .ensures) (c .enum-told .given .1) _; moves = tt; stands = tt }
 
 -- src/parts.rt:53:36
 name-next-requires : tie.Need-name-next-requires
@@ -45,7 +49,7 @@ enum-told-2 c = search needs
 -- src/parts.rt:54:9
 returns-2 : tie.Need-returns-2
 unfolding linkThen onLink markBytes
-returns-2 c = record { reads = λ f. mark-read true false (c .before .before .before .before .before .before .before .before .args .s .now) (c .before .before .before .before .before .before .before .before .args .from) 91 (c .before .before .before .before .before .before .mark-next .result) (c .before .before .before .before .before .before .mark-next .ensures) (c .before .before .before .before .a .given .0 .0) (c .before .before .before .before .a .given .1) _ ∙ name-unread true false (c .before .before .before .before .before .before .before .before .args .s .now) (c .before .before .before .before .a .given .0 .0) (c .before .before .name-next .result) (c .before .before .name-next .ensures) (c .enum-told2 .given .1) _; moves = tt }
+returns-2 c = record { reads = λ f. mark-read true false (c .before .before .before .before .before .before .before .before .args .s .now) (c .before .before .before .before .before .before .before .before .args .from) 91 (c .before .before .before .before .before .before .mark-next .result) (c .before .before .before .before .before .before .mark-next .ensures) (c .before .before .before .before .a .given .0 .0) (c .before .before .before .before .a .given .1) _ ∙ name-unread true false (c .before .before .before .before .before .before .before .before .args .s .now) (c .before .before .before .before .a .given .0 .0) (c .before .before .name-next .result) (c .before .before .name-next .ensures) (c .enum-told2 .given .1) _; moves = tt; stands = tt }
 
 -- src/parts.rt:56:22
 mark-next-requires-2 : tie.Need-mark-next-requires-2
@@ -62,7 +66,7 @@ enum-told-3 c = search needs
 -- src/parts.rt:57:9
 returns-3 : tie.Need-returns-3
 unfolding linkThen onLink markBytes
-returns-3 c = record { reads = λ f. mark-read true false (c .before .before .before .before .before .before .before .before .before .before .before .before .args .s .now) (c .before .before .before .before .before .before .before .before .before .before .before .before .args .from) 91 (c .before .before .before .before .before .before .before .before .before .before .mark-next .result) (c .before .before .before .before .before .before .before .before .before .before .mark-next .ensures) (c .before .before .before .before .before .before .before .before .a .given .0 .0) (c .before .before .before .before .before .before .before .before .a .given .1) _ ∙ name-read true false (c .before .before .before .before .before .before .before .before .before .before .before .before .args .s .now) (c .before .before .before .before .before .before .before .before .a .given .0 .0) (c .before .before .before .before .before .before .name-next .result) (c .before .before .before .before .before .before .name-next .ensures) (c .before .before .before .before .edge .given .0 .0) (c .before .before .before .before .edge .given .0 .1 .0) (c .before .before .before .before .edge .given .1) _ ∙ mark-unread true true (c .before .before .before .before .before .before .before .before .before .before .before .before .args .s .now) (c .before .before .before .before .edge .given .0 .1 .0) 58 (c .before .before .mark-next2 .result) (c .before .before .mark-next2 .ensures) (c .enum-told3 .given .1) _; moves = tt }
+returns-3 c = record { reads = λ f. mark-read true false (c .before .before .before .before .before .before .before .before .before .before .before .before .args .s .now) (c .before .before .before .before .before .before .before .before .before .before .before .before .args .from) 91 (c .before .before .before .before .before .before .before .before .before .before .mark-next .result) (c .before .before .before .before .before .before .before .before .before .before .mark-next .ensures) (c .before .before .before .before .before .before .before .before .a .given .0 .0) (c .before .before .before .before .before .before .before .before .a .given .1) _ ∙ name-read true false (c .before .before .before .before .before .before .before .before .before .before .before .before .args .s .now) (c .before .before .before .before .before .before .before .before .a .given .0 .0) (c .before .before .before .before .before .before .name-next .result) (c .before .before .before .before .before .before .name-next .ensures) (c .before .before .before .before .edge .given .0 .0) (c .before .before .before .before .edge .given .0 .1 .0) (c .before .before .before .before .edge .given .1) _ ∙ mark-unread true true (c .before .before .before .before .before .before .before .before .before .before .before .before .args .s .now) (c .before .before .before .before .edge .given .0 .1 .0) 58 (c .before .before .mark-next2 .result) (c .before .before .mark-next2 .ensures) (c .enum-told3 .given .1) _; moves = tt; stands = tt }
 
 -- src/parts.rt:59:37
 name-next-requires-2 : tie.Need-name-next-requires-2
@@ -79,7 +83,7 @@ enum-told-4 c = search needs
 -- src/parts.rt:60:9
 returns-4 : tie.Need-returns-4
 unfolding linkThen onLink markBytes
-returns-4 c = record { reads = λ f. mark-read true false (c .before .before .before .before .before .before .before .before .before .before .before .before .before .before .before .before .args .s .now) (c .before .before .before .before .before .before .before .before .before .before .before .before .before .before .before .before .args .from) 91 (c .before .before .before .before .before .before .before .before .before .before .before .before .before .before .mark-next .result) (c .before .before .before .before .before .before .before .before .before .before .before .before .before .before .mark-next .ensures) (c .before .before .before .before .before .before .before .before .before .before .before .before .a .given .0 .0) (c .before .before .before .before .before .before .before .before .before .before .before .before .a .given .1) _ ∙ name-read true false (c .before .before .before .before .before .before .before .before .before .before .before .before .before .before .before .before .args .s .now) (c .before .before .before .before .before .before .before .before .before .before .before .before .a .given .0 .0) (c .before .before .before .before .before .before .before .before .before .before .name-next .result) (c .before .before .before .before .before .before .before .before .before .before .name-next .ensures) (c .before .before .before .before .before .before .before .before .edge .given .0 .0) (c .before .before .before .before .before .before .before .before .edge .given .0 .1 .0) (c .before .before .before .before .before .before .before .before .edge .given .1) _ ∙ mark-read true true (c .before .before .before .before .before .before .before .before .before .before .before .before .before .before .before .before .args .s .now) (c .before .before .before .before .before .before .before .before .edge .given .0 .1 .0) 58 (c .before .before .before .before .before .before .mark-next2 .result) (c .before .before .before .before .before .before .mark-next2 .ensures) (c .before .before .before .before .c .given .0 .0) (c .before .before .before .before .c .given .1) _ ∙ name-unread true false (c .before .before .before .before .before .before .before .before .before .before .before .before .before .before .before .before .args .s .now) (c .before .before .before .before .c .given .0 .0) (c .before .before .name-next2 .result) (c .before .before .name-next2 .ensures) (c .enum-told4 .given .1) _; moves = tt }
+returns-4 c = record { reads = λ f. mark-read true false (c .before .before .before .before .before .before .before .before .before .before .before .before .before .before .before .before .args .s .now) (c .before .before .before .before .before .before .before .before .before .before .before .before .before .before .before .before .args .from) 91 (c .before .before .before .before .before .before .before .before .before .before .before .before .before .before .mark-next .result) (c .before .before .before .before .before .before .before .before .before .before .before .before .before .before .mark-next .ensures) (c .before .before .before .before .before .before .before .before .before .before .before .before .a .given .0 .0) (c .before .before .before .before .before .before .before .before .before .before .before .before .a .given .1) _ ∙ name-read true false (c .before .before .before .before .before .before .before .before .before .before .before .before .before .before .before .before .args .s .now) (c .before .before .before .before .before .before .before .before .before .before .before .before .a .given .0 .0) (c .before .before .before .before .before .before .before .before .before .before .name-next .result) (c .before .before .before .before .before .before .before .before .before .before .name-next .ensures) (c .before .before .before .before .before .before .before .before .edge .given .0 .0) (c .before .before .before .before .before .before .before .before .edge .given .0 .1 .0) (c .before .before .before .before .before .before .before .before .edge .given .1) _ ∙ mark-read true true (c .before .before .before .before .before .before .before .before .before .before .before .before .before .before .before .before .args .s .now) (c .before .before .before .before .before .before .before .before .edge .given .0 .1 .0) 58 (c .before .before .before .before .before .before .mark-next2 .result) (c .before .before .before .before .before .before .mark-next2 .ensures) (c .before .before .before .before .c .given .0 .0) (c .before .before .before .before .c .given .1) _ ∙ name-unread true false (c .before .before .before .before .before .before .before .before .before .before .before .before .before .before .before .before .args .s .now) (c .before .before .before .before .c .given .0 .0) (c .before .before .name-next2 .result) (c .before .before .name-next2 .ensures) (c .enum-told4 .given .1) _; moves = tt; stands = tt }
 
 -- src/parts.rt:62:22
 mark-next-requires-3 : tie.Need-mark-next-requires-3
@@ -96,7 +100,7 @@ enum-told-5 c = search needs
 -- src/parts.rt:63:9
 returns-5 : tie.Need-returns-5
 unfolding linkThen onLink markBytes
-returns-5 c = record { reads = λ f. mark-read true false (c .before .before .before .before .before .before .before .before .before .before .before .before .before .before .before .before .before .before .before .before .args .s .now) (c .before .before .before .before .before .before .before .before .before .before .before .before .before .before .before .before .before .before .before .before .args .from) 91 (c .before .before .before .before .before .before .before .before .before .before .before .before .before .before .before .before .before .before .mark-next .result) (c .before .before .before .before .before .before .before .before .before .before .before .before .before .before .before .before .before .before .mark-next .ensures) (c .before .before .before .before .before .before .before .before .before .before .before .before .before .before .before .before .a .given .0 .0) (c .before .before .before .before .before .before .before .before .before .before .before .before .before .before .before .before .a .given .1) _ ∙ name-read true false (c .before .before .before .before .before .before .before .before .before .before .before .before .before .before .before .before .before .before .before .before .args .s .now) (c .before .before .before .before .before .before .before .before .before .before .before .before .before .before .before .before .a .given .0 .0) (c .before .before .before .before .before .before .before .before .before .before .before .before .before .before .name-next .result) (c .before .before .before .before .before .before .before .before .before .before .before .before .before .before .name-next .ensures) (c .before .before .before .before .before .before .before .before .before .before .before .before .edge .given .0 .0) (c .before .before .before .before .before .before .before .before .before .before .before .before .edge .given .0 .1 .0) (c .before .before .before .before .before .before .before .before .before .before .before .before .edge .given .1) _ ∙ mark-read true true (c .before .before .before .before .before .before .before .before .before .before .before .before .before .before .before .before .before .before .before .before .args .s .now) (c .before .before .before .before .before .before .before .before .before .before .before .before .edge .given .0 .1 .0) 58 (c .before .before .before .before .before .before .before .before .before .before .mark-next2 .result) (c .before .before .before .before .before .before .before .before .before .before .mark-next2 .ensures) (c .before .before .before .before .before .before .before .before .c .given .0 .0) (c .before .before .before .before .before .before .before .before .c .given .1) _ ∙ name-read true false (c .before .before .before .before .before .before .before .before .before .before .before .before .before .before .before .before .before .before .before .before .args .s .now) (c .before .before .before .before .before .before .before .before .c .given .0 .0) (c .before .before .before .before .before .before .name-next2 .result) (c .before .before .before .before .before .before .name-next2 .ensures) (c .before .before .before .before .label .given .0 .0) (c .before .before .before .before .label .given .0 .1 .0) (c .before .before .before .before .label .given .1) _ ∙ mark-unread true true (c .before .before .before .before .before .before .before .before .before .before .before .before .before .before .before .before .before .before .before .before .args .s .now) (c .before .before .before .before .label .given .0 .1 .0) 93 (c .before .before .mark-next3 .result) (c .before .before .mark-next3 .ensures) (c .enum-told5 .given .1) _; moves = tt }
+returns-5 c = record { reads = λ f. mark-read true false (c .before .before .before .before .before .before .before .before .before .before .before .before .before .before .before .before .before .before .before .before .args .s .now) (c .before .before .before .before .before .before .before .before .before .before .before .before .before .before .before .before .before .before .before .before .args .from) 91 (c .before .before .before .before .before .before .before .before .before .before .before .before .before .before .before .before .before .before .mark-next .result) (c .before .before .before .before .before .before .before .before .before .before .before .before .before .before .before .before .before .before .mark-next .ensures) (c .before .before .before .before .before .before .before .before .before .before .before .before .before .before .before .before .a .given .0 .0) (c .before .before .before .before .before .before .before .before .before .before .before .before .before .before .before .before .a .given .1) _ ∙ name-read true false (c .before .before .before .before .before .before .before .before .before .before .before .before .before .before .before .before .before .before .before .before .args .s .now) (c .before .before .before .before .before .before .before .before .before .before .before .before .before .before .before .before .a .given .0 .0) (c .before .before .before .before .before .before .before .before .before .before .before .before .before .before .name-next .result) (c .before .before .before .before .before .before .before .before .before .before .before .before .before .before .name-next .ensures) (c .before .before .before .before .before .before .before .before .before .before .before .before .edge .given .0 .0) (c .before .before .before .before .before .before .before .before .before .before .before .before .edge .given .0 .1 .0) (c .before .before .before .before .before .before .before .before .before .before .before .before .edge .given .1) _ ∙ mark-read true true (c .before .before .before .before .before .before .before .before .before .before .before .before .before .before .before .before .before .before .before .before .args .s .now) (c .before .before .before .before .before .before .before .before .before .before .before .before .edge .given .0 .1 .0) 58 (c .before .before .before .before .before .before .before .before .before .before .mark-next2 .result) (c .before .before .before .before .before .before .before .before .before .before .mark-next2 .ensures) (c .before .before .before .before .before .before .before .before .c .given .0 .0) (c .before .before .before .before .before .before .before .before .c .given .1) _ ∙ name-read true false (c .before .before .before .before .before .before .before .before .before .before .before .before .before .before .before .before .before .before .before .before .args .s .now) (c .before .before .before .before .before .before .before .before .c .given .0 .0) (c .before .before .before .before .before .before .name-next2 .result) (c .before .before .before .before .before .before .name-next2 .ensures) (c .before .before .before .before .label .given .0 .0) (c .before .before .before .before .label .given .0 .1 .0) (c .before .before .before .before .label .given .1) _ ∙ mark-unread true true (c .before .before .before .before .before .before .before .before .before .before .before .before .before .before .before .before .before .before .before .before .args .s .now) (c .before .before .before .before .label .given .0 .1 .0) 93 (c .before .before .mark-next3 .result) (c .before .before .mark-next3 .ensures) (c .enum-told5 .given .1) _; moves = tt; stands = tt }
 
 -- src/parts.rt:65:22
 mark-next-requires-4 : tie.Need-mark-next-requires-4
@@ -113,7 +117,7 @@ enum-told-6 c = search needs
 -- src/parts.rt:66:9
 returns-6 : tie.Need-returns-6
 unfolding linkThen onLink markBytes
-returns-6 c = record { reads = λ f. mark-read true false (c .before .before .before .before .before .before .before .before .before .before .before .before .before .before .before .before .before .before .before .before .before .before .before .before .args .s .now) (c .before .before .before .before .before .before .before .before .before .before .before .before .before .before .before .before .before .before .before .before .before .before .before .before .args .from) 91 (c .before .before .before .before .before .before .before .before .before .before .before .before .before .before .before .before .before .before .before .before .before .before .mark-next .result) (c .before .before .before .before .before .before .before .before .before .before .before .before .before .before .before .before .before .before .before .before .before .before .mark-next .ensures) (c .before .before .before .before .before .before .before .before .before .before .before .before .before .before .before .before .before .before .before .before .a .given .0 .0) (c .before .before .before .before .before .before .before .before .before .before .before .before .before .before .before .before .before .before .before .before .a .given .1) _ ∙ name-read true false (c .before .before .before .before .before .before .before .before .before .before .before .before .before .before .before .before .before .before .before .before .before .before .before .before .args .s .now) (c .before .before .before .before .before .before .before .before .before .before .before .before .before .before .before .before .before .before .before .before .a .given .0 .0) (c .before .before .before .before .before .before .before .before .before .before .before .before .before .before .before .before .before .before .name-next .result) (c .before .before .before .before .before .before .before .before .before .before .before .before .before .before .before .before .before .before .name-next .ensures) (c .before .before .before .before .before .before .before .before .before .before .before .before .before .before .before .before .edge .given .0 .0) (c .before .before .before .before .before .before .before .before .before .before .before .before .before .before .before .before .edge .given .0 .1 .0) (c .before .before .before .before .before .before .before .before .before .before .before .before .before .before .before .before .edge .given .1) _ ∙ mark-read true true (c .before .before .before .before .before .before .before .before .before .before .before .before .before .before .before .before .before .before .before .before .before .before .before .before .args .s .now) (c .before .before .before .before .before .before .before .before .before .before .before .before .before .before .before .before .edge .given .0 .1 .0) 58 (c .before .before .before .before .before .before .before .before .before .before .before .before .before .before .mark-next2 .result) (c .before .before .before .before .before .before .before .before .before .before .before .before .before .before .mark-next2 .ensures) (c .before .before .before .before .before .before .before .before .before .before .before .before .c .given .0 .0) (c .before .before .before .before .before .before .before .before .before .before .before .before .c .given .1) _ ∙ name-read true false (c .before .before .before .before .before .before .before .before .before .before .before .before .before .before .before .before .before .before .before .before .before .before .before .before .args .s .now) (c .before .before .before .before .before .before .before .before .before .before .before .before .c .given .0 .0) (c .before .before .before .before .before .before .before .before .before .before .name-next2 .result) (c .before .before .before .before .before .before .before .before .before .before .name-next2 .ensures) (c .before .before .before .before .before .before .before .before .label .given .0 .0) (c .before .before .before .before .before .before .before .before .label .given .0 .1 .0) (c .before .before .before .before .before .before .before .before .label .given .1) _ ∙ mark-read true true (c .before .before .before .before .before .before .before .before .before .before .before .before .before .before .before .before .before .before .before .before .before .before .before .before .args .s .now) (c .before .before .before .before .before .before .before .before .label .given .0 .1 .0) 93 (c .before .before .before .before .before .before .mark-next3 .result) (c .before .before .before .before .before .before .mark-next3 .ensures) (c .before .before .before .before .e .given .0 .0) (c .before .before .before .before .e .given .1) _ ∙ mark-unread true false (c .before .before .before .before .before .before .before .before .before .before .before .before .before .before .before .before .before .before .before .before .before .before .before .before .args .s .now) (c .before .before .before .before .e .given .0 .0) (c .before .before .before .before .before .before .before .before .before .before .before .before .before .before .before .before .before .before .before .before .before .before .before .before .args .arrow) (c .before .before .mark-next4 .result) (c .before .before .mark-next4 .ensures) (c .enum-told6 .given .1) _; moves = tt }
+returns-6 c = record { reads = λ f. mark-read true false (c .before .before .before .before .before .before .before .before .before .before .before .before .before .before .before .before .before .before .before .before .before .before .before .before .args .s .now) (c .before .before .before .before .before .before .before .before .before .before .before .before .before .before .before .before .before .before .before .before .before .before .before .before .args .from) 91 (c .before .before .before .before .before .before .before .before .before .before .before .before .before .before .before .before .before .before .before .before .before .before .mark-next .result) (c .before .before .before .before .before .before .before .before .before .before .before .before .before .before .before .before .before .before .before .before .before .before .mark-next .ensures) (c .before .before .before .before .before .before .before .before .before .before .before .before .before .before .before .before .before .before .before .before .a .given .0 .0) (c .before .before .before .before .before .before .before .before .before .before .before .before .before .before .before .before .before .before .before .before .a .given .1) _ ∙ name-read true false (c .before .before .before .before .before .before .before .before .before .before .before .before .before .before .before .before .before .before .before .before .before .before .before .before .args .s .now) (c .before .before .before .before .before .before .before .before .before .before .before .before .before .before .before .before .before .before .before .before .a .given .0 .0) (c .before .before .before .before .before .before .before .before .before .before .before .before .before .before .before .before .before .before .name-next .result) (c .before .before .before .before .before .before .before .before .before .before .before .before .before .before .before .before .before .before .name-next .ensures) (c .before .before .before .before .before .before .before .before .before .before .before .before .before .before .before .before .edge .given .0 .0) (c .before .before .before .before .before .before .before .before .before .before .before .before .before .before .before .before .edge .given .0 .1 .0) (c .before .before .before .before .before .before .before .before .before .before .before .before .before .before .before .before .edge .given .1) _ ∙ mark-read true true (c .before .before .before .before .before .before .before .before .before .before .before .before .before .before .before .before .before .before .before .before .before .before .before .before .args .s .now) (c .before .before .before .before .before .before .before .before .before .before .before .before .before .before .before .before .edge .given .0 .1 .0) 58 (c .before .before .before .before .before .before .before .before .before .before .before .before .before .before .mark-next2 .result) (c .before .before .before .before .before .before .before .before .before .before .before .before .before .before .mark-next2 .ensures) (c .before .before .before .before .before .before .before .before .before .before .before .before .c .given .0 .0) (c .before .before .before .before .before .before .before .before .before .before .before .before .c .given .1) _ ∙ name-read true false (c .before .before .before .before .before .before .before .before .before .before .before .before .before .before .before .before .before .before .before .before .before .before .before .before .args .s .now) (c .before .before .before .before .before .before .before .before .before .before .before .before .c .given .0 .0) (c .before .before .before .before .before .before .before .before .before .before .name-next2 .result) (c .before .before .before .before .before .before .before .before .before .before .name-next2 .ensures) (c .before .before .before .before .before .before .before .before .label .given .0 .0) (c .before .before .before .before .before .before .before .before .label .given .0 .1 .0) (c .before .before .before .before .before .before .before .before .label .given .1) _ ∙ mark-read true true (c .before .before .before .before .before .before .before .before .before .before .before .before .before .before .before .before .before .before .before .before .before .before .before .before .args .s .now) (c .before .before .before .before .before .before .before .before .label .given .0 .1 .0) 93 (c .before .before .before .before .before .before .mark-next3 .result) (c .before .before .before .before .before .before .mark-next3 .ensures) (c .before .before .before .before .e .given .0 .0) (c .before .before .before .before .e .given .1) _ ∙ mark-unread true false (c .before .before .before .before .before .before .before .before .before .before .before .before .before .before .before .before .before .before .before .before .before .before .before .before .args .s .now) (c .before .before .before .before .e .given .0 .0) (c .before .before .before .before .before .before .before .before .before .before .before .before .before .before .before .before .before .before .before .before .before .before .before .before .args .arrow) (c .before .before .mark-next4 .result) (c .before .before .mark-next4 .ensures) (c .enum-told6 .given .1) _; moves = tt; stands = tt }
 
 -- src/parts.rt:68:38
 vertex-requires : tie.Need-vertex-requires
@@ -130,12 +134,12 @@ enum-told-7 c = search needs
 -- src/parts.rt:69:9
 returns-7 : tie.Need-returns-7
 unfolding linkThen onLink markBytes
-returns-7 c = record { reads = λ f. mark-read true false (c .before .before .before .before .before .before .before .before .before .before .before .before .before .before .before .before .before .before .before .before .before .before .before .before .before .before .before .before .args .s .now) (c .before .before .before .before .before .before .before .before .before .before .before .before .before .before .before .before .before .before .before .before .before .before .before .before .before .before .before .before .args .from) 91 (c .before .before .before .before .before .before .before .before .before .before .before .before .before .before .before .before .before .before .before .before .before .before .before .before .before .before .mark-next .result) (c .before .before .before .before .before .before .before .before .before .before .before .before .before .before .before .before .before .before .before .before .before .before .before .before .before .before .mark-next .ensures) (c .before .before .before .before .before .before .before .before .before .before .before .before .before .before .before .before .before .before .before .before .before .before .before .before .a .given .0 .0) (c .before .before .before .before .before .before .before .before .before .before .before .before .before .before .before .before .before .before .before .before .before .before .before .before .a .given .1) _ ∙ name-read true false (c .before .before .before .before .before .before .before .before .before .before .before .before .before .before .before .before .before .before .before .before .before .before .before .before .before .before .before .before .args .s .now) (c .before .before .before .before .before .before .before .before .before .before .before .before .before .before .before .before .before .before .before .before .before .before .before .before .a .given .0 .0) (c .before .before .before .before .before .before .before .before .before .before .before .before .before .before .before .before .before .before .before .before .before .before .name-next .result) (c .before .before .before .before .before .before .before .before .before .before .before .before .before .before .before .before .before .before .before .before .before .before .name-next .ensures) (c .before .before .before .before .before .before .before .before .before .before .before .before .before .before .before .before .before .before .before .before .edge .given .0 .0) (c .before .before .before .before .before .before .before .before .before .before .before .before .before .before .before .before .before .before .before .before .edge .given .0 .1 .0) (c .before .before .before .before .before .before .before .before .before .before .before .before .before .before .before .before .before .before .before .before .edge .given .1) _ ∙ mark-read true true (c .before .before .before .before .before .before .before .before .before .before .before .before .before .before .before .before .before .before .before .before .before .before .before .before .before .before .before .before .args .s .now) (c .before .before .before .before .before .before .before .before .before .before .before .before .before .before .before .before .before .before .before .before .edge .given .0 .1 .0) 58 (c .before .before .before .before .before .before .before .before .before .before .before .before .before .before .before .before .before .before .mark-next2 .result) (c .before .before .before .before .before .before .before .before .before .before .before .before .before .before .before .before .before .before .mark-next2 .ensures) (c .before .before .before .before .before .before .before .before .before .before .before .before .before .before .before .before .c .given .0 .0) (c .before .before .before .before .before .before .before .before .before .before .before .before .before .before .before .before .c .given .1) _ ∙ name-read true false (c .before .before .before .before .before .before .before .before .before .before .before .before .before .before .before .before .before .before .before .before .before .before .before .before .before .before .before .before .args .s .now) (c .before .before .before .before .before .before .before .before .before .before .before .before .before .before .before .before .c .given .0 .0) (c .before .before .before .before .before .before .before .before .before .before .before .before .before .before .name-next2 .result) (c .before .before .before .before .before .before .before .before .before .before .before .before .before .before .name-next2 .ensures) (c .before .before .before .before .before .before .before .before .before .before .before .before .label .given .0 .0) (c .before .before .before .before .before .before .before .before .before .before .before .before .label .given .0 .1 .0) (c .before .before .before .before .before .before .before .before .before .before .before .before .label .given .1) _ ∙ mark-read true true (c .before .before .before .before .before .before .before .before .before .before .before .before .before .before .before .before .before .before .before .before .before .before .before .before .before .before .before .before .args .s .now) (c .before .before .before .before .before .before .before .before .before .before .before .before .label .given .0 .1 .0) 93 (c .before .before .before .before .before .before .before .before .before .before .mark-next3 .result) (c .before .before .before .before .before .before .before .before .before .before .mark-next3 .ensures) (c .before .before .before .before .before .before .before .before .e .given .0 .0) (c .before .before .before .before .before .before .before .before .e .given .1) _ ∙ mark-read true false (c .before .before .before .before .before .before .before .before .before .before .before .before .before .before .before .before .before .before .before .before .before .before .before .before .before .before .before .before .args .s .now) (c .before .before .before .before .before .before .before .before .e .given .0 .0) (c .before .before .before .before .before .before .before .before .before .before .before .before .before .before .before .before .before .before .before .before .before .before .before .before .before .before .before .before .args .arrow) (c .before .before .before .before .before .before .mark-next4 .result) (c .before .before .before .before .before .before .mark-next4 .ensures) (c .before .before .before .before .f .given .0 .0) (c .before .before .before .before .f .given .1) _ ∙ vertex-unread false (c .before .before .before .before .before .before .before .before .before .before .before .before .before .before .before .before .before .before .before .before .before .before .before .before .before .before .before .before .args .s .now) (c .before .before .before .before .f .given .0 .0) (c .before .before .vertex .result) (c .before .before .vertex .ensures) (c .enum-told7 .given .1) _; moves = tt }
+returns-7 c = record { reads = λ f. mark-read true false (c .before .before .before .before .before .before .before .before .before .before .before .before .before .before .before .before .before .before .before .before .before .before .before .before .before .before .before .before .args .s .now) (c .before .before .before .before .before .before .before .before .before .before .before .before .before .before .before .before .before .before .before .before .before .before .before .before .before .before .before .before .args .from) 91 (c .before .before .before .before .before .before .before .before .before .before .before .before .before .before .before .before .before .before .before .before .before .before .before .before .before .before .mark-next .result) (c .before .before .before .before .before .before .before .before .before .before .before .before .before .before .before .before .before .before .before .before .before .before .before .before .before .before .mark-next .ensures) (c .before .before .before .before .before .before .before .before .before .before .before .before .before .before .before .before .before .before .before .before .before .before .before .before .a .given .0 .0) (c .before .before .before .before .before .before .before .before .before .before .before .before .before .before .before .before .before .before .before .before .before .before .before .before .a .given .1) _ ∙ name-read true false (c .before .before .before .before .before .before .before .before .before .before .before .before .before .before .before .before .before .before .before .before .before .before .before .before .before .before .before .before .args .s .now) (c .before .before .before .before .before .before .before .before .before .before .before .before .before .before .before .before .before .before .before .before .before .before .before .before .a .given .0 .0) (c .before .before .before .before .before .before .before .before .before .before .before .before .before .before .before .before .before .before .before .before .before .before .name-next .result) (c .before .before .before .before .before .before .before .before .before .before .before .before .before .before .before .before .before .before .before .before .before .before .name-next .ensures) (c .before .before .before .before .before .before .before .before .before .before .before .before .before .before .before .before .before .before .before .before .edge .given .0 .0) (c .before .before .before .before .before .before .before .before .before .before .before .before .before .before .before .before .before .before .before .before .edge .given .0 .1 .0) (c .before .before .before .before .before .before .before .before .before .before .before .before .before .before .before .before .before .before .before .before .edge .given .1) _ ∙ mark-read true true (c .before .before .before .before .before .before .before .before .before .before .before .before .before .before .before .before .before .before .before .before .before .before .before .before .before .before .before .before .args .s .now) (c .before .before .before .before .before .before .before .before .before .before .before .before .before .before .before .before .before .before .before .before .edge .given .0 .1 .0) 58 (c .before .before .before .before .before .before .before .before .before .before .before .before .before .before .before .before .before .before .mark-next2 .result) (c .before .before .before .before .before .before .before .before .before .before .before .before .before .before .before .before .before .before .mark-next2 .ensures) (c .before .before .before .before .before .before .before .before .before .before .before .before .before .before .before .before .c .given .0 .0) (c .before .before .before .before .before .before .before .before .before .before .before .before .before .before .before .before .c .given .1) _ ∙ name-read true false (c .before .before .before .before .before .before .before .before .before .before .before .before .before .before .before .before .before .before .before .before .before .before .before .before .before .before .before .before .args .s .now) (c .before .before .before .before .before .before .before .before .before .before .before .before .before .before .before .before .c .given .0 .0) (c .before .before .before .before .before .before .before .before .before .before .before .before .before .before .name-next2 .result) (c .before .before .before .before .before .before .before .before .before .before .before .before .before .before .name-next2 .ensures) (c .before .before .before .before .before .before .before .before .before .before .before .before .label .given .0 .0) (c .before .before .before .before .before .before .before .before .before .before .before .before .label .given .0 .1 .0) (c .before .before .before .before .before .before .before .before .before .before .before .before .label .given .1) _ ∙ mark-read true true (c .before .before .before .before .before .before .before .before .before .before .before .before .before .before .before .before .before .before .before .before .before .before .before .before .before .before .before .before .args .s .now) (c .before .before .before .before .before .before .before .before .before .before .before .before .label .given .0 .1 .0) 93 (c .before .before .before .before .before .before .before .before .before .before .mark-next3 .result) (c .before .before .before .before .before .before .before .before .before .before .mark-next3 .ensures) (c .before .before .before .before .before .before .before .before .e .given .0 .0) (c .before .before .before .before .before .before .before .before .e .given .1) _ ∙ mark-read true false (c .before .before .before .before .before .before .before .before .before .before .before .before .before .before .before .before .before .before .before .before .before .before .before .before .before .before .before .before .args .s .now) (c .before .before .before .before .before .before .before .before .e .given .0 .0) (c .before .before .before .before .before .before .before .before .before .before .before .before .before .before .before .before .before .before .before .before .before .before .before .before .before .before .before .before .args .arrow) (c .before .before .before .before .before .before .mark-next4 .result) (c .before .before .before .before .before .before .mark-next4 .ensures) (c .before .before .before .before .f .given .0 .0) (c .before .before .before .before .f .given .1) _ ∙ vertex-unread false (c .before .before .before .before .before .before .before .before .before .before .before .before .before .before .before .before .before .before .before .before .before .before .before .before .before .before .before .before .args .s .now) (c .before .before .before .before .f .given .0 .0) (c .before .before .vertex .result) (c .before .before .vertex .ensures) (c .enum-told7 .given .1) _; moves = tt; stands = tt }
 
 -- src/parts.rt:46:1
 returns-8 : tie.Need-returns-8
-unfolding linkThen onLink markBytes
-returns-8 c = record { reads = λ f. mark-read true false (c .before .before .before .before .before .before .before .before .before .before .before .before .before .before .before .before .before .before .before .before .before .before .before .before .before .before .before .before .before .args .s .now) (c .before .before .before .before .before .before .before .before .before .before .before .before .before .before .before .before .before .before .before .before .before .before .before .before .before .before .before .before .before .args .from) 91 (c .before .before .before .before .before .before .before .before .before .before .before .before .before .before .before .before .before .before .before .before .before .before .before .before .before .before .before .mark-next .result) (c .before .before .before .before .before .before .before .before .before .before .before .before .before .before .before .before .before .before .before .before .before .before .before .before .before .before .before .mark-next .ensures) (c .before .before .before .before .before .before .before .before .before .before .before .before .before .before .before .before .before .before .before .before .before .before .before .before .before .a .given .0 .0) (c .before .before .before .before .before .before .before .before .before .before .before .before .before .before .before .before .before .before .before .before .before .before .before .before .before .a .given .1) _ ∙ name-read true false (c .before .before .before .before .before .before .before .before .before .before .before .before .before .before .before .before .before .before .before .before .before .before .before .before .before .before .before .before .before .args .s .now) (c .before .before .before .before .before .before .before .before .before .before .before .before .before .before .before .before .before .before .before .before .before .before .before .before .before .a .given .0 .0) (c .before .before .before .before .before .before .before .before .before .before .before .before .before .before .before .before .before .before .before .before .before .before .before .name-next .result) (c .before .before .before .before .before .before .before .before .before .before .before .before .before .before .before .before .before .before .before .before .before .before .before .name-next .ensures) (c .before .before .before .before .before .before .before .before .before .before .before .before .before .before .before .before .before .before .before .before .before .edge .given .0 .0) (c .before .before .before .before .before .before .before .before .before .before .before .before .before .before .before .before .before .before .before .before .before .edge .given .0 .1 .0) (c .before .before .before .before .before .before .before .before .before .before .before .before .before .before .before .before .before .before .before .before .before .edge .given .1) _ ∙ mark-read true true (c .before .before .before .before .before .before .before .before .before .before .before .before .before .before .before .before .before .before .before .before .before .before .before .before .before .before .before .before .before .args .s .now) (c .before .before .before .before .before .before .before .before .before .before .before .before .before .before .before .before .before .before .before .before .before .edge .given .0 .1 .0) 58 (c .before .before .before .before .before .before .before .before .before .before .before .before .before .before .before .before .before .before .before .mark-next2 .result) (c .before .before .before .before .before .before .before .before .before .before .before .before .before .before .before .before .before .before .before .mark-next2 .ensures) (c .before .before .before .before .before .before .before .before .before .before .before .before .before .before .before .before .before .c .given .0 .0) (c .before .before .before .before .before .before .before .before .before .before .before .before .before .before .before .before .before .c .given .1) _ ∙ name-read true false (c .before .before .before .before .before .before .before .before .before .before .before .before .before .before .before .before .before .before .before .before .before .before .before .before .before .before .before .before .before .args .s .now) (c .before .before .before .before .before .before .before .before .before .before .before .before .before .before .before .before .before .c .given .0 .0) (c .before .before .before .before .before .before .before .before .before .before .before .before .before .before .before .name-next2 .result) (c .before .before .before .before .before .before .before .before .before .before .before .before .before .before .before .name-next2 .ensures) (c .before .before .before .before .before .before .before .before .before .before .before .before .before .label .given .0 .0) (c .before .before .before .before .before .before .before .before .before .before .before .before .before .label .given .0 .1 .0) (c .before .before .before .before .before .before .before .before .before .before .before .before .before .label .given .1) _ ∙ mark-read true true (c .before .before .before .before .before .before .before .before .before .before .before .before .before .before .before .before .before .before .before .before .before .before .before .before .before .before .before .before .before .args .s .now) (c .before .before .before .before .before .before .before .before .before .before .before .before .before .label .given .0 .1 .0) 93 (c .before .before .before .before .before .before .before .before .before .before .before .mark-next3 .result) (c .before .before .before .before .before .before .before .before .before .before .before .mark-next3 .ensures) (c .before .before .before .before .before .before .before .before .before .e .given .0 .0) (c .before .before .before .before .before .before .before .before .before .e .given .1) _ ∙ mark-read true false (c .before .before .before .before .before .before .before .before .before .before .before .before .before .before .before .before .before .before .before .before .before .before .before .before .before .before .before .before .before .args .s .now) (c .before .before .before .before .before .before .before .before .before .e .given .0 .0) (c .before .before .before .before .before .before .before .before .before .before .before .before .before .before .before .before .before .before .before .before .before .before .before .before .before .before .before .before .before .args .arrow) (c .before .before .before .before .before .before .before .mark-next4 .result) (c .before .before .before .before .before .before .before .mark-next4 .ensures) (c .before .before .before .before .before .f .given .0 .0) (c .before .before .before .before .before .f .given .1) _ ∙ vertex-read false (c .before .before .before .before .before .before .before .before .before .before .before .before .before .before .before .before .before .before .before .before .before .before .before .before .before .before .before .before .before .args .s .now) (c .before .before .before .before .before .f .given .0 .0) (c .before .before .before .vertex .result) (c .before .before .before .vertex .ensures) (c .before .vertex2 .given .0 .0) (c .before .vertex2 .given .0 .1 .0) (c .before .vertex2 .given .1) _; moves = omega (arith, mark-moves true false (c .before .before .before .before .before .before .before .before .before .before .before .before .before .before .before .before .before .before .before .before .before .before .before .before .before .before .before .before .before .args .s .now) (c .before .before .before .before .before .before .before .before .before .before .before .before .before .before .before .before .before .before .before .before .before .before .before .before .before .before .before .before .before .args .from) 91 (c .before .before .before .before .before .before .before .before .before .before .before .before .before .before .before .before .before .before .before .before .before .before .before .before .before .before .before .mark-next .result) (c .before .before .before .before .before .before .before .before .before .before .before .before .before .before .before .before .before .before .before .before .before .before .before .before .before .before .before .mark-next .ensures) (c .before .before .before .before .before .before .before .before .before .before .before .before .before .before .before .before .before .before .before .before .before .before .before .before .before .a .given .0 .0) (c .before .before .before .before .before .before .before .before .before .before .before .before .before .before .before .before .before .before .before .before .before .before .before .before .before .a .given .1), name-moves true false (c .before .before .before .before .before .before .before .before .before .before .before .before .before .before .before .before .before .before .before .before .before .before .before .before .before .before .before .before .before .args .s .now) (c .before .before .before .before .before .before .before .before .before .before .before .before .before .before .before .before .before .before .before .before .before .before .before .before .before .a .given .0 .0) (c .before .before .before .before .before .before .before .before .before .before .before .before .before .before .before .before .before .before .before .before .before .before .before .name-next .result) (c .before .before .before .before .before .before .before .before .before .before .before .before .before .before .before .before .before .before .before .before .before .before .before .name-next .ensures) (c .before .before .before .before .before .before .before .before .before .before .before .before .before .before .before .before .before .before .before .before .before .edge .given .0 .0) (c .before .before .before .before .before .before .before .before .before .before .before .before .before .before .before .before .before .before .before .before .before .edge .given .0 .1 .0) (c .before .before .before .before .before .before .before .before .before .before .before .before .before .before .before .before .before .before .before .before .before .edge .given .1), mark-moves true true (c .before .before .before .before .before .before .before .before .before .before .before .before .before .before .before .before .before .before .before .before .before .before .before .before .before .before .before .before .before .args .s .now) (c .before .before .before .before .before .before .before .before .before .before .before .before .before .before .before .before .before .before .before .before .before .edge .given .0 .1 .0) 58 (c .before .before .before .before .before .before .before .before .before .before .before .before .before .before .before .before .before .before .before .mark-next2 .result) (c .before .before .before .before .before .before .before .before .before .before .before .before .before .before .before .before .before .before .before .mark-next2 .ensures) (c .before .before .before .before .before .before .before .before .before .before .before .before .before .before .before .before .before .c .given .0 .0) (c .before .before .before .before .before .before .before .before .before .before .before .before .before .before .before .before .before .c .given .1), name-moves true false (c .before .before .before .before .before .before .before .before .before .before .before .before .before .before .before .before .before .before .before .before .before .before .before .before .before .before .before .before .before .args .s .now) (c .before .before .before .before .before .before .before .before .before .before .before .before .before .before .before .before .before .c .given .0 .0) (c .before .before .before .before .before .before .before .before .before .before .before .before .before .before .before .name-next2 .result) (c .before .before .before .before .before .before .before .before .before .before .before .before .before .before .before .name-next2 .ensures) (c .before .before .before .before .before .before .before .before .before .before .before .before .before .label .given .0 .0) (c .before .before .before .before .before .before .before .before .before .before .before .before .before .label .given .0 .1 .0) (c .before .before .before .before .before .before .before .before .before .before .before .before .before .label .given .1), mark-moves true true (c .before .before .before .before .before .before .before .before .before .before .before .before .before .before .before .before .before .before .before .before .before .before .before .before .before .before .before .before .before .args .s .now) (c .before .before .before .before .before .before .before .before .before .before .before .before .before .label .given .0 .1 .0) 93 (c .before .before .before .before .before .before .before .before .before .before .before .mark-next3 .result) (c .before .before .before .before .before .before .before .before .before .before .before .mark-next3 .ensures) (c .before .before .before .before .before .before .before .before .before .e .given .0 .0) (c .before .before .before .before .before .before .before .before .before .e .given .1), mark-moves true false (c .before .before .before .before .before .before .before .before .before .before .before .before .before .before .before .before .before .before .before .before .before .before .before .before .before .before .before .before .before .args .s .now) (c .before .before .before .before .before .before .before .before .before .e .given .0 .0) (c .before .before .before .before .before .before .before .before .before .before .before .before .before .before .before .before .before .before .before .before .before .before .before .before .before .before .before .before .before .args .arrow) (c .before .before .before .before .before .before .before .mark-next4 .result) (c .before .before .before .before .before .before .before .mark-next4 .ensures) (c .before .before .before .before .before .f .given .0 .0) (c .before .before .before .before .before .f .given .1), vertex-moves false (c .before .before .before .before .before .before .before .before .before .before .before .before .before .before .before .before .before .before .before .before .before .before .before .before .before .before .before .before .before .args .s .now) (c .before .before .before .before .before .f .given .0 .0) (c .before .before .before .vertex .result) (c .before .before .before .vertex .ensures) (c .before .vertex2 .given .0 .0) (c .before .vertex2 .given .0 .1 .0) (c .before .vertex2 .given .1)) }
+unfolding linkThen onLink markBytes bracketOf isMark same variableAt
+returns-8 c = record { reads = λ f. mark-read true false (c .before .before .before .before .before .before .before .before .before .before .before .before .before .before .before .before .before .before .before .before .before .before .before .before .before .before .before .before .before .args .s .now) (c .before .before .before .before .before .before .before .before .before .before .before .before .before .before .before .before .before .before .before .before .before .before .before .before .before .before .before .before .before .args .from) 91 (c .before .before .before .before .before .before .before .before .before .before .before .before .before .before .before .before .before .before .before .before .before .before .before .before .before .before .before .mark-next .result) (c .before .before .before .before .before .before .before .before .before .before .before .before .before .before .before .before .before .before .before .before .before .before .before .before .before .before .before .mark-next .ensures) (c .before .before .before .before .before .before .before .before .before .before .before .before .before .before .before .before .before .before .before .before .before .before .before .before .before .a .given .0 .0) (c .before .before .before .before .before .before .before .before .before .before .before .before .before .before .before .before .before .before .before .before .before .before .before .before .before .a .given .1) _ ∙ name-read true false (c .before .before .before .before .before .before .before .before .before .before .before .before .before .before .before .before .before .before .before .before .before .before .before .before .before .before .before .before .before .args .s .now) (c .before .before .before .before .before .before .before .before .before .before .before .before .before .before .before .before .before .before .before .before .before .before .before .before .before .a .given .0 .0) (c .before .before .before .before .before .before .before .before .before .before .before .before .before .before .before .before .before .before .before .before .before .before .before .name-next .result) (c .before .before .before .before .before .before .before .before .before .before .before .before .before .before .before .before .before .before .before .before .before .before .before .name-next .ensures) (c .before .before .before .before .before .before .before .before .before .before .before .before .before .before .before .before .before .before .before .before .before .edge .given .0 .0) (c .before .before .before .before .before .before .before .before .before .before .before .before .before .before .before .before .before .before .before .before .before .edge .given .0 .1 .0) (c .before .before .before .before .before .before .before .before .before .before .before .before .before .before .before .before .before .before .before .before .before .edge .given .1) _ ∙ mark-read true true (c .before .before .before .before .before .before .before .before .before .before .before .before .before .before .before .before .before .before .before .before .before .before .before .before .before .before .before .before .before .args .s .now) (c .before .before .before .before .before .before .before .before .before .before .before .before .before .before .before .before .before .before .before .before .before .edge .given .0 .1 .0) 58 (c .before .before .before .before .before .before .before .before .before .before .before .before .before .before .before .before .before .before .before .mark-next2 .result) (c .before .before .before .before .before .before .before .before .before .before .before .before .before .before .before .before .before .before .before .mark-next2 .ensures) (c .before .before .before .before .before .before .before .before .before .before .before .before .before .before .before .before .before .c .given .0 .0) (c .before .before .before .before .before .before .before .before .before .before .before .before .before .before .before .before .before .c .given .1) _ ∙ name-read true false (c .before .before .before .before .before .before .before .before .before .before .before .before .before .before .before .before .before .before .before .before .before .before .before .before .before .before .before .before .before .args .s .now) (c .before .before .before .before .before .before .before .before .before .before .before .before .before .before .before .before .before .c .given .0 .0) (c .before .before .before .before .before .before .before .before .before .before .before .before .before .before .before .name-next2 .result) (c .before .before .before .before .before .before .before .before .before .before .before .before .before .before .before .name-next2 .ensures) (c .before .before .before .before .before .before .before .before .before .before .before .before .before .label .given .0 .0) (c .before .before .before .before .before .before .before .before .before .before .before .before .before .label .given .0 .1 .0) (c .before .before .before .before .before .before .before .before .before .before .before .before .before .label .given .1) _ ∙ mark-read true true (c .before .before .before .before .before .before .before .before .before .before .before .before .before .before .before .before .before .before .before .before .before .before .before .before .before .before .before .before .before .args .s .now) (c .before .before .before .before .before .before .before .before .before .before .before .before .before .label .given .0 .1 .0) 93 (c .before .before .before .before .before .before .before .before .before .before .before .mark-next3 .result) (c .before .before .before .before .before .before .before .before .before .before .before .mark-next3 .ensures) (c .before .before .before .before .before .before .before .before .before .e .given .0 .0) (c .before .before .before .before .before .before .before .before .before .e .given .1) _ ∙ mark-read true false (c .before .before .before .before .before .before .before .before .before .before .before .before .before .before .before .before .before .before .before .before .before .before .before .before .before .before .before .before .before .args .s .now) (c .before .before .before .before .before .before .before .before .before .e .given .0 .0) (c .before .before .before .before .before .before .before .before .before .before .before .before .before .before .before .before .before .before .before .before .before .before .before .before .before .before .before .before .before .args .arrow) (c .before .before .before .before .before .before .before .mark-next4 .result) (c .before .before .before .before .before .before .before .mark-next4 .ensures) (c .before .before .before .before .before .f .given .0 .0) (c .before .before .before .before .before .f .given .1) _ ∙ vertex-read false (c .before .before .before .before .before .before .before .before .before .before .before .before .before .before .before .before .before .before .before .before .before .before .before .before .before .before .before .before .before .args .s .now) (c .before .before .before .before .before .f .given .0 .0) (c .before .before .before .vertex .result) (c .before .before .before .vertex .ensures) (c .before .vertex2 .given .0 .0) (c .before .vertex2 .given .0 .1 .0) (c .before .vertex2 .given .1) _; moves = omega (arith, mark-moves true false (c .before .before .before .before .before .before .before .before .before .before .before .before .before .before .before .before .before .before .before .before .before .before .before .before .before .before .before .before .before .args .s .now) (c .before .before .before .before .before .before .before .before .before .before .before .before .before .before .before .before .before .before .before .before .before .before .before .before .before .before .before .before .before .args .from) 91 (c .before .before .before .before .before .before .before .before .before .before .before .before .before .before .before .before .before .before .before .before .before .before .before .before .before .before .before .mark-next .result) (c .before .before .before .before .before .before .before .before .before .before .before .before .before .before .before .before .before .before .before .before .before .before .before .before .before .before .before .mark-next .ensures) (c .before .before .before .before .before .before .before .before .before .before .before .before .before .before .before .before .before .before .before .before .before .before .before .before .before .a .given .0 .0) (c .before .before .before .before .before .before .before .before .before .before .before .before .before .before .before .before .before .before .before .before .before .before .before .before .before .a .given .1), name-moves true false (c .before .before .before .before .before .before .before .before .before .before .before .before .before .before .before .before .before .before .before .before .before .before .before .before .before .before .before .before .before .args .s .now) (c .before .before .before .before .before .before .before .before .before .before .before .before .before .before .before .before .before .before .before .before .before .before .before .before .before .a .given .0 .0) (c .before .before .before .before .before .before .before .before .before .before .before .before .before .before .before .before .before .before .before .before .before .before .before .name-next .result) (c .before .before .before .before .before .before .before .before .before .before .before .before .before .before .before .before .before .before .before .before .before .before .before .name-next .ensures) (c .before .before .before .before .before .before .before .before .before .before .before .before .before .before .before .before .before .before .before .before .before .edge .given .0 .0) (c .before .before .before .before .before .before .before .before .before .before .before .before .before .before .before .before .before .before .before .before .before .edge .given .0 .1 .0) (c .before .before .before .before .before .before .before .before .before .before .before .before .before .before .before .before .before .before .before .before .before .edge .given .1), mark-moves true true (c .before .before .before .before .before .before .before .before .before .before .before .before .before .before .before .before .before .before .before .before .before .before .before .before .before .before .before .before .before .args .s .now) (c .before .before .before .before .before .before .before .before .before .before .before .before .before .before .before .before .before .before .before .before .before .edge .given .0 .1 .0) 58 (c .before .before .before .before .before .before .before .before .before .before .before .before .before .before .before .before .before .before .before .mark-next2 .result) (c .before .before .before .before .before .before .before .before .before .before .before .before .before .before .before .before .before .before .before .mark-next2 .ensures) (c .before .before .before .before .before .before .before .before .before .before .before .before .before .before .before .before .before .c .given .0 .0) (c .before .before .before .before .before .before .before .before .before .before .before .before .before .before .before .before .before .c .given .1), name-moves true false (c .before .before .before .before .before .before .before .before .before .before .before .before .before .before .before .before .before .before .before .before .before .before .before .before .before .before .before .before .before .args .s .now) (c .before .before .before .before .before .before .before .before .before .before .before .before .before .before .before .before .before .c .given .0 .0) (c .before .before .before .before .before .before .before .before .before .before .before .before .before .before .before .name-next2 .result) (c .before .before .before .before .before .before .before .before .before .before .before .before .before .before .before .name-next2 .ensures) (c .before .before .before .before .before .before .before .before .before .before .before .before .before .label .given .0 .0) (c .before .before .before .before .before .before .before .before .before .before .before .before .before .label .given .0 .1 .0) (c .before .before .before .before .before .before .before .before .before .before .before .before .before .label .given .1), mark-moves true true (c .before .before .before .before .before .before .before .before .before .before .before .before .before .before .before .before .before .before .before .before .before .before .before .before .before .before .before .before .before .args .s .now) (c .before .before .before .before .before .before .before .before .before .before .before .before .before .label .given .0 .1 .0) 93 (c .before .before .before .before .before .before .before .before .before .before .before .mark-next3 .result) (c .before .before .before .before .before .before .before .before .before .before .before .mark-next3 .ensures) (c .before .before .before .before .before .before .before .before .before .e .given .0 .0) (c .before .before .before .before .before .before .before .before .before .e .given .1), mark-moves true false (c .before .before .before .before .before .before .before .before .before .before .before .before .before .before .before .before .before .before .before .before .before .before .before .before .before .before .before .before .before .args .s .now) (c .before .before .before .before .before .before .before .before .before .e .given .0 .0) (c .before .before .before .before .before .before .before .before .before .before .before .before .before .before .before .before .before .before .before .before .before .before .before .before .before .before .before .before .before .args .arrow) (c .before .before .before .before .before .before .before .mark-next4 .result) (c .before .before .before .before .before .before .before .mark-next4 .ensures) (c .before .before .before .before .before .f .given .0 .0) (c .before .before .before .before .before .f .given .1), vertex-moves false (c .before .before .before .before .before .before .before .before .before .before .before .before .before .before .before .before .before .before .before .before .before .before .before .before .before .before .before .before .before .args .s .now) (c .before .before .before .before .before .f .given .0 .0) (c .before .before .before .vertex .result) (c .before .before .before .vertex .ensures) (c .before .vertex2 .given .0 .0) (c .before .vertex2 .given .0 .1 .0) (c .before .vertex2 .given .1)); stands = mark-stands true false (c .before .before .before .before .before .before .before .before .before .before .before .before .before .before .before .before .before .before .before .before .before .before .before .before .before .before .before .before .before .args .s .now) (c .before .before .before .before .before .before .before .before .before .before .before .before .before .before .before .before .before .before .before .before .before .before .before .before .before .before .before .before .before .args .from) 91 (c .before .before .before .before .before .before .before .before .before .before .before .before .before .before .before .before .before .before .before .before .before .before .before .before .before .before .before .mark-next .result) (c .before .before .before .before .before .before .before .before .before .before .before .before .before .before .before .before .before .before .before .before .before .before .before .before .before .before .before .mark-next .ensures) (c .before .before .before .before .before .before .before .before .before .before .before .before .before .before .before .before .before .before .before .before .before .before .before .before .before .a .given .0 .0) (c .before .before .before .before .before .before .before .before .before .before .before .before .before .before .before .before .before .before .before .before .before .before .before .before .before .a .given .1) none ∙ name-stands true false (c .before .before .before .before .before .before .before .before .before .before .before .before .before .before .before .before .before .before .before .before .before .before .before .before .before .before .before .before .before .args .s .now) (c .before .before .before .before .before .before .before .before .before .before .before .before .before .before .before .before .before .before .before .before .before .before .before .before .before .a .given .0 .0) (c .before .before .before .before .before .before .before .before .before .before .before .before .before .before .before .before .before .before .before .before .before .before .before .name-next .result) (c .before .before .before .before .before .before .before .before .before .before .before .before .before .before .before .before .before .before .before .before .before .before .before .name-next .ensures) (c .before .before .before .before .before .before .before .before .before .before .before .before .before .before .before .before .before .before .before .before .before .edge .given .0 .0) (c .before .before .before .before .before .before .before .before .before .before .before .before .before .before .before .before .before .before .before .before .before .edge .given .0 .1 .0) (c .before .before .before .before .before .before .before .before .before .before .before .before .before .before .before .before .before .before .before .before .before .edge .given .1) square ∙ ap (λ l. edge (c .before .before .before .before .before .before .before .before .before .before .before .before .before .before .before .before .before .before .before .before .before .edge .given .0 .0) ∷ l) (mark-stands true true (c .before .before .before .before .before .before .before .before .before .before .before .before .before .before .before .before .before .before .before .before .before .before .before .before .before .before .before .before .before .args .s .now) (c .before .before .before .before .before .before .before .before .before .before .before .before .before .before .before .before .before .before .before .before .before .edge .given .0 .1 .0) 58 (c .before .before .before .before .before .before .before .before .before .before .before .before .before .before .before .before .before .before .before .mark-next2 .result) (c .before .before .before .before .before .before .before .before .before .before .before .before .before .before .before .before .before .before .before .mark-next2 .ensures) (c .before .before .before .before .before .before .before .before .before .before .before .before .before .before .before .before .before .c .given .0 .0) (c .before .before .before .before .before .before .before .before .before .before .before .before .before .before .before .before .before .c .given .1) none ∙ name-stands true false (c .before .before .before .before .before .before .before .before .before .before .before .before .before .before .before .before .before .before .before .before .before .before .before .before .before .before .before .before .before .args .s .now) (c .before .before .before .before .before .before .before .before .before .before .before .before .before .before .before .before .before .c .given .0 .0) (c .before .before .before .before .before .before .before .before .before .before .before .before .before .before .before .name-next2 .result) (c .before .before .before .before .before .before .before .before .before .before .before .before .before .before .before .name-next2 .ensures) (c .before .before .before .before .before .before .before .before .before .before .before .before .before .label .given .0 .0) (c .before .before .before .before .before .before .before .before .before .before .before .before .before .label .given .0 .1 .0) (c .before .before .before .before .before .before .before .before .before .before .before .before .before .label .given .1) none ∙ mark-stands true true (c .before .before .before .before .before .before .before .before .before .before .before .before .before .before .before .before .before .before .before .before .before .before .before .before .before .before .before .before .before .args .s .now) (c .before .before .before .before .before .before .before .before .before .before .before .before .before .label .given .0 .1 .0) 93 (c .before .before .before .before .before .before .before .before .before .before .before .mark-next3 .result) (c .before .before .before .before .before .before .before .before .before .before .before .mark-next3 .ensures) (c .before .before .before .before .before .before .before .before .before .e .given .0 .0) (c .before .before .before .before .before .before .before .before .before .e .given .1) none ∙ mark-stands true false (c .before .before .before .before .before .before .before .before .before .before .before .before .before .before .before .before .before .before .before .before .before .before .before .before .before .before .before .before .before .args .s .now) (c .before .before .before .before .before .before .before .before .before .e .given .0 .0) (c .before .before .before .before .before .before .before .before .before .before .before .before .before .before .before .before .before .before .before .before .before .before .before .before .before .before .before .before .before .args .arrow) (c .before .before .before .before .before .before .before .mark-next4 .result) (c .before .before .before .before .before .before .before .mark-next4 .ensures) (c .before .before .before .before .before .f .given .0 .0) (c .before .before .before .before .before .f .given .1) none ∙ vertex-stands false (c .before .before .before .before .before .before .before .before .before .before .before .before .before .before .before .before .before .before .before .before .before .before .before .before .before .before .before .before .before .args .s .now) (c .before .before .before .before .before .f .given .0 .0) (c .before .before .before .vertex .result) (c .before .before .before .vertex .ensures) (c .before .vertex2 .given .0 .0) (c .before .vertex2 .given .0 .1 .0) (c .before .vertex2 .given .1) _) }
 
 pub link-spec : {M : Type 1} → statement M
 link-spec =

@@ -1,7 +1,8 @@
+use Rattle.model.specs.Places.{none, variableAt}
 use Rattle.pieces.proofs.StepLaws.{return-by}
 use Rattle.signs.specs.Reads.{signsFrom}
-use Rattle.pieces.proofs.PartLaws.{name-read, name-unread, name-moves}
-use Rattle.pieces.specs.Steps.{stepOf, walkAt, pieceOf, spotOf, chainAt}
+use Rattle.pieces.proofs.PartLaws.{name-read, name-unread, name-moves, name-stands}
+use Rattle.pieces.specs.Steps.{stepOf, walkAt, pieceOf, spotOf, chainAt, pieceStanding}
 use Rattle.pieces.specs.Walk.{orStopped, stopped, walk}
 use native.Mathlib.Omega.{arith}
 use mathlib.Core.Bool.{true, false}
@@ -28,12 +29,12 @@ enum-told c = search needs
 -- src/parts.rt:198:9
 returns : tie.Need-returns
 unfolding stepOf walkAt pieceOf spotOf chainAt orStopped
-returns c = record { reads = return-by (signsFrom false (c .before .before .before .before .args .close) (c .before .before .before .before .args .s .now) (c .before .before .before .before .args .from)) ∙ ap orStopped (name-unread false (c .before .before .before .before .args .close) (c .before .before .before .before .args .s .now) (c .before .before .before .before .args .from) (c .before .before .name-next .result) (c .before .before .name-next .ensures) (c .enum-told .given .1) _); moves = tt }
+returns c = record { reads = return-by (signsFrom false (c .before .before .before .before .args .close) (c .before .before .before .before .args .s .now) (c .before .before .before .before .args .from)) ∙ ap orStopped (name-unread false (c .before .before .before .before .args .close) (c .before .before .before .before .args .s .now) (c .before .before .before .before .args .from) (c .before .before .name-next .result) (c .before .before .name-next .ensures) (c .enum-told .given .1) _); moves = tt; stands = tt }
 
 -- src/parts.rt:194:1
 returns-2 : tie.Need-returns-2
-unfolding stepOf walkAt pieceOf spotOf chainAt orStopped
-returns-2 c = record { reads = return-by (signsFrom false (c .before .before .before .before .before .args .close) (c .before .before .before .before .before .args .s .now) (c .before .before .before .before .before .args .from)) ∙ ap orStopped (name-read false (c .before .before .before .before .before .args .close) (c .before .before .before .before .before .args .s .now) (c .before .before .before .before .before .args .from) (c .before .before .before .name-next .result) (c .before .before .before .name-next .ensures) (c .before .v .given .0 .0) (c .before .v .given .0 .1 .0) (c .before .v .given .1) _); moves = omega (arith, name-moves false (c .before .before .before .before .before .args .close) (c .before .before .before .before .before .args .s .now) (c .before .before .before .before .before .args .from) (c .before .before .before .name-next .result) (c .before .before .before .name-next .ensures) (c .before .v .given .0 .0) (c .before .v .given .0 .1 .0) (c .before .v .given .1)) }
+unfolding stepOf walkAt pieceOf spotOf chainAt orStopped pieceStanding variableAt
+returns-2 c = record { reads = return-by (signsFrom false (c .before .before .before .before .before .args .close) (c .before .before .before .before .before .args .s .now) (c .before .before .before .before .before .args .from)) ∙ ap orStopped (name-read false (c .before .before .before .before .before .args .close) (c .before .before .before .before .before .args .s .now) (c .before .before .before .before .before .args .from) (c .before .before .before .name-next .result) (c .before .before .before .name-next .ensures) (c .before .v .given .0 .0) (c .before .v .given .0 .1 .0) (c .before .v .given .1) _); moves = omega (arith, name-moves false (c .before .before .before .before .before .args .close) (c .before .before .before .before .before .args .s .now) (c .before .before .before .before .before .args .from) (c .before .before .before .name-next .result) (c .before .before .before .name-next .ensures) (c .before .v .given .0 .0) (c .before .v .given .0 .1 .0) (c .before .v .given .1)); stands = name-stands false (c .before .before .before .before .before .args .close) (c .before .before .before .before .before .args .s .now) (c .before .before .before .before .before .args .from) (c .before .before .before .name-next .result) (c .before .before .before .name-next .ensures) (c .before .v .given .0 .0) (c .before .v .given .0 .1 .0) (c .before .v .given .1) none }
 
 pub returned-spec : {M : Type 1} → statement M
 returned-spec = tie.close (tie.spec name-next-requires enum-known-v enum-told returns returns-2)

@@ -1,7 +1,8 @@
+use Rattle.model.specs.Places.{none}
 use Rattle.pieces.proofs.StepLaws.{start-by}
 use Rattle.signs.specs.Reads.{signsFrom}
-use Rattle.pieces.proofs.PartLaws.{vertex-read, vertex-unread, vertex-moves}
-use Rattle.pieces.specs.Steps.{stepOf, walkAt, pieceOf, spotOf, chainAt}
+use Rattle.pieces.proofs.PartLaws.{vertex-read, vertex-unread, vertex-moves, vertex-stands}
+use Rattle.pieces.specs.Steps.{stepOf, walkAt, pieceOf, spotOf, chainAt, pieceStanding}
 use Rattle.pieces.specs.Walk.{orStopped, stopped, walk}
 use native.Mathlib.Omega.{arith}
 use mathlib.Core.Bool.{true, false}
@@ -28,12 +29,12 @@ enum-told c = search needs
 -- src/parts.rt:86:9
 returns : tie.Need-returns
 unfolding stepOf walkAt pieceOf spotOf chainAt orStopped
-returns c = record { reads = start-by (signsFrom true true (c .before .before .before .before .args .s .now) (c .before .before .before .before .args .from)) ∙ ap orStopped (vertex-unread true (c .before .before .before .before .args .s .now) (c .before .before .before .before .args .from) (c .before .before .vertex .result) (c .before .before .vertex .ensures) (c .enum-told .given .1) _); moves = tt }
+returns c = record { reads = start-by (signsFrom true true (c .before .before .before .before .args .s .now) (c .before .before .before .before .args .from)) ∙ ap orStopped (vertex-unread true (c .before .before .before .before .args .s .now) (c .before .before .before .before .args .from) (c .before .before .vertex .result) (c .before .before .vertex .ensures) (c .enum-told .given .1) _); moves = tt; stands = tt }
 
 -- src/parts.rt:82:1
 returns-2 : tie.Need-returns-2
-unfolding stepOf walkAt pieceOf spotOf chainAt orStopped
-returns-2 c = record { reads = start-by (signsFrom true true (c .before .before .before .before .before .args .s .now) (c .before .before .before .before .before .args .from)) ∙ ap orStopped (vertex-read true (c .before .before .before .before .before .args .s .now) (c .before .before .before .before .before .args .from) (c .before .before .before .vertex .result) (c .before .before .before .vertex .ensures) (c .before .v .given .0 .0) (c .before .v .given .0 .1 .0) (c .before .v .given .1) _); moves = omega (arith, vertex-moves true (c .before .before .before .before .before .args .s .now) (c .before .before .before .before .before .args .from) (c .before .before .before .vertex .result) (c .before .before .before .vertex .ensures) (c .before .v .given .0 .0) (c .before .v .given .0 .1 .0) (c .before .v .given .1)) }
+unfolding stepOf walkAt pieceOf spotOf chainAt orStopped pieceStanding
+returns-2 c = record { reads = start-by (signsFrom true true (c .before .before .before .before .before .args .s .now) (c .before .before .before .before .before .args .from)) ∙ ap orStopped (vertex-read true (c .before .before .before .before .before .args .s .now) (c .before .before .before .before .before .args .from) (c .before .before .before .vertex .result) (c .before .before .before .vertex .ensures) (c .before .v .given .0 .0) (c .before .v .given .0 .1 .0) (c .before .v .given .1) _); moves = omega (arith, vertex-moves true (c .before .before .before .before .before .args .s .now) (c .before .before .before .before .before .args .from) (c .before .before .before .vertex .result) (c .before .before .before .vertex .ensures) (c .before .v .given .0 .0) (c .before .v .given .0 .1 .0) (c .before .v .given .1)); stands = vertex-stands true (c .before .before .before .before .before .args .s .now) (c .before .before .before .before .before .args .from) (c .before .before .before .vertex .result) (c .before .before .before .vertex .ensures) (c .before .v .given .0 .0) (c .before .v .given .0 .1 .0) (c .before .v .given .1) none }
 
 pub start-spec : {M : Type 1} → statement M
 start-spec = tie.close (tie.spec vertex-requires enum-known-v enum-told returns returns-2)

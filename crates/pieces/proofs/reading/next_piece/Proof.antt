@@ -1,5 +1,5 @@
-use Rattle.pieces.proofs.SpotLaws.{place-ends, place-broken, place-piece, place-moves}
-use Rattle.pieces.proofs.PartLaws.{step-farther}
+use Rattle.pieces.proofs.SpotLaws.{place-ends, place-broken, place-piece, place-moves, place-stands}
+use Rattle.pieces.proofs.PartLaws.{step-farther, step-stands}
 use Rattle.pieces.specs.Steps.{stepOf, chainAt}
 use Rattle.pieces.specs.Walk.{stopped}
 use Rattle.signs.specs.Reads.{NextSign}
@@ -27,7 +27,7 @@ ends-well-requires c κs = search needs
 -- src/reading.rt:18:9
 returns : tie.Need-returns
 unfolding stepOf
-returns c = record { reads = place-ends (c .before .before .before .before .args .s .now) (c .before .before .before .before .args .place) (c .before .before .blanks-end .result) (c .before .before .blanks-end .ensures) (c .before .if1 .taken) ∙ ap stopped (sym (c .ends-well .ensures)); moves = tt }
+returns c = record { reads = place-ends (c .before .before .before .before .args .s .now) (c .before .before .before .before .args .place) (c .before .before .blanks-end .result) (c .before .before .blanks-end .ensures) (c .before .if1 .taken) ∙ ap stopped (sym (c .ends-well .ensures)); moves = tt; stands = tt }
 
 -- src/reading.rt:20:59
 in-chain-requires : tie.Need-in-chain-requires
@@ -48,7 +48,7 @@ enum-told c = search needs
 -- src/reading.rt:21:9
 returns-2 : tie.Need-returns-2
 unfolding stepOf
-returns-2 c = record { reads = place-broken (c .before .before .before .before .before .before .before .args .s .now) (c .before .before .before .before .before .before .before .args .place) (c .before .before .before .before .before .blanks-end .result) (c .before .before .before .before .before .blanks-end .ensures) (c .before .before .before .before .if1 .left) (c .before .before .next-sign .result) (subst (λ (x : Bool). NextSign x (c .before .before .before .before .before .before .before .args .place .close) (c .before .before .before .before .before .before .before .args .s .now) (c .before .before .before .before .before .before .before .args .place .at) (c .before .before .next-sign .result)) (c .before .before .before .in-chain .ensures) (c .before .before .next-sign .ensures)) (c .enum-told .given .1); moves = tt }
+returns-2 c = record { reads = place-broken (c .before .before .before .before .before .before .before .args .s .now) (c .before .before .before .before .before .before .before .args .place) (c .before .before .before .before .before .blanks-end .result) (c .before .before .before .before .before .blanks-end .ensures) (c .before .before .before .before .if1 .left) (c .before .before .next-sign .result) (subst (λ (x : Bool). NextSign x (c .before .before .before .before .before .before .before .args .place .close) (c .before .before .before .before .before .before .before .args .s .now) (c .before .before .before .before .before .before .before .args .place .at) (c .before .before .next-sign .result)) (c .before .before .before .in-chain .ensures) (c .before .before .next-sign .ensures)) (c .enum-told .given .1); moves = tt; stands = tt }
 
 -- src/reading.rt:23:5
 piece-by-requires : tie.Need-piece-by-requires
@@ -59,6 +59,7 @@ returns-3 : tie.Need-returns-3
 returns-3 c = let h = subst (λ (x : Bool). NextSign x (c .before .before .before .before .before .before .before .before .before .args .place .close) (c .before .before .before .before .before .before .before .before .before .args .s .now) (c .before .before .before .before .before .before .before .before .before .args .place .at) (c .before .before .before .before .next-sign .result)) (c .before .before .before .before .before .in-chain .ensures) (c .before .before .before .before .next-sign .ensures) in record {
   reads = place-piece (c .before .before .before .before .before .before .before .before .before .args .s .now) (c .before .before .before .before .before .before .before .before .before .args .place) (c .before .before .before .before .before .before .before .blanks-end .result) (c .before .before .before .before .before .before .before .blanks-end .ensures) (c .before .before .before .before .before .before .if1 .left) (c .before .before .before .before .next-sign .result) h (c .before .before .t .given .0 .0) (c .before .before .t .given .0 .1 .0) (c .before .before .t .given .1) ∙ c .piece-by .ensures .reads;
   moves = step-farther (c .before .before .before .before .before .before .before .before .before .args .place .at) (c .before .before .t .given .0 .1 .0) (c .piece-by .result) (place-moves (c .before .before .before .before .before .before .before .before .before .args .s .now) (c .before .before .before .before .before .before .before .before .before .args .place) (c .before .before .before .before .before .before .before .blanks-end .result) (c .before .before .before .before .before .before .before .blanks-end .ensures) (c .before .before .before .before .before .before .if1 .left) (c .before .before .before .before .next-sign .result) h (c .before .before .t .given .0 .0) (c .before .before .t .given .0 .1 .0) (c .before .before .t .given .1)) (c .piece-by .ensures .moves);
+  stands = step-stands (c .before .before .before .before .before .before .before .before .before .args .s .now) (c .piece-by .result) (place-stands (c .before .before .before .before .before .before .before .before .before .args .s .now) (c .before .before .before .before .before .before .before .before .before .args .place) (c .before .before .before .before .before .before .before .blanks-end .result) (c .before .before .before .before .before .before .before .blanks-end .ensures) (c .before .before .before .before .before .before .if1 .left) (c .before .before .before .before .next-sign .result) h (c .before .before .t .given .0 .0) (c .before .before .t .given .0 .1 .0) (c .before .before .t .given .1)) (c .piece-by .ensures .stands);
 }
 
 pub next-piece-spec : {M : Type 1} → statement M

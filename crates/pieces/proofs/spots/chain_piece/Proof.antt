@@ -86,7 +86,7 @@ returns-5 c = step-same _ _ (c .before .before .before .before .before .before .
 -- src/spots.rt:67:1
 returns-6 : tie.Need-returns-6
 unfolding stepOf
-returns-6 c = record { reads = chain-none (c .before .before .before .before .before .before .before .before .before .before .before .before .before .args .s .now) (c .before .before .before .before .before .before .before .before .before .before .before .before .before .args .t) (c .before .before .before .before .before .before .before .before .before .before .before .before .before .args .q) (λ z. c .before .before .before .before .before .before .before .before .before .before .if1 .left (c .before .before .before .before .before .before .before .before .before .before .before .mark-code .ensures ∙ z)) (λ z. c .before .before .before .before .before .before .before .before .before .if2 .left (c .before .before .before .before .before .before .before .before .before .before .before .mark-code .ensures ∙ z)) (sym (c .before .before .before .before .before .before .before .is-word .ensures) ∙ c .before .before .before .before .before .before .if3 .left) (sym (c .before .before .before .before .is-word2 .ensures) ∙ c .before .before .before .if4 .left) (sym (c .before .is-word3 .ensures) ∙ c .if5 .left); moves = tt }
+returns-6 c = record { reads = chain-none (c .before .before .before .before .before .before .before .before .before .before .before .before .before .args .s .now) (c .before .before .before .before .before .before .before .before .before .before .before .before .before .args .t) (c .before .before .before .before .before .before .before .before .before .before .before .before .before .args .q) (λ z. c .before .before .before .before .before .before .before .before .before .before .if1 .left (c .before .before .before .before .before .before .before .before .before .before .before .mark-code .ensures ∙ z)) (λ z. c .before .before .before .before .before .before .before .before .before .if2 .left (c .before .before .before .before .before .before .before .before .before .before .before .mark-code .ensures ∙ z)) (sym (c .before .before .before .before .before .before .before .is-word .ensures) ∙ c .before .before .before .before .before .before .if3 .left) (sym (c .before .before .before .before .is-word2 .ensures) ∙ c .before .before .before .if4 .left) (sym (c .before .is-word3 .ensures) ∙ c .if5 .left); moves = tt; stands = tt }
 
 pub chain-piece-spec : {M : Type 1} → statement M
 chain-piece-spec =

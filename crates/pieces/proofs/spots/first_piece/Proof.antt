@@ -29,7 +29,7 @@ returns c = step-same _ _ (c .before .before .before .before .before .args .s .n
 -- src/spots.rt:57:1
 returns-2 : tie.Need-returns-2
 unfolding stepOf
-returns-2 c = record { reads = first-none (c .before .before .before .before .args .s .now) (c .before .before .before .before .args .t) (c .before .before .before .before .args .q) (sym (c .before .is-word .ensures) ∙ c .if1 .left); moves = tt }
+returns-2 c = record { reads = first-none (c .before .before .before .before .args .s .now) (c .before .before .before .before .args .t) (c .before .before .before .before .args .q) (sym (c .before .is-word .ensures) ∙ c .if1 .left); moves = tt; stands = tt }
 
 pub first-piece-spec : {M : Type 1} → statement M
 first-piece-spec =

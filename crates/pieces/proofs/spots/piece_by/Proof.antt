@@ -1,5 +1,4 @@
-use Rattle.pieces.specs.Steps.{walkBy}
-use Rattle.pieces.proofs.SpotLaws.{step-same}
+use Rattle.pieces.proofs.SpotLaws.{step-same, by-spot}
 use mathlib.Core.Bool.{true, false}
 use mathlib.Core.Path.{refl, sym, ap, subst, _∙_}
 use borrow.Author.Needs.{needs}
@@ -46,19 +45,19 @@ return-piece-requires c κs = search needs
 
 -- src/spots.rt:116:1
 returns : tie.Need-returns
-returns c = step-same _ _ (c .before .before .before .before .args .s .now) (c .before .before .before .before .args .q) (c .first-piece .result) (ap (λ p. walkBy p (c .before .before .before .before .args .s .now) (c .before .before .before .before .args .t) (c .before .before .before .before .args .q)) (c .before .enum-told .given .1)) (c .first-piece .ensures)
+returns c = step-same _ _ (c .before .before .before .before .args .s .now) (c .before .before .before .before .args .q) (c .first-piece .result) (by-spot (c .before .before .before .before .args .s .now) (c .before .before .before .before .args .t) (c .before .before .before .before .args .q) (c .before .enum-told .given .1)) (c .first-piece .ensures)
 
 -- src/spots.rt:116:1
 returns-2 : tie.Need-returns-2
-returns-2 c = step-same _ _ (c .before .before .before .before .args .s .now) (c .before .before .before .before .args .q) (c .chain-piece .result) (ap (λ p. walkBy p (c .before .before .before .before .args .s .now) (c .before .before .before .before .args .t) (c .before .before .before .before .args .q)) (c .before .enum-told2 .given .1)) (c .chain-piece .ensures)
+returns-2 c = step-same _ _ (c .before .before .before .before .args .s .now) (c .before .before .before .before .args .q) (c .chain-piece .result) (by-spot (c .before .before .before .before .args .s .now) (c .before .before .before .before .args .t) (c .before .before .before .before .args .q) (c .before .enum-told2 .given .1)) (c .chain-piece .ensures)
 
 -- src/spots.rt:116:1
 returns-3 : tie.Need-returns-3
-returns-3 c = step-same _ _ (c .before .before .before .before .args .s .now) (c .before .before .before .before .args .q) (c .where-piece .result) (ap (λ p. walkBy p (c .before .before .before .before .args .s .now) (c .before .before .before .before .args .t) (c .before .before .before .before .args .q)) (c .before .enum-told3 .given .1)) (c .where-piece .ensures)
+returns-3 c = step-same _ _ (c .before .before .before .before .args .s .now) (c .before .before .before .before .args .q) (c .where-piece .result) (by-spot (c .before .before .before .before .args .s .now) (c .before .before .before .before .args .t) (c .before .before .before .before .args .q) (c .before .enum-told3 .given .1)) (c .where-piece .ensures)
 
 -- src/spots.rt:116:1
 returns-4 : tie.Need-returns-4
-returns-4 c = step-same _ _ (c .before .before .before .before .args .s .now) (c .before .before .before .before .args .q) (c .return-piece .result) (ap (λ p. walkBy p (c .before .before .before .before .args .s .now) (c .before .before .before .before .args .t) (c .before .before .before .before .args .q)) (c .before .enum-told4 .given .1)) (c .return-piece .ensures)
+returns-4 c = step-same _ _ (c .before .before .before .before .args .s .now) (c .before .before .before .before .args .q) (c .return-piece .result) (by-spot (c .before .before .before .before .args .s .now) (c .before .before .before .before .args .t) (c .before .before .before .before .args .q) (c .before .enum-told4 .given .1)) (c .return-piece .ensures)
 
 pub piece-by-spec : {M : Type 1} → statement M
 piece-by-spec =

@@ -25,7 +25,7 @@ returns c = step-same _ _ (c .before .before .before .before .args .s .now) (c .
 -- src/spots.rt:106:1
 returns-2 : tie.Need-returns-2
 unfolding stepOf
-returns-2 c = record { reads = return-none (c .before .before .before .args .s .now) (c .before .before .before .args .t) (c .before .before .before .args .q) (λ z. c .if1 .left (c .before .mark-code .ensures ∙ z)); moves = tt }
+returns-2 c = record { reads = return-none (c .before .before .before .args .s .now) (c .before .before .before .args .t) (c .before .before .before .args .q) (λ z. c .if1 .left (c .before .mark-code .ensures ∙ z)); moves = tt; stands = tt }
 
 pub return-piece-spec : {M : Type 1} → statement M
 return-piece-spec = tie.close (tie.spec mark-code-requires returned-requires returns returns-2)
