@@ -7,7 +7,7 @@ use Rattle.model.specs.Refusal.{Refusal, Outcome, accepted, refused}
 use Rattle.model.specs.Bytes.{Bytes}
 use Rattle.model.specs.Book.{Book}
 use Rattle.model.specs.Pattern.{Pattern}
-use Rattle.model.specs.Service.{BookAnswer, RulesAnswer}
+use Rattle.model.specs.Service.{BookAnswer, RulesAnswer, ListAnswer}
 use Rattle.model.specs.Answers.{refusalOf, verdictOf, nameAt, edgeIn, clauseIn, patternIn, bookAnswer, rulesAnswer, queryAnswer, writerAnswer, listAnswer}
 use Rattle.model.specs.declared.Refusal.{Refusal as RefusalData}
 use Rattle.model.specs.declared.BookRead.{BookRead}
@@ -22,7 +22,7 @@ use Rattle.model.specs.declared.QueryWritten.{QueryWritten}
 use Rattle.model.specs.declared.QueryWritten.the-variants as written
 use Rattle.model.specs.declared.RowsListed.{RowsListed}
 use Rattle.model.specs.declared.RowsListed.the-variants as listed
-use Rattle.library.specs.Told.{BookTold, RulesTold, QueryTold, CountTold, Held}
+use Rattle.library.specs.Told.{BookTold, RulesTold, QueryTold, CountTold, RowsTold, Held}
 use Rattle.library.proofs.ToldLaws.{accepted-told, accepted-value, refused-told, refused-value}
 
 -- a book
@@ -108,11 +108,11 @@ module _ (r : QueryWritten) (o : Outcome ℕ) (answer : writerAnswer r ≡ o) wh
   written-refused {q} h = count-refused q (sym (ap writerAnswer h) ∙ answer)
 
 -- a list
-module _ (r : RowsListed) (o : Outcome ℕ) (answer : listAnswer r ≡ o) where
-  pub listed-accepted : {n : ℕ} → r ≡ listed.Count n → CountTold o true n 0 0 0
+module _ (r : RowsListed) (o : Outcome ListAnswer) (answer : listAnswer r ≡ o) where
+  pub listed-accepted : {n w : ℕ} → r ≡ listed.Count n w → RowsTold o true n 0 0 0
   unfolding listAnswer
-  listed-accepted h = count-accepted (sym (ap listAnswer h) ∙ answer)
+  listed-accepted h = let e = sym (ap listAnswer h) ∙ answer in record { told-as = accepted-told e; count = accepted-value e (λ a. a .rows) }
 
-  pub listed-refused : {q : RefusalData} → r ≡ listed.Refused q → CountTold o false 0 (q .number) (q .text) (q .line)
+  pub listed-refused : {q : RefusalData} → r ≡ listed.Refused q → RowsTold o false 0 (q .number) (q .text) (q .line)
   unfolding listAnswer
-  listed-refused {q} h = count-refused q (sym (ap listAnswer h) ∙ answer)
+  listed-refused {q} h = let e = sym (ap listAnswer h) ∙ answer in record { told-as = refused-told q e; count = refused-value q e (λ a. a .rows) }

@@ -10,7 +10,7 @@ use Rattle.model.specs.Choice.{pick}
 use Rattle.model.specs.Refusal.{Refusal, Outcome, accepted, refused}
 use Rattle.model.specs.Pattern.{Pattern}
 use Rattle.model.specs.Request.{Identity}
-use Rattle.model.specs.Service.{BookAnswer, RulesAnswer, RequestAnswer}
+use Rattle.model.specs.Service.{BookAnswer, RulesAnswer, RequestAnswer, ListAnswer}
 use Rattle.model.specs.Answers.{partOf}
 use Rattle.model.specs.declared.Counts.{Counts as CountsData}
 use Rattle.model.specs.declared.Part.{Part}
@@ -65,10 +65,15 @@ pub record QueryTold (o : Outcome Pattern) (r : Bool) (x y z w n t l : ℕ) : Ty
   pub clauses : z ≡ told (λ p. length (p .clauses)) o
   pub returns : w ≡ told (λ p. length (p .returns)) o
 
--- a number that is given: a written query's length, a list's count of rows
+-- a number that is given: a written query's length
 pub record CountTold (o : Outcome ℕ) (r : Bool) (x n t l : ℕ) : Type 0 where
   pub told-as : Told o r n t l
   pub count : x ≡ told (λ a. a) o
+
+-- a list told by its count of rows
+pub record RowsTold (o : Outcome ListAnswer) (r : Bool) (x n t l : ℕ) : Type 0 where
+  pub told-as : Told o r n t l
+  pub count : x ≡ told (λ a. a .rows) o
 
 -- as many of each as a pattern's arrays hold
 pub record Held (p : PatternData) (c : CountsData) : Type 0 where

@@ -2,7 +2,7 @@
 ghost use mathlib.Core.Path.{_≡_};
 ghost use lib.ListN.{length};
 ghost use Rattle.model.specs.Service.{ones, listService};
-ghost use Rattle.library.specs.Told.{CountTold};
+ghost use Rattle.library.specs.Told.{RowsTold};
 use model::RowsListed;
 
 // Lists the rows that may be had into the row words, one after another, a word for each node's number: true and their count, or false and
@@ -20,12 +20,12 @@ pub extern "C" fn hifmuneth_list(
     text: &mut u32,
     line: &mut u32,
 ) -> bool
-    ensures answer { λ r. ⌜ CountTold (listService (length (now (work .entry))) (length (now (rows .entry))) (now (book .entry)) (now (rules .entry)) (now (query .entry)) (now (request .entry)) .answer) r (now (count .exit)) (now (number .exit)) (now (text .exit)) (now (line .exit)) ⌝ }
+    ensures answer { λ r. ⌜ RowsTold (listService (length (now (work .entry))) (length (now (rows .entry))) (now (book .entry)) (now (rules .entry)) (now (query .entry)) (now (request .entry)) .answer) r (now (count .exit)) (now (number .exit)) (now (text .exit)) (now (line .exit)) ⌝ }
     ensures rows { λ _. ⌜ now (rows .exit) ≡ listService (length (now (work .entry))) (length (now (rows .entry))) (now (book .entry)) (now (rules .entry)) (now (query .entry)) (now (request .entry)) .rows ⌝ }
     ensures cleared { λ _. ⌜ now (work .exit) ≡ ones (length (now (work .entry))) ⌝ }
 {
     match service::list(book, rules, query, request, rows, work) {
-        RowsListed::Count(n) => {
+        RowsListed::Count(n, _) => {
             *count = n;
             *number = 0;
             *text = 0;

@@ -6,7 +6,7 @@ use mathlib.Core.List.{List, [], _∷_, _++_, map}
 use lib.ListN.{length}
 use Rattle.model.specs.Bytes.{bytesOf}
 use Rattle.model.specs.Refusal.{Outcome, accepted, refused}
-use Rattle.model.specs.Service.{Listed, ones, listService}
+use Rattle.model.specs.Service.{ListAnswer, Listed, ones, listService}
 use Rattle.model.specs.Computing.{computing}
 use Rattle.model.proofs.Example.{book, rules, request}
 
@@ -15,7 +15,7 @@ pub record Case : Type 0 where
   pub query : String
   pub request : String
   pub words : ℕ
-  pub answer : Outcome ℕ
+  pub answer : Outcome ListAnswer
   pub rows : List ℕ
 
 -- what the list is to leave: its answer, its rows from the first word on and then all ones, a working memory of all ones
@@ -27,26 +27,30 @@ abbrev pub run : Case → Listed
 run c = listService 16384 (c .words) (bytesOf book) (bytesOf rules) (bytesOf (c .query)) (bytesOf (c .request))
 
 -- the example's request, and the row buffer that the list program lends
-abbrev asks : String → Outcome ℕ → List ℕ → Case
+abbrev asks : String → Outcome ListAnswer → List ℕ → Case
 asks q o ws = record { query = q; request = request; words = 16384; answer = o; rows = ws }
 
 -- returned (number, text, line)
-abbrev returned : ℕ → ℕ → ℕ → Outcome ℕ
+abbrev returned : ℕ → ℕ → ℕ → Outcome ListAnswer
 returned n t l = refused (record { number = n; text = t; line = l })
+
+-- so many rows, of one Return name each
+abbrev counted : ℕ → Outcome ListAnswer
+counted n = accepted (record { rows = n; width = 1 })
 
 -- the example, then the ten cases in the paper's order; ana, hub, S5, S6 are the nodes 0, 1, 2, 3
 abbrev pub cases : List Case
 cases =
-    asks "Match (requestor)-[a:runs]->(h)<-[b:feeds]-(s) Where s.rate < 50 Return s" (accepted 1) (2 ∷ [])
-    ∷ asks "Match (requestor)-[a:runs]->(h)<-[b:feeds]-(s) Return s" (accepted 2) (2 ∷ 3 ∷ [])
-    ∷ asks "Match (requestor)-[a:runs]->(h)<-[b:feeds]-(s) Where s.rate <> 50 Return s" (accepted 1) (2 ∷ [])
-    ∷ asks "Match (requestor)-[a:runs]->(h)<-[b:feeds]-(s) Where s.rate < 40 Return s" (accepted 0) []
-    ∷ asks "Match (requestor)-[a:runs]->(h)<-[b:feeds]-(s) Where s.rate <= 40 Return s" (accepted 1) (2 ∷ [])
-    ∷ record { query = "Match (requestor)-[a:runs]->(h)<-[b:feeds]-(s) Where s.rate < 50 Return s"; request = "(request view (id requestor S5))\n"; words = 16384; answer = accepted 0; rows = [] }
+    asks "Match (requestor)-[a:runs]->(h)<-[b:feeds]-(s) Where s.rate < 50 Return s" (counted 1) (2 ∷ [])
+    ∷ asks "Match (requestor)-[a:runs]->(h)<-[b:feeds]-(s) Return s" (counted 2) (2 ∷ 3 ∷ [])
+    ∷ asks "Match (requestor)-[a:runs]->(h)<-[b:feeds]-(s) Where s.rate <> 50 Return s" (counted 1) (2 ∷ [])
+    ∷ asks "Match (requestor)-[a:runs]->(h)<-[b:feeds]-(s) Where s.rate < 40 Return s" (counted 0) []
+    ∷ asks "Match (requestor)-[a:runs]->(h)<-[b:feeds]-(s) Where s.rate <= 40 Return s" (counted 1) (2 ∷ [])
+    ∷ record { query = "Match (requestor)-[a:runs]->(h)<-[b:feeds]-(s) Where s.rate < 50 Return s"; request = "(request view (id requestor S5))\n"; words = 16384; answer = counted 0; rows = [] }
     ∷ asks "Match (requestor)-[a:runs]->(h)<-[b:feeds]-(s) Where s.rate < 50 Match (t) Return s" (returned 13 5 0) []
     ∷ asks "Match (requestor)-[a:runs]->(h)<-[b:feeds]-(s) Where h <> h Return s" (returned 8 3 1) []
     ∷ record { query = "Match (requestor)-[a:runs]->(h)<-[b:feeds]-(s) Where s.rate < 50 Return s"; request = request; words = 0; answer = returned 14 5 0; rows = [] }
-    ∷ record { query = "Match (requestor)-[a:runs]->(h)<-[b:feeds]-(s) Where s.rate < 40 Return s"; request = request; words = 0; answer = accepted 0; rows = [] }
+    ∷ record { query = "Match (requestor)-[a:runs]->(h)<-[b:feeds]-(s) Where s.rate < 40 Return s"; request = request; words = 0; answer = counted 0; rows = [] }
     ∷ asks "Match (requestor)-[a:runs]->(h)<-[b:feeds]-(s) Where s.rate = 'x' Return s" (returned 6 3 1) []
     ∷ asks "Match (requestor)-[a:runs]->(h)<-[b:feeds]-(s) Where s.rate < 50 Return s, s" (returned 5 3 1) []
     ∷ []

@@ -17,12 +17,12 @@ use Rattle.model.specs.Pattern.{Pattern}
 use Rattle.model.specs.Rules.{Rules}
 use Rattle.model.specs.Request.{Identity, Request}
 use Rattle.model.specs.Weave.{wovenTooMany, tied, wovenFault, askedQuery, askedPolicies, weave}
-use Rattle.model.specs.Service.{listRows}
+use Rattle.model.specs.Service.{listFound}
 use Rattle.model.proofs.Decides.{pick-iff}
 use Rattle.model.proofs.Members.{_∈_, test, below-i, below-e}
 use Rattle.model.proofs.Faults.{returned}
 use Rattle.model.proofs.TextRefusals.{book-is-text-1, rules-are-text-2, query-is-text-3, request-is-text-4}
-use Rattle.model.proofs.Refusals.{Exactly, memory-short, in-book, book-first, in-rules, AllRead, ListTable, rules-first, in-query, in-request, in-woven, no-room, wovenNumber, rowsFor, list-table}
+use Rattle.model.proofs.Refusals.{Exactly, memory-short, in-book, book-first, in-rules, AllRead, ListTable, rules-first, in-query, in-request, in-woven, no-room, wovenNumber, rowsFor, found-table}
 use Rattle.model.proofs.Tied.{IsVertex, TiedTo, tied-by-path, memℕ-e, memℕ-i}
 
 -- a test that does not hold everywhere fails somewhere
@@ -101,8 +101,8 @@ module _ (work words : ℕ) (book rules query request : Bytes) where
   abbrev pub TooFewWords : Book → Rules → QueryText → Request → Type 0
   TooFewWords b r q x = words < length (rowsFor b r q x) * length (q .returns)
 
-  table : Exactly (listRows work words book rules query request) (ListTable work words book rules query request)
-  table = list-table work words book rules query request
+  table : Exactly (listFound work words book rules query request) (ListTable work words book rules query request)
+  table = found-table work words book rules query request
 
   -- a refusal that names no text, or text 5, comes before the texts, or behind them
   behind : (f : Refusal) → ListTable work words book rules query request f
@@ -116,28 +116,28 @@ module _ (work words : ℕ) (book rules query request : Bytes) where
   behind f (no-room {b} {r} {q} {x} a n l e) = let d : f .text ≡ 5 = ap (λ z. z .text) e in (λ z. absurd (omega arith), λ z. (b, r, q, x, a, inr (ap (λ z. z .number) e, n, l)))
 
   -- 15 exactly if working memory is under 16,384 words
-  pub list-15 : (listRows work words book rules query request ≡ refused (returned 15 0 0)) ↔ (work < 16384)
-  list-15 = (λ e. behind (returned 15 0 0) (table .refused-if (returned 15 0 0) .0 e) .0 refl, λ l. table .refused-if (returned 15 0 0) .1 (rules-first (book-first (memory-short l refl))))
+  pub found-15 : (listFound work words book rules query request ≡ refused (returned 15 0 0)) ↔ (work < 16384)
+  found-15 = (λ e. behind (returned 15 0 0) (table .refused-if (returned 15 0 0) .0 e) .0 refl, λ l. table .refused-if (returned 15 0 0) .1 (rules-first (book-first (memory-short l refl))))
 
   -- 12 exactly if the texts are read and a woven limit is passed
-  pub list-12 : (listRows work words book rules query request ≡ refused (returned 12 5 0)) ↔ ReadAnd (λ b r q x. T (wovenTooMany (woven r q x)))
-  list-12 = (
+  pub found-12 : (listFound work words book rules query request ≡ refused (returned 12 5 0)) ↔ ReadAnd (λ b r q x. T (wovenTooMany (woven r q x)))
+  found-12 = (
     λ e. let (b, r, q, x, a, u) = behind (returned 12 5 0) (table .refused-if (returned 12 5 0) .0 e) .1 refl in
         (b, r, q, x, a, woven-12 (woven r q x) (x .identities) .0 (⊎-elim (λ n. n) (λ n. let z : _≡_ {A = ℕ} 12 14 = n .0 in absurd (omega arith)) u)),
     λ u. table .refused-if (returned 12 5 0) .1 (in-woven (u .4) (woven-12 (woven (u .1) (u .2) (u .3)) (u .3 .identities) .1 (u .5)) refl),
   )
 
   -- 13 exactly if no limit is passed and a woven vertex is not tied to an identity
-  pub list-13 : (listRows work words book rules query request ≡ refused (returned 13 5 0)) ↔ ReadAnd (λ b r q x. (T (wovenTooMany (woven r q x)) → ⊥) × Untied (woven r q x) (x .identities))
-  list-13 = (
+  pub found-13 : (listFound work words book rules query request ≡ refused (returned 13 5 0)) ↔ ReadAnd (λ b r q x. (T (wovenTooMany (woven r q x)) → ⊥) × Untied (woven r q x) (x .identities))
+  found-13 = (
     λ e. let (b, r, q, x, a, u) = behind (returned 13 5 0) (table .refused-if (returned 13 5 0) .0 e) .1 refl in
         (b, r, q, x, a, woven-13 (woven r q x) (x .identities) .0 (⊎-elim (λ n. n) (λ n. let z : _≡_ {A = ℕ} 13 14 = n .0 in absurd (omega arith)) u)),
     λ u. table .refused-if (returned 13 5 0) .1 (in-woven (u .4) (woven-13 (woven (u .1) (u .2) (u .3)) (u .3 .identities) .1 (u .5)) refl),
   )
 
   -- 14 exactly if the woven pattern has no fault and the rows do not fit
-  pub list-14 : (listRows work words book rules query request ≡ refused (returned 14 5 0)) ↔ ReadAnd (λ b r q x. (wovenNumber r q x ≡ nothing) × TooFewWords b r q x)
-  list-14 = (
+  pub found-14 : (listFound work words book rules query request ≡ refused (returned 14 5 0)) ↔ ReadAnd (λ b r q x. (wovenNumber r q x ≡ nothing) × TooFewWords b r q x)
+  found-14 = (
     λ e. let (b, r, q, x, a, u) = behind (returned 14 5 0) (table .refused-if (returned 14 5 0) .0 e) .1 refl in
         (b, r, q, x, a, ⊎-elim (λ n. ⊎-elim (λ z. absurd (omega arith)) (λ z. absurd (omega arith)) (woven-number (woven r q x) (x .identities) 14 n)) (λ n. (n .1, n .2)) u),
     λ u. table .refused-if (returned 14 5 0) .1 (no-room (u .4) (u .5 .0) (u .5 .1) refl),

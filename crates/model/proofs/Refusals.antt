@@ -20,7 +20,7 @@ use Rattle.model.specs.ReadRules.{readRules}
 use Rattle.model.specs.Request.{Request, readRequest}
 use Rattle.model.specs.Weave.{askedQuery, askedPolicies, weave, wovenFault}
 use Rattle.model.specs.Rows.{rowsOf}
-use Rattle.model.specs.Service.{withWork, bookService, rulesService, queryService, requestService, writerText, writerService, listRows, listService}
+use Rattle.model.specs.Service.{withWork, bookService, rulesService, queryService, requestService, writerText, writerService, FoundRows, listFound, listRows, listService}
 use Rattle.model.proofs.Members.{test, is-true, is-false}
 use Rattle.model.proofs.Faults.{returned, over-refused, number-refused, need-refused}
 use Rattle.model.proofs.Outcomes.{never, accept-e, if-e}
@@ -198,24 +198,28 @@ writer-table work room book rules query = exactly _ (WriterTable work room book 
           (inr (q, e, either-refused room 2048 (length (writtenQuery (patternOf q))) (returned 14 3 1) (writtenQuery (patternOf q)) f .1 (l, d))),
     ))
 
+-- the rows found for four texts that are read
+abbrev pub foundFor : Book → Rules → QueryText → Request → FoundRows
+foundFor b r q x = record { rows = rowsFor b r q x; width = length (q .returns) }
+
 -- behind the four texts the list gives this refusal
 abbrev Behind : ℕ → Book → Rules → QueryText → Request → Refusal → Type 0
 Behind words b r q x f =
-    refusedIf (wovenNumber r q x) 5 0 (pick (ltb words (length (rowsFor b r q x) * length (q .returns))) (refused (returned 14 5 0)) (accepted (rowsFor b r q x))) ≡ refused f
+    refusedIf (wovenNumber r q x) 5 0 (pick (ltb words (length (rowsFor b r q x) * length (q .returns))) (refused (returned 14 5 0)) (accepted (foundFor b r q x))) ≡ refused f
 
 woven-refused : (words : ℕ) (b : Book) (r : Rules) (q : QueryText) (x : Request) (f : Refusal)
     → Behind words b r q x f ↔ (((n : ℕ) × (wovenNumber r q x ≡ just n) × (f ≡ returned n 5 0)) ⊎ ((wovenNumber r q x ≡ nothing) × (words < length (rowsFor b r q x) * length (q .returns)) × (f ≡ returned 14 5 0)))
 woven-refused words b r q x f =
-    let h = number-refused (wovenNumber r q x) 5 0 (pick (ltb words (length (rowsFor b r q x) * length (q .returns))) (refused (returned 14 5 0)) (accepted (rowsFor b r q x))) f in
-    let o = over-refused words (length (rowsFor b r q x) * length (q .returns)) (returned 14 5 0) (accepted (rowsFor b r q x)) f in (
+    let h = number-refused (wovenNumber r q x) 5 0 (pick (ltb words (length (rowsFor b r q x) * length (q .returns))) (refused (returned 14 5 0)) (accepted (foundFor b r q x))) f in
+    let o = over-refused words (length (rowsFor b r q x) * length (q .returns)) (returned 14 5 0) (accepted (foundFor b r q x)) f in (
       λ e. ⊎-elim inl (λ u. inr (⊎-elim (λ v. (u .0, v .0, v .1)) (λ v. accepts _ f (v .1)) (o .0 (u .1)))) (h .0 e),
       λ u. h .1 (⊎-elim inl (λ v. inr (v .0, o .1 (inl (v .1, v .2)))) u),
     )
 
--- the rows are refused by the list's table, and else given
-pub list-table : (work words : ℕ) (book rules query request : Bytes) → Exactly (listRows work words book rules query request) (ListTable work words book rules query request)
-unfolding listRows refusal
-list-table work words book rules query request = exactly _ (ListTable work words book rules query request) (λ f. (
+-- what the list finds is refused by the list's table, and else given
+pub found-table : (work words : ℕ) (book rules query request : Bytes) → Exactly (listFound work words book rules query request) (ListTable work words book rules query request)
+unfolding listFound refusal
+found-table work words book rules query request = exactly _ (ListTable work words book rules query request) (λ f. (
   λ e. ⊎-elim rules-first (λ u. ⊎-elim (in-query (u .2)) (λ v. ⊎-elim (in-request (u .2) (v .1))
       (λ w. let a : AllRead work book rules query request (u .0) (u .1) (v .0) (w .0) = record { rules-before = u .2; query-read = v .1; request-read = w .1 } in
       ⊎-elim (λ z. in-woven a (z .1) (z .2)) (λ z. no-room a (z .0) (z .1) (z .2)) (woven-refused words (u .0) (u .1) (v .0) (w .0) f .0 (w .2)))
@@ -224,10 +228,10 @@ list-table work words book rules query request = exactly _ (ListTable work words
   back f,
 ))
   where
-    behind-texts : (f : Refusal) (b : Book) (r : Rules) (q : QueryText) (x : Request) → AllRead work book rules query request b r q x → Behind words b r q x f → listRows work words book rules query request ≡ refused f
+    behind-texts : (f : Refusal) (b : Book) (r : Rules) (q : QueryText) (x : Request) → AllRead work book rules query request b r q x → Behind words b r q x f → listFound work words book rules query request ≡ refused f
     behind-texts f b r q x a e = after-rules work book rules _ f .1 (inr (b, r, a .rules-before, need-refused (readQuery b query) _ f .1 (inr (q, a .query-read, need-refused (readRequest b r request) _ f .1 (inr (x, a .request-read, e))))))
 
-    back : (f : Refusal) → ListTable work words book rules query request f → listRows work words book rules query request ≡ refused f
+    back : (f : Refusal) → ListTable work words book rules query request f → listFound work words book rules query request ≡ refused f
     back f (rules-first t) = after-rules work book rules _ f .1 (inl t)
     back f (in-query {b} {r} u e) = after-rules work book rules _ f .1 (inr (b, r, u, need-refused (readQuery b query) _ f .1 (inl e)))
     back f (in-request {b} {r} {q} u e d) = after-rules work book rules _ f .1 (inr (b, r, u, need-refused (readQuery b query) _ f .1 (inr (q, e, need-refused (readRequest b r request) _ f .1 (inl d)))))
@@ -238,6 +242,11 @@ list-table work words book rules query request = exactly _ (ListTable work words
 answer-exactly : {A B : Type 0} (o : Outcome A) (g : A → B) (Table : Refusal → Type 0) → Exactly o Table → Exactly (onAccept o (λ a. accepted (g a))) Table
 answer-exactly o g Table h = exactly _ Table (λ f. let n = need-refused o (λ a. accepted (g a)) f in (λ e. ⊎-elim (h .refused-if f .0) (λ u. accepts _ f (u .2)) (n .0 e), λ t. n .1 (inl (h .refused-if f .1 t))))
 
+-- the rows are refused by the list's table, and else given
+pub list-table : (work words : ℕ) (book rules query request : Bytes) → Exactly (listRows work words book rules query request) (ListTable work words book rules query request)
+unfolding listRows
+list-table work words book rules query request = answer-exactly (listFound work words book rules query request) (λ f. f .rows) _ (found-table work words book rules query request)
+
 -- the query writer refuses by its table, and else answers
 pub writer-service-table : (work : ℕ) (buffer book rules query : Bytes) → Exactly (writerService work buffer book rules query .answer) (WriterTable work (length buffer) book rules query)
 unfolding writerService
@@ -246,18 +255,18 @@ writer-service-table work buffer book rules query = answer-exactly (writerText w
 -- the list refuses by its table, and else answers
 pub list-service-table : (work words : ℕ) (book rules query request : Bytes) → Exactly (listService work words book rules query request .answer) (ListTable work words book rules query request)
 unfolding listService
-list-service-table work words book rules query request = answer-exactly (listRows work words book rules query request) length _ (list-table work words book rules query request)
+list-service-table work words book rules query request = answer-exactly (listFound work words book rules query request) (λ f. record { rows = length (f .rows); width = f .width }) _ (found-table work words book rules query request)
 
 -- an accepted list: all four texts are read, the woven pattern has no fault, the rows fit, and they are the rows that may be had
-pub record ListGiven (work words : ℕ) (book rules query request : Bytes) (rows : List (List ℕ)) : Type 0 where
+pub record ListGiven (work words : ℕ) (book rules query request : Bytes) (found : FoundRows) : Type 0 where
   pub b : Book
   pub r : Rules
   pub q : QueryText
   pub x : Request
   pub read : AllRead work book rules query request b r q x
   pub woven : wovenNumber r q x ≡ nothing
-  pub fits : length rows * length (q .returns) ≤ words
-  pub rows-are : rows ≡ rowsFor b r q x
+  pub fits : length (found .rows) * length (q .returns) ≤ words
+  pub found-is : found ≡ foundFor b r q x
 
 within : {A : Type 0} (m n : ℕ) (g : Refusal) (o : Outcome A) (a : A) → pick (ltb m n) (refused g) o ≡ accepted a → (n ≤ m) × (o ≡ accepted a)
 within m n g o a e = ⊎-elim (λ t. never g a (rw (is-true (ltb m n) t) at e)) (λ t. (nltb→le m n (not-T (ltb m n) t), rw (is-false (ltb m n) t) at e)) (test (ltb m n))
@@ -266,22 +275,30 @@ same-accepted : {A : Type 0} (a c : A) → _≡_ {A = Outcome A} (accepted a) (a
 same-accepted a c e = cc
 
 -- a list that is accepted is so given
-pub list-given : (work words : ℕ) (book rules query request : Bytes) (rows : List (List ℕ)) → listRows work words book rules query request ≡ accepted rows → ListGiven work words book rules query request rows
-unfolding listRows withWork refusal
-list-given work words book rules query request rows e =
-    let w = within work 16384 (returned 15 0 0) _ rows e in
-    let a = accept-e (readBook book) _ rows (w .1) in
-    let c = accept-e (readRules (a .0) rules) _ rows (a .2) in
-    let d = accept-e (readQuery (a .0) query) _ rows (c .2) in
-    let f = accept-e (readRequest (a .0) (c .0) request) _ rows (d .2) in
-    let g = if-e (wovenNumber (c .0) (d .0) (f .0)) 5 0 _ rows (f .2) in
+pub list-given : (work words : ℕ) (book rules query request : Bytes) (found : FoundRows) → listFound work words book rules query request ≡ accepted found → ListGiven work words book rules query request found
+unfolding listFound withWork refusal
+list-given work words book rules query request found e =
+    let w = within work 16384 (returned 15 0 0) _ found e in
+    let a = accept-e (readBook book) _ found (w .1) in
+    let c = accept-e (readRules (a .0) rules) _ found (a .2) in
+    let d = accept-e (readQuery (a .0) query) _ found (c .2) in
+    let f = accept-e (readRequest (a .0) (c .0) request) _ found (d .2) in
+    let g = if-e (wovenNumber (c .0) (d .0) (f .0)) 5 0 _ found (f .2) in
     let read : AllRead work book rules query request (a .0) (c .0) (d .0) (f .0) =
     record { rules-before = record { book-before = record { memory-whole = w .0; book-read = a .1 }; rules-read = c .1 }; query-read = d .1; request-read = f .1 } in
     last (a .0) (c .0) (d .0) (f .0) read (g .0) (g .1)
   where
     last : (b : Book) (r : Rules) (q : QueryText) (x : Request) → AllRead work book rules query request b r q x → wovenNumber r q x ≡ nothing
-        → pick (ltb words (length (rowsFor b r q x) * length (q .returns))) (refused (returned 14 5 0)) (accepted (rowsFor b r q x)) ≡ accepted rows → ListGiven work words book rules query request rows
+        → pick (ltb words (length (rowsFor b r q x) * length (q .returns))) (refused (returned 14 5 0)) (accepted (foundFor b r q x)) ≡ accepted found → ListGiven work words book rules query request found
     last b r q x read n e =
-        let h = within words (length (rowsFor b r q x) * length (q .returns)) (returned 14 5 0) (accepted (rowsFor b r q x)) rows e in
-        let i = same-accepted (rowsFor b r q x) rows (h .1) in
-        record { b = b; r = r; q = q; x = x; read = read; woven = n; fits = subst (λ z. length z * length (q .returns) ≤ words) i (h .0); rows-are = sym i }
+        let h = within words (length (rowsFor b r q x) * length (q .returns)) (returned 14 5 0) (accepted (foundFor b r q x)) found e in
+        let i = same-accepted (foundFor b r q x) found (h .1) in
+        record { b = b; r = r; q = q; x = x; read = read; woven = n; fits = subst (λ (z : FoundRows). length (z .rows) * length (q .returns) ≤ words) i (h .0); found-is = sym i }
+
+-- rows that are accepted stand in an accepted list
+pub rows-found : (work words : ℕ) (book rules query request : Bytes) (rows : List (List ℕ)) → listRows work words book rules query request ≡ accepted rows
+    → (found : FoundRows) × ListGiven work words book rules query request found × (rows ≡ found .rows)
+unfolding listRows
+rows-found work words book rules query request rows e =
+    let (found, f, d) = accept-e (listFound work words book rules query request) (λ f. accepted (f .rows)) rows e in
+    (found, list-given work words book rules query request found f, sym (same-accepted (found .rows) rows d))

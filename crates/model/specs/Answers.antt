@@ -10,7 +10,7 @@ use Rattle.model.specs.Book.{Book, emptyBook, attrNames}
 use Rattle.model.specs.QueryText.{Relation, eq, ne, lt, le, gt, ge}
 use Rattle.model.specs.Pattern.{Pattern, Edge, Clause, excluded, vertexHas, edgeHas}
 use Rattle.model.specs.Request.{Identity}
-use Rattle.model.specs.Service.{BookAnswer, RulesAnswer, RequestAnswer}
+use Rattle.model.specs.Service.{BookAnswer, RulesAnswer, RequestAnswer, ListAnswer}
 use Rattle.model.specs.declared.Refusal.{Refusal as RefusalData}
 use Rattle.model.specs.declared.Verdict.{Verdict}
 use Rattle.model.specs.declared.Verdict.the-variants as verdict
@@ -119,8 +119,8 @@ writerAnswer (written.Length n) = accepted n
 writerAnswer (written.Refused r) = refused (refusalOf r)
 
 -- what a list answers
-unfoldable pub listAnswer : RowsListed → Outcome ℕ
-listAnswer (listed.Count n) = accepted n
+unfoldable pub listAnswer : RowsListed → Outcome ListAnswer
+listAnswer (listed.Count n w) = accepted (record { rows = n; width = w })
 listAnswer (listed.Refused r) = refused (refusalOf r)
 
 -- the book that a text is, or an empty one where it is refused

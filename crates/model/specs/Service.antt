@@ -108,31 +108,46 @@ writerService work buffer book rules query =
     let t = writerText work (length buffer) book rules query in
     record { answer = onAccept t (λ x. accepted (length x)); text = onto t buffer; work = ones work }
 
--- the rows, if rows times Return names fit the row buffer's words
-unfoldable pub listRows : ℕ → ℕ → Bytes → Bytes → Bytes → Bytes → Outcome (List (List ℕ))
-listRows work words book rules query request =
+-- the rows that a list finds, and how many Return names each row answers
+pub record FoundRows : Type 0 where
+  pub rows : List (List ℕ)
+  pub width : ℕ
+
+-- the rows found, if rows times Return names fit the row buffer's words
+unfoldable pub listFound : ℕ → ℕ → Bytes → Bytes → Bytes → Bytes → Outcome FoundRows
+listFound work words book rules query request =
     withWork work (
     onAccept (readBook book) (λ b.
     onAccept (readRules b rules) (λ r.
     onAccept (readQuery b query) (λ q.
     onAccept (readRequest b r request) (λ x.
     let rows = rowsOf b (x .identities) (askedQuery r x q) (askedPolicies r x) in
-    let answer = pick (ltb words (length rows * length (q .returns))) (refusal 14 5 0) (accepted rows) in
+    let width = length (q .returns) in
+    let answer = pick (ltb words (length rows * width)) (refusal 14 5 0) (accepted (record { rows = rows; width = width })) in
     refusedIf (wovenFault (weave (askedQuery r x q ∷ askedPolicies r x)) (x .identities)) 5 0 answer)))))
+
+-- the rows alone
+unfoldable pub listRows : ℕ → ℕ → Bytes → Bytes → Bytes → Bytes → Outcome (List (List ℕ))
+listRows work words book rules query request = onAccept (listFound work words book rules query request) (λ f. accepted (f .rows))
+
+-- what the list answers: how many rows there are, and how many Return names each row answers
+pub record ListAnswer : Type 0 where
+  pub rows : ℕ
+  pub width : ℕ
 
 -- what the list leaves
 pub record Listed : Type 0 where
-  pub answer : Outcome ℕ
+  pub answer : Outcome ListAnswer
   pub rows : List ℕ
   pub work : List ℕ
 
 -- the rows one after another, then all ones
-unfoldable pub rowWords : ℕ → Outcome (List (List ℕ)) → List ℕ
-rowWords words (accepted rows) = let flat = joined (λ row. row) rows in flat ++ ones (words - length flat)
+unfoldable pub rowWords : ℕ → Outcome FoundRows → List ℕ
+rowWords words (accepted f) = let flat = joined (λ row. row) (f .rows) in flat ++ ones (words - length flat)
 rowWords words (refused r) = ones words
 
--- the list answers the row count
+-- the list answers how many rows there are and how wide each is
 unfoldable pub listService : ℕ → ℕ → Bytes → Bytes → Bytes → Bytes → Listed
 listService work words book rules query request =
-    let found = listRows work words book rules query request in
-    record { answer = onAccept found (λ rows. accepted (length rows)); rows = rowWords words found; work = ones work }
+    let found = listFound work words book rules query request in
+    record { answer = onAccept found (λ f. accepted (record { rows = length (f .rows); width = f .width })); rows = rowWords words found; work = ones work }

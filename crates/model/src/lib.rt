@@ -132,9 +132,9 @@ pub enum QueryWritten {
     Refused(Refusal),
 }
 
-// What a list gives: the number of its rows, or a refusal.
+// What a list gives: the number of its rows and the number of Return names that each row answers, or a refusal.
 pub enum RowsListed {
-    Count(usize),
+    Count(usize, usize),
     Refused(Refusal),
 }
 

@@ -16,14 +16,14 @@ use Rattle.model.specs.Book.{Book}
 use Rattle.model.specs.QueryText.{QueryText}
 use Rattle.model.specs.Rules.{Rules}
 use Rattle.model.specs.Request.{Request}
-use Rattle.model.specs.Service.{ones, rowWords, listRows, listService}
+use Rattle.model.specs.Service.{ones, FoundRows, ListAnswer, rowWords, listFound, listService}
 use Rattle.model.specs.Answers.{listAnswer}
 use Rattle.model.specs.Computing.{computing}
 use Rattle.model.specs.declared.RowsListed.{RowsListed}
 use Rattle.model.proofs.Faults.{returned, need-refused}
 use Rattle.model.proofs.Outcomes.{never, accept-e}
 use Rattle.model.proofs.Refusals.{rowsFor, list-given}
-use Rattle.model.proofs.ListRefusals.{list-14}
+use Rattle.model.proofs.ListRefusals.{found-14}
 use Rattle.model.proofs.Example as example
 use Rattle.service.proofs.PremiseLaws.{Premises, HadRows, premises-of, had-rows, only-list, rows-given}
 
@@ -33,9 +33,9 @@ pub record Called (book rules query request : Bytes) (rows work rows′ work′ 
   pub rows-left : rows′ ≡ listService (length work) (length rows) book rules query request .rows
   pub cleared : work′ ≡ ones (length work)
 
--- the rows stand in the words, one after another, then all ones; the answer is their number
-pub record Listed (list : List (List ℕ)) (words : ℕ) (rows′ : List ℕ) (r : RowsListed) : Type 0 where
-  pub their-number : listAnswer r ≡ accepted (length list)
+-- the rows stand in the words, one after another, then all ones; the answer is their number and their width
+pub record Listed (list : List (List ℕ)) (width words : ℕ) (rows′ : List ℕ) (r : RowsListed) : Type 0 where
+  pub their-number : listAnswer r ≡ accepted (record { rows = length list; width = width })
   pub rows-then-ones : rows′ ≡ joined (λ row. row) list ++ ones (words - length (joined (λ row. row) list))
 
 -- 14, and every row word is all ones
@@ -60,24 +60,27 @@ module _ (book rules query request : Bytes) (rows work rows′ work′ : List �
   abbrev pub needed : (list : List (List ℕ)) → Due list → ℕ
   needed list a = length list * length (a .q .returns)
 
-  abbrev found : Outcome (List (List ℕ))
-  found = listRows (length work) (length rows) book rules query request
+  abbrev found : Outcome FoundRows
+  found = listFound (length work) (length rows) book rules query request
+
+  abbrev answerOf : FoundRows → Outcome ListAnswer
+  answerOf f = accepted (record { rows = length (f .rows); width = f .width })
 
   -- where the premises hold there is such a list
   pub rows-that-may-be-had : (b : Book) (r : Rules) (q : QueryText) (x : Request) → Premises (length work) book rules query request b r q x → (list : List (List ℕ)) × HadRows b r q x list
   rows-that-may-be-had b r q x h = (rowsFor b r q x, had-rows (length work) book rules query request b r q x h)
 
-  given : (list : List (List ℕ)) (a : Due list) → found ≡ pick (ltb (length rows) (needed list a)) (refusal 14 5 0) (accepted list)
+  given : (list : List (List ℕ)) (a : Due list) → found ≡ pick (ltb (length rows) (needed list a)) (refusal 14 5 0) (accepted (record { rows = list; width = length (a .q .returns) }))
   given list a =
       let e = only-list (length work) book rules query request (a .b) (a .r) (a .q) (a .x) (a .premises) list (a .had) in
       rows-given (length work) book rules query request (a .b) (a .r) (a .q) (a .x) (a .premises) (length rows)
-      ∙ ap (λ (l : List (List ℕ)). pick (ltb (length rows) (length l * length (a .q .returns))) (refusal 14 5 0) (accepted l)) (sym e)
+      ∙ ap (λ (l : List (List ℕ)). pick (ltb (length rows) (length l * length (a .q .returns))) (refusal 14 5 0) (accepted (record { rows = l; width = length (a .q .returns) }))) (sym e)
 
   -- the theorem: the rows that may be had are listed if they fit, and 14 is answered if they do not
-  pub listed-if-they-fit : (list : List (List ℕ)) (a : Due list) → needed list a ≤ length rows → Listed list (length rows) rows′ res
+  pub listed-if-they-fit : (list : List (List ℕ)) (a : Due list) → needed list a ≤ length rows → Listed list (length (a .q .returns)) (length rows) rows′ res
   unfolding listService onAccept rowWords
   listed-if-they-fit list a l =
-      let e : found ≡ accepted list = given list a ∙ rw (le-ltb (length rows) (needed list a) l) in
+      let e : found ≡ accepted (record { rows = list; width = length (a .q .returns) }) = given list a ∙ rw (le-ltb (length rows) (needed list a) l) in
       record { their-number = call .answer ∙ rw e; rows-then-ones = call .rows-left ∙ rw e }
 
   pub fourteen-if-they-do-not : (list : List (List ℕ)) (a : Due list) → length rows < needed list a → DoNotFit (length rows) rows′ res
@@ -90,32 +93,33 @@ module _ (book rules query request : Bytes) (rows work rows′ work′ : List �
   pub fourteen-exactly : (listAnswer res ≡ refused (returned 14 5 0)) ↔ ((list : List (List ℕ)) × (a : Due list) × (length rows < needed list a))
   unfolding listService
   fourteen-exactly = (
-    λ e. let n = need-refused found (λ rows. accepted (length rows)) (returned 14 5 0) .0 (sym (call .answer) ∙ e) in
-        let f : found ≡ refused (returned 14 5 0) = ⊎-elim (λ d. d) (λ u. never (returned 14 5 0) (length (u .0)) (sym (u .2))) n in
-        let (b, r, q, x, read, u) = list-14 (length work) (length rows) book rules query request .0 f in
+    λ e. let n = need-refused found answerOf (returned 14 5 0) .0 (sym (call .answer) ∙ e) in
+        let f : found ≡ refused (returned 14 5 0) = ⊎-elim (λ d. d) (λ u. never (returned 14 5 0) _ (sym (u .2))) n in
+        let (b, r, q, x, read, u) = found-14 (length work) (length rows) book rules query request .0 f in
         let h = premises-of (length work) book rules query request b r q x read (u .0) in
         (rowsFor b r q x, record { b = b; r = r; q = q; x = x; premises = h; had = had-rows (length work) book rules query request b r q x h }, u .1),
     λ (list, a, l). fourteen-if-they-do-not list a l .fourteen,
   )
 
-  -- a number exactly if they fit and every premise holds, and it is the number of rows that may be had
-  pub counted-exactly : (n : ℕ) → (listAnswer res ≡ accepted n) ↔ ((list : List (List ℕ)) × (a : Due list) × (needed list a ≤ length rows) × (length list ≡ n))
+  -- so many rows, so wide, exactly if they fit and every premise holds: as many as may be had, with a node's number for each Return name
+  pub counted-exactly : (n w : ℕ)
+      → (listAnswer res ≡ accepted (record { rows = n; width = w })) ↔ ((list : List (List ℕ)) × (a : Due list) × (needed list a ≤ length rows) × (length list ≡ n) × (length (a .q .returns) ≡ w))
   unfolding listService
-  counted-exactly n = (
-    λ e. let (list, f, m) = accept-e found (λ rows. accepted (length rows)) n (sym (call .answer) ∙ e) in
-        let g = list-given (length work) (length rows) book rules query request list f in
+  counted-exactly n w = (
+    λ e. let (f, d, m) = accept-e found answerOf (record { rows = n; width = w }) (sym (call .answer) ∙ e) in
+        let g = list-given (length work) (length rows) book rules query request f d in
         let h = premises-of (length work) book rules query request (g .b) (g .r) (g .q) (g .x) (g .read) (g .woven) in
-        let a : Due list = record {
+        let a : Due (f .rows) = record {
           b = g .b;
           r = g .r;
           q = g .q;
           x = g .x;
           premises = h;
-          had = subst (λ (l : List (List ℕ)). HadRows (g .b) (g .r) (g .q) (g .x) l) (sym (g .rows-are)) (had-rows (length work) book rules query request (g .b) (g .r) (g .q) (g .x) h);
+          had = subst (λ (z : FoundRows). HadRows (g .b) (g .r) (g .q) (g .x) (z .rows)) (sym (g .found-is)) (had-rows (length work) book rules query request (g .b) (g .r) (g .q) (g .x) h);
         } in
-        let same : length list ≡ n = cc in
-        (list, a, g .fits, same),
-    λ (list, a, l, m). listed-if-they-fit list a l .their-number ∙ ap accepted m,
+        let same : _≡_ {A = ListAnswer} (record { rows = length (f .rows); width = f .width }) (record { rows = n; width = w }) = cc in
+        (f .rows, a, g .fits, ap (λ (z : ListAnswer). z .rows) same, sym (ap (λ (z : FoundRows). z .width) (g .found-is)) ∙ ap (λ (z : ListAnswer). z .width) same),
+    λ (list, a, l, m, v). listed-if-they-fit list a l .their-number ∙ ap₂ (λ (i j : ℕ). accepted (record { rows = i; width = j })) m v,
   )
 
 -- Not vacuous: the paper's texts meet the premises,
@@ -128,9 +132,9 @@ premises-example = premises-of 16384 (bytesOf example.book) (bytesOf example.rul
       request-read = example.request-read;
     }) refl
 
--- and a call on them, with two row words lent, answers one row: that of S5, then all ones
+-- and a call on them, with two row words lent, answers one row of one name: that of S5, then all ones
 row-example : (rows work rows′ work′ : List ℕ) (res : RowsListed) → length rows ≡ 2 → length work ≡ 16384
-    → Called (bytesOf example.book) (bytesOf example.rules) (bytesOf example.query) (bytesOf example.request) rows work rows′ work′ res → (listAnswer res ≡ accepted 1) × (rows′ ≡ 2 ∷ 4294967295 ∷ [])
+    → Called (bytesOf example.book) (bytesOf example.rules) (bytesOf example.query) (bytesOf example.request) rows work rows′ work′ res → (listAnswer res ≡ accepted (record { rows = 1; width = 1 })) × (rows′ ≡ 2 ∷ 4294967295 ∷ [])
 unfolding computing
 row-example rows work rows′ work′ res m n call = (
   call .answer ∙ ap₂ (λ (i j : ℕ). listService i j (bytesOf example.book) (bytesOf example.rules) (bytesOf example.query) (bytesOf example.request) .answer) n m,

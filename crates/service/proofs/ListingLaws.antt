@@ -16,7 +16,7 @@ use Rattle.model.specs.Book.{Book}
 use Rattle.model.specs.ReadBook.{readBook}
 use Rattle.model.specs.Pattern.{Pattern}
 use Rattle.model.specs.Request.{Identity}
-use Rattle.model.specs.Service.{ones, rowWords, listRows, listService}
+use Rattle.model.specs.Service.{ones, FoundRows, ListAnswer, rowWords, listFound, listService}
 use Rattle.model.specs.Answers.{refusalOf, listAnswer}
 use Rattle.model.specs.declared.Refusal.{Refusal as RefusalData}
 use Rattle.model.specs.declared.RowsListed.{RowsListed}
@@ -34,9 +34,9 @@ use Rattle.search.specs.Rows.{RowsFound}
 use Rattle.service.specs.Behind.{rowsFrom, rowsOfRules, rowsOfQuery, rowsOfTexts, Lists}
 use Rattle.service.proofs.BookLaws.{little, enough}
 
--- rows that may be refused
+-- rows that were found or refused
 abbrev pub RowsGiven : Type 0
-RowsGiven = Outcome (List (List ℕ))
+RowsGiven = Outcome FoundRows
 
 -- a refusal clears the row words
 pub lists-nothing : (number text line : ℕ) (before after : List ℕ) → after ≡ filled 0 before
@@ -67,7 +67,7 @@ module _ (b : Book) (p : Pattern) (woven : List ℕ) (returns : ℕ) (before aft
     (found : RowsFound b p woven returns before after count full)
     (ids : List Identity) (identified : Identified p ids woven) (list : List Row) (all : AllRows (problemOf b p ids) list) where
   -- they do not fit
-  pub found-too-many : full ≡ true → pick (ltb (length before) (length list * returns)) (refusal 14 5 0) (accepted list) ≡ refusal 14 5 0
+  pub found-too-many : full ≡ true → _≡_ {A = RowsGiven} (pick (ltb (length before) (length list * returns)) (refusal 14 5 0) (accepted (record { rows = list; width = returns }))) (refusal 14 5 0)
   found-too-many e = rw (lt-ltb (length before) (length list * returns) (found .too-many ids identified e list all))
 
   -- they fit: the rows found are all rows
@@ -83,28 +83,28 @@ module _ (b : Book) (p : Pattern) (woven : List ℕ) (returns : ℕ) (before aft
   found-words e = joined-flat list ∙ ap flat (found-all e) ∙ flat-rowsIn returns count after
 
   pub found-listed : full ≡ false → length after ≡ length before → (after′ : List ℕ) → after′ ≡ filled (count * returns) after
-      → Lists (pick (ltb (length before) (length list * returns)) (refusal 14 5 0) (accepted list)) (length before) after′ (answer.Count count)
+      → Lists (pick (ltb (length before) (length list * returns)) (refusal 14 5 0) (accepted (record { rows = list; width = returns }))) (length before) after′ (answer.Count count returns)
   unfolding listAnswer onAccept rowWords filled ones
   found-listed e l after′ f =
       let size : length (joined (λ row. row) list) ≡ count * returns = ap length (found-words e) ∙ length-take-le (count * returns) after (found .fits) in
       let room : length after - count * returns ≡ length before - length (joined (λ row. row) list) = omega arith in
       let fits : length list * returns ≤ length before = subst (λ (n : ℕ). n * returns ≤ length before) (sym (found-count e)) (omega (arith, found .fits)) in
       rw (le-ltb (length before) (length list * returns) fits) (record {
-        answer = ap accepted (sym (found-count e));
+        answer = ap (λ (n : ℕ). accepted (record { rows = n; width = returns })) (sym (found-count e));
         rows = f ∙ ap₂ (λ (l : List ℕ) (n : ℕ). l ++ ones n) (sym (found-words e)) room;
       })
 
 -- the service's answer and row words
 module _ (work words : ℕ) (book rules query request : Bytes) where
-  pub list-little : work < 16384 → listRows work words book rules query request ≡ refusal 15 0 0
-  unfolding listRows refusal refusalOf
+  pub list-little : work < 16384 → listFound work words book rules query request ≡ refusal 15 0 0
+  unfolding listFound refusal refusalOf
   list-little h = little work _ h
 
-  pub list-enough : 16384 ≤ work → listRows work words book rules query request ≡ onAccept (readBook book) (rowsFrom words rules query request)
-  unfolding listRows rowsFrom rowsOfRules rowsOfQuery rowsOfTexts
+  pub list-enough : 16384 ≤ work → listFound work words book rules query request ≡ onAccept (readBook book) (rowsFrom words rules query request)
+  unfolding listFound rowsFrom rowsOfRules rowsOfQuery rowsOfTexts
   list-enough h = enough work _ h
 
-  pub list-says : (after : List ℕ) (r : RowsListed) → Lists (listRows work words book rules query request) words after r
+  pub list-says : (after : List ℕ) (r : RowsListed) → Lists (listFound work words book rules query request) words after r
       → (listAnswer r ≡ listService work words book rules query request .answer) × (after ≡ listService work words book rules query request .rows)
   unfolding listService
   list-says after r h = (h .answer, h .rows)

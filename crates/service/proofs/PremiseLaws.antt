@@ -19,14 +19,14 @@ use Rattle.model.specs.Rules.{Rules}
 use Rattle.model.specs.Request.{Identity, Request}
 use Rattle.model.specs.Weave.{askedQuery, askedPolicies, tied, wovenTooMany, wovenFault}
 use Rattle.model.specs.MayHave.{MayHave}
-use Rattle.model.specs.Service.{withWork, listRows}
+use Rattle.model.specs.Service.{withWork, listFound}
 use Rattle.model.proofs.Members.{_∈_, all-e, all-i, below-i, below-e}
 use Rattle.model.proofs.Tied.{IsVertex, TiedTo, tied-by-path, memℕ-e, memℕ-i}
 use Rattle.model.proofs.AcceptedQuery.{query-named}
 use Rattle.model.proofs.Accepted.{policies-named}
 use Rattle.model.proofs.RowsHad.{rows-may-be-had}
 use Rattle.model.proofs.Ascending.{Ascending, NoneTwice, rows-ascend, ascending-none-twice}
-use Rattle.model.proofs.Refusals.{AllRead, wovenNumber, rowsFor}
+use Rattle.model.proofs.Refusals.{AllRead, wovenNumber, rowsFor, foundFor}
 use Rattle.model.proofs.ListRefusals.{woven}
 use Rattle.rows.specs.SortedLaws.{same-list}
 use Rattle.service.proofs.AskedLaws.{ascending-sorted}
@@ -91,8 +91,8 @@ module _ (work : ℕ) (book rules query request : Bytes) (b : Book) (r : Rules) 
         (λ row m. had-rows .every-row-and-no-other row .1 (g .every-row-and-no-other row .0 m)) (λ row m. g .every-row-and-no-other row .1 (had-rows .every-row-and-no-other row .0 m))
 
     -- what the list gives: these rows, or 14 where they do not fit
-    pub rows-given : (words : ℕ) → listRows work words book rules query request ≡ pick (ltb words (length (rowsFor b r q x) * length (q .returns))) (refusal 14 5 0) (accepted (rowsFor b r q x))
-    unfolding listRows withWork onAccept refusedIf
+    pub rows-given : (words : ℕ) → listFound work words book rules query request ≡ pick (ltb words (length (rowsFor b r q x) * length (q .returns))) (refusal 14 5 0) (accepted (foundFor b r q x))
+    unfolding listFound withWork onAccept refusedIf
     rows-given words = rw (
       le-ltb work 16384 (h .read .rules-before .book-before .memory-whole),
       h .read .rules-before .book-before .book-read,

@@ -19,7 +19,7 @@ use Rattle.model.specs.ReadRules.{readRules}
 use Rattle.model.specs.Request.{Identity, Request, readRequest}
 use Rattle.model.specs.Weave.{askedQuery, askedPolicies, weave, wovenFault}
 use Rattle.model.specs.Rows.{rowsOf}
-use Rattle.model.specs.Service.{RulesAnswer, RequestAnswer, onto, rowWords}
+use Rattle.model.specs.Service.{RulesAnswer, RequestAnswer, FoundRows, onto, rowWords}
 use Rattle.model.specs.Answers.{writerAnswer, listAnswer}
 use Rattle.model.specs.declared.QueryWritten.{QueryWritten}
 use Rattle.model.specs.declared.RowsListed.{RowsListed}
@@ -56,22 +56,23 @@ unfoldable pub textFrom : ℕ → Bytes → Bytes → Book → Outcome Bytes
 textFrom room rules query b = onAccept (readRules b rules) (λ r. textOfRules room query b)
 
 -- the list, all texts being read: the rows, if the woven pattern has no fault and they fit the words
-unfoldable pub rowsOfTexts : ℕ → Book → Rules → QueryText → Request → Outcome (List (List ℕ))
+unfoldable pub rowsOfTexts : ℕ → Book → Rules → QueryText → Request → Outcome FoundRows
 rowsOfTexts words b r q x =
     let rows = rowsOf b (x .identities) (askedQuery r x q) (askedPolicies r x) in
-    let answer = pick (ltb words (length rows * length (q .returns))) (refusal 14 5 0) (accepted rows) in
+    let width = length (q .returns) in
+    let answer : Outcome FoundRows = pick (ltb words (length rows * width)) (refusal 14 5 0) (accepted (record { rows = rows; width = width })) in
     refusedIf (wovenFault (weave (askedQuery r x q ∷ askedPolicies r x)) (x .identities)) 5 0 answer
 
 -- the list, book, rules and query being read
-unfoldable pub rowsOfQuery : ℕ → Bytes → Book → Rules → QueryText → Outcome (List (List ℕ))
+unfoldable pub rowsOfQuery : ℕ → Bytes → Book → Rules → QueryText → Outcome FoundRows
 rowsOfQuery words request b r q = onAccept (readRequest b r request) (rowsOfTexts words b r q)
 
 -- the list, book and rules being read
-unfoldable pub rowsOfRules : ℕ → Bytes → Bytes → Book → Rules → Outcome (List (List ℕ))
+unfoldable pub rowsOfRules : ℕ → Bytes → Bytes → Book → Rules → Outcome FoundRows
 rowsOfRules words query request b r = onAccept (readQuery b query) (rowsOfQuery words request b r)
 
 -- the list
-unfoldable pub rowsFrom : ℕ → Bytes → Bytes → Bytes → Book → Outcome (List (List ℕ))
+unfoldable pub rowsFrom : ℕ → Bytes → Bytes → Bytes → Book → Outcome FoundRows
 rowsFrom words rules query request b = onAccept (readRules b rules) (rowsOfRules words query request b)
 
 -- a text that was given or refused is answered by its length, and stands in front of the buffer
@@ -79,13 +80,13 @@ pub record Wrote (o : Outcome Bytes) (before after : Bytes) (r : QueryWritten) :
   pub answer : writerAnswer r ≡ onAccept o (λ t. accepted (length t))
   pub text : after ≡ onto o before
 
--- rows that were given or refused are answered by their number, and stand in the row words
-pub record Lists (o : Outcome (List (List ℕ))) (words : ℕ) (after : List ℕ) (r : RowsListed) : Type 0 where
-  pub answer : listAnswer r ≡ onAccept o (λ rows. accepted (length rows))
+-- rows that were found or refused are answered by their number and their width, and stand in the row words
+pub record Lists (o : Outcome FoundRows) (words : ℕ) (after : List ℕ) (r : RowsListed) : Type 0 where
+  pub answer : listAnswer r ≡ onAccept o (λ f. accepted (record { rows = length (f .rows); width = f .width }))
   pub rows : after ≡ rowWords words o
 
 -- all rows of the problem of a woven pattern are listed, if they fit the words, whatever identities the woven words say
 abbrev pub WovenListed : Book → Pattern → List ℕ → ℕ → ℕ → List ℕ → RowsListed → Type 0
 WovenListed b p woven returns words after r =
     (ids : List Identity) → Identified p ids woven → (list : List Row) → AllRows (problemOf b p ids) list
-    → Lists (pick (ltb words (length list * returns)) (refusal 14 5 0) (accepted list)) words after r
+    → Lists (pick (ltb words (length list * returns)) (refusal 14 5 0) (accepted (record { rows = list; width = returns }))) words after r

@@ -106,7 +106,7 @@ pub fn write_query(
     written
 }
 
-// Lists the rows that may be had in the row words and answers their number, or a refusal.
+// Lists the rows that may be had in the row words and answers their number and how many Return names each row answers, or a refusal.
 // The row words past the rows end all ones, and so does the working memory.
 pub fn list(
     book: &[u8],

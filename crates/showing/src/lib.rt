@@ -56,8 +56,8 @@ pub fn print_list(book: &[u8], rules: &[u8], query: &[u8], request: &[u8]) {
         RowsListed::Refused(refusal) => {
             print_refusal(refusal);
         }
-        RowsListed::Count(count) => {
-            print_rows(book, query, &rows, count, &mut work);
+        RowsListed::Count(count, width) => {
+            print_rows(book, &rows, count, width, &mut work);
         }
     }
 }
@@ -70,7 +70,7 @@ pub fn print_in_no_words(book: &[u8], rules: &[u8], query: &[u8], request: &[u8]
         RowsListed::Refused(refusal) => {
             print_refusal(refusal);
         }
-        RowsListed::Count(count) => {
+        RowsListed::Count(count, _) => {
             print_header(count);
         }
     }
@@ -97,15 +97,11 @@ pub fn print_line(line: &[u8], end: usize) {
     }
 }
 
-// Prints the header and the rows. The query says how many names a row has, and the book is read again for the names.
-fn print_rows(book: &[u8], query: &[u8], rows: &[u32], count: usize, work: &mut [u32])
+// Prints the header and the rows, each of so many names. The book is read again for the names.
+fn print_rows(book: &[u8], rows: &[u32], count: usize, width: usize, work: &mut [u32])
     requires { ⌜ 10752 ≤ length (now work) ⌝ }
 {
     print_header(count);
-    let width = service::read_query(book, query, work)
-        .pattern
-        .counts
-        .returns;
     let BookLoad::Loaded(counts) = book::load::load(book, work) else {
         return;
     };

@@ -5,17 +5,12 @@ use Rattle.showing.proofs.print_rows.Tie as tie
 use Rattle.showing.proofs.print_rows.Reads as reads
 use Rattle.showing.proofs.print_rows.Lts as lts
 use Rattle.book.proofs.load.load.Reads as load-reads
-use Rattle.service.proofs.read_query.Reads as read-query-reads
 use Rattle.showing.proofs.print_each.Reads as print-each-reads
 use Rattle.showing.proofs.print_header.Reads as print-header-reads
 
 -- src/lib.rt:104:5
 print-header-requires : tie.Need-print-header-requires
 print-header-requires c κs = search needs
-
--- src/lib.rt:105:17
-read-query-requires : tie.Need-read-query-requires
-read-query-requires c κs = search needs
 
 -- src/lib.rt:109:36
 load-requires : tie.Need-load-requires
@@ -54,7 +49,6 @@ print-rows-spec =
     tie.close
     (tie.spec
     print-header-requires
-    read-query-requires
     load-requires
     enum-known-counts
     enum-told
