@@ -15,6 +15,8 @@ use Rattle.model.specs.Rules.{Rules, categoryNames}
 use Rattle.model.specs.Request.{Request, readRequest}
 use Rattle.model.specs.Service.{RequestAnswer, requestService}
 use Rattle.model.specs.Answers.{refusalOf, identityIn, verdictOf, requestAnswer}
+use Rattle.model.specs.RequestPlaces.{slots}
+use Rattle.model.specs.RequestAnswer.{refusalData, toldRequest, requestRead}
 use Rattle.model.specs.declared.Refusal.{Refusal as RefusalData}
 use Rattle.model.specs.declared.Verdict.{Verdict}
 use Rattle.model.specs.declared.Verdict.the-variants.{Accepted, Refused}
@@ -30,7 +32,7 @@ use Rattle.ranks.specs.Fits.{Fits as RulesFit}
 use Rattle.ranks.proofs.Lowers.{category-names}
 use Rattle.request.specs.RequestReads.{Accepts, ByVerdict, RequestReads}
 use Rattle.service.specs.Behind.{requestOfRules, requestFrom}
-use Rattle.service.specs.Beside.{refusedRequest, RequestBy, NoneBeside, RequestSays}
+use Rattle.service.specs.Beside.{refusedRequest, RequestSays}
 use Rattle.service.specs.Ready.{RequestReady}
 use Rattle.service.proofs.BookLaws.{tooLittle, little, enough}
 
@@ -90,22 +92,28 @@ module _ (book : Bytes) (words : List ℕ) (k : BookCounts) (rules : Bytes) (tab
       }))
       go (Refused x) a = rw (a .is)
 
-  -- a refusal is the whole answer
-  request-beside : NoneBeside r
-  request-beside = go (r .verdict) refl reads
+  -- the whole answer
+  request-told : RulesFit rules table n → r ≡ toldRequest text (requestOfRules text b theRules)
+  unfolding requestOfRules toldRequest onAccept slots refusalData refusalOf
+  request-told fits = go (r .verdict) refl reads
     where
-      go : (v : Verdict) → r .verdict ≡ v → By v → RequestBy r v
-      go Accepted d h = tt
-      go (Refused x) d h = λ i. record { verdict = d i; category = h .category i; identities = h .identities i; count = h .count i }
+      go : (v : Verdict) → r .verdict ≡ v → By v → r ≡ toldRequest text (requestOfRules text b theRules)
+      go Accepted d a = rw (a .is) (λ i. record {
+        verdict = d i;
+        category = (sym (category-place rules table n fits (r .category) (a .declared)) ∙ ap (λ (w : Bytes). place w (categoryNames theRules)) (sym (a .category))) i;
+        identities = a .whole i;
+        count = a .counted i;
+      })
+      go (Refused x) d a = rw (a .is) (λ i. record { verdict = d i; category = a .category i; identities = a .identities i; count = a .count i })
 
   -- the answer behind rules that were loaded
   pub request-behind : RulesFit rules table n → (o : Outcome RequestAnswer) → o ≡ requestOfRules text b theRules → RequestSays o text r
-  request-behind fits o e = record { answer = request-answered fits ∙ sym e; beside = request-beside }
+  request-behind fits o e = record { answer = request-answered fits ∙ sym e; whole = request-told fits ∙ ap (toldRequest text) (sym e) }
 
 -- an answer that is a refusal says it
 pub request-says : (o : Outcome RequestAnswer) (s : Bytes) (r : RequestRead) (q : RefusalData) → r ≡ refusedRequest q → o ≡ refused (refusalOf q) → RequestSays o s r
-unfolding requestAnswer verdictOf
-request-says o s r q e d = subst (λ (x : RequestRead). RequestSays o s x) (sym e) (record { answer = sym d; beside = refl })
+unfolding requestAnswer verdictOf toldRequest slots refusalData refusalOf
+request-says o s r q e d = subst (λ (x : RequestRead). RequestSays o s x) (sym e) (record { answer = sym d; whole = ap (toldRequest s) (sym d) })
 
 -- the same answer, of an outcome that is the same
 pub request-as : (o o′ : Outcome RequestAnswer) (s : Bytes) (r : RequestRead) → o ≡ o′ → RequestSays o′ s r → RequestSays o s r
@@ -120,3 +128,8 @@ module _ (work : ℕ) (book rules request : Bytes) where
   pub request-enough : 16384 ≤ work → requestService work book rules request .answer ≡ onAccept (readBook book) (requestFrom rules request)
   unfolding requestService requestFrom requestOfRules
   request-enough h = enough work _ h
+
+  -- the whole answer of a reader that says the service's answer
+  pub request-whole : (r : RequestRead) → RequestSays (requestService work book rules request .answer) request r → r ≡ requestRead work book rules request
+  unfolding requestRead
+  request-whole r h = h .whole

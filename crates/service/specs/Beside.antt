@@ -1,4 +1,4 @@
--- The answers of the readers of queries and requests, with what stands beside a refusal: an empty pattern, no category and no identities.
+-- The answers of the readers of queries and requests: a refusal beside an empty pattern, and the whole answer about a request.
 use mathlib.Core.Path.{_≡_}
 use Rattle.model.specs.Bytes.{Bytes}
 use Rattle.model.specs.Refusal.{Outcome}
@@ -6,6 +6,7 @@ use Rattle.model.specs.Book.{Book}
 use Rattle.model.specs.Pattern.{Pattern}
 use Rattle.model.specs.Service.{RequestAnswer}
 use Rattle.model.specs.Answers.{queryAnswer, requestAnswer}
+use Rattle.model.specs.RequestAnswer.{toldRequest}
 use Rattle.model.specs.declared.Refusal.{Refusal}
 use Rattle.model.specs.declared.Verdict.{Verdict}
 use Rattle.model.specs.declared.Verdict.the-variants.{Accepted, Refused}
@@ -26,22 +27,15 @@ abbrev pub QueryBy : QueryRead → Verdict → Type 0
 QueryBy r Accepted = Unit {0}
 QueryBy r (Refused x) = r ≡ refusedQuery x
 
-abbrev pub RequestBy : RequestRead → Verdict → Type 0
-RequestBy r Accepted = Unit {0}
-RequestBy r (Refused x) = r ≡ refusedRequest x
-
 abbrev pub EmptyBeside : QueryRead → Type 0
 EmptyBeside r = QueryBy r (r .verdict)
-
-abbrev pub NoneBeside : RequestRead → Type 0
-NoneBeside r = RequestBy r (r .verdict)
 
 -- a query's answer says an outcome
 pub record QuerySays (o : Outcome Pattern) (b : Book) (s : Bytes) (r : QueryRead) : Type 0 where
   pub answer : queryAnswer b s r ≡ o
   pub beside : EmptyBeside r
 
--- a request's answer says an outcome
+-- a request's answer says an outcome, by the names at its places, and is the whole answer that tells it
 pub record RequestSays (o : Outcome RequestAnswer) (s : Bytes) (r : RequestRead) : Type 0 where
   pub answer : requestAnswer s r ≡ o
-  pub beside : NoneBeside r
+  pub whole : r ≡ toldRequest s o

@@ -4,7 +4,8 @@ ghost use lib.ListN.{length};
 ghost use Rattle.model.specs.ReadBook.{readBook};
 ghost use Rattle.model.specs.Service.{ones, rulesService, queryService, requestService, writerService, listService};
 ghost use Rattle.model.specs.Answers.{bookOf, rulesAnswer, queryAnswer, requestAnswer, writerAnswer, listAnswer};
-ghost use Rattle.service.specs.Beside.{EmptyBeside, NoneBeside};
+ghost use Rattle.model.specs.RequestAnswer.{requestRead};
+ghost use Rattle.service.specs.Beside.{EmptyBeside};
 
 mod listing; // listing.rt: the rows that may be had, text by text
 mod query_reader; // query_reader.rt: a query behind its book
@@ -64,7 +65,7 @@ pub fn read_query(book: &[u8], query: &[u8], work: &mut [u32]) -> QueryRead
 // Reads a request and answers its category and its identities, or a refusal beside none. The working memory ends all ones.
 pub fn read_request(book: &[u8], rules: &[u8], request: &[u8], work: &mut [u32]) -> RequestRead
     ensures answer { λ r. ⌜ requestAnswer (now (request .entry)) r ≡ requestService (length (now (work .entry))) (now (book .entry)) (now (rules .entry)) (now (request .entry)) .answer ⌝ }
-    ensures beside { λ r. ⌜ NoneBeside r ⌝ }
+    ensures whole { λ r. ⌜ r ≡ requestRead (length (now (work .entry))) (now (book .entry)) (now (rules .entry)) (now (request .entry)) ⌝ }
     ensures cleared { λ _. ⌜ now (work .exit) ≡ ones (length (now (work .entry))) ⌝ }
 {
     if work.len() < WORK_WORDS {

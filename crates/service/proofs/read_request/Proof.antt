@@ -1,8 +1,7 @@
 -- `read_request` meets its contract: 15, or what stands behind the memory; then the memory is filled.
-use mathlib.Core.Path.{sym, _∙_}
 use borrow.Author.Needs.{needs}
 use Rattle.book.proofs.LoadLaws.{filled-all}
-use Rattle.service.proofs.RequestLaws.{request-says, request-little, request-enough}
+use Rattle.service.proofs.RequestLaws.{request-says, request-as, request-little, request-enough, request-whole}
 use Rattle.service.proofs.read_request.Statement.{statement}
 use Rattle.service.proofs.read_request.Tie as tie
 
@@ -17,7 +16,7 @@ same-length c = search needs
 
 returns : tie.Need-returns
 returns c = let w = request-says _ (c .before .before .before .before .before .before .before .before .before .before .args .request .now) _ _ (c .refused .ensures) (request-little _ (c .before .before .before .before .before .before .before .before .before .before .args .book .now) (c .before .before .before .before .before .before .before .before .before .before .args .rules .now) (c .before .before .before .before .before .before .before .before .before .before .args .request .now) (c .before .before .before .before .before .if1 .taken)) in
-    (w .answer, (w .beside, filled-all (c .before .before .before .before .before .before .before .before .before .before .args .work .now) _ _ (c .before .before .before .fill .ensures) (search needs)))
+    (w .answer, (request-whole _ (c .before .before .before .before .before .before .before .before .before .before .args .book .now) (c .before .before .before .before .before .before .before .before .before .before .args .rules .now) (c .before .before .before .before .before .before .before .before .before .before .args .request .now) _ w, filled-all (c .before .before .before .before .before .before .before .before .before .before .args .work .now) _ _ (c .before .before .before .fill .ensures) (search needs)))
 
 from-texts-requires : tie.Need-from-texts-requires
 from-texts-requires c κs = search needs
@@ -29,8 +28,9 @@ same-length-2 : tie.Need-same-length-2
 same-length-2 c = search needs
 
 returns-2 : tie.Need-returns-2
-returns-2 c = let w = c .before .before .before .before .before .before .from-texts .ensures in
-    (w .answer ∙ sym (request-enough _ (c .before .before .before .before .before .before .before .before .before .before .before .before .before .args .book .now) (c .before .before .before .before .before .before .before .before .before .before .before .before .before .args .rules .now) (c .before .before .before .before .before .before .before .before .before .before .before .before .before .args .request .now) (c .before .before .before .before .before .before .before .before .if1 .left)), (w .beside, filled-all (c .before .before .before .before .before .before .before .before .before .before .before .before .before .args .work .now) _ _ (c .before .before .fill2 .ensures) (search needs)))
+returns-2 c = let a = c .before .before .before .before .before .before .before .before .before .before .before .before .before .args in
+    let w = request-as _ _ (a .request .now) _ (request-enough _ (a .book .now) (a .rules .now) (a .request .now) (c .before .before .before .before .before .before .before .before .if1 .left)) (c .before .before .before .before .before .before .from-texts .ensures) in
+    (w .answer, (request-whole _ (a .book .now) (a .rules .now) (a .request .now) _ w, filled-all (a .work .now) _ _ (c .before .before .fill2 .ensures) (search needs)))
 
 pub read-request-spec : {M : Type 1} → statement M
 read-request-spec =
