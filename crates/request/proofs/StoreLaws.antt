@@ -1,6 +1,6 @@
 -- The identities stored one after another.
 use Prim.Native.Nat.{ℕ, suc, _+_, _-_, _≤_, _<_}
-use mathlib.Core.Path.{_≡_, refl, sym, ap, _∙_}
+use mathlib.Core.Path.{_≡_, refl, sym, ap, subst, _∙_}
 use mathlib.Core.List.{List, [], _∷_, _++_, map, append-nil, append-assoc}
 use mathlib.Core.Bool.{Bool, true, false}
 use native.Mathlib.Omega.{arith}
@@ -25,7 +25,7 @@ use Rattle.tables.proofs.NameLaws.{mem-place}
 use Rattle.tables.proofs.ListedLaws.{map-end}
 use Rattle.request.specs.declared.ClaimAt.the-variants as at
 use Rattle.request.specs.Claims.{wordsAt, partAt, claimsFrom, ClaimPlaces, claimAt, claimOn}
-use Rattle.request.specs.Stored.{noIdentities, numbered, ClaimsAsked, ClaimsStored}
+use Rattle.request.specs.Stored.{noIdentities, identityOn, numbered, ClaimsAsked, ClaimsStored}
 use Rattle.request.proofs.PlaceLaws.{claim-words}
 use Rattle.request.proofs.ClaimLaws.{claim-step, claims-done, claims-over}
 
@@ -83,10 +83,6 @@ storing-start b nodes s from a = record {
   past = refl;
 }
 
--- an identity by its places, and the number of its node
-abbrev pub entryOf : ℕ → ℕ → ℕ → IdentityData
-entryOf a b node = record { actor = record { start = a; length = b - a }; node = node }
-
 module _ (b : Book) (nodes : ℕ) (s : Bytes) (from : ℕ) (list : List IdentityData) (count i : ℕ) (h : Storing b nodes s from list count i) where
   module _ (a z x y e : ℕ) (n : at.At a z x y e ≡ claimAt (claimNext 2 s i)) where
     -- the next identity, and those behind it
@@ -111,7 +107,7 @@ module _ (b : Book) (nodes : ℕ) (s : Bytes) (from : ℕ) (list : List Identity
     both-known = first-known (claimOn s a z x y) (next .0) (sym (ap (all (λ c. mem (c .node) (nodeNames b))) (next .2)) ∙ h .known)
 
     module _ (p : ClaimPlaces s i a z x y e) (node : ℕ) (is-node : node ≡ place (partOf s x (y - x)) (nodeNames b)) where
-      named : (text : Bytes) → partOf text 0 (length s) ≡ s → identityIn text (entryOf a z node) ≡ numbered b (claimOn s a z x y)
+      named : (text : Bytes) → partOf text 0 (length s) ≡ s → identityIn text (identityOn a z node) ≡ numbered b (claimOn s a z x y)
       unfolding identityIn nameAt
       named text l =
           let o : 0 + a ≡ a = omega arith in
@@ -122,17 +118,17 @@ module _ (b : Book) (nodes : ℕ) (s : Bytes) (from : ℕ) (list : List Identity
       node-below l = omega (arith, ltb-true (place (partOf s x (y - x)) (nodeNames b)) (length (nodeNames b)) (sym (mem-place (partOf s x (y - x)) (nodeNames b)) ∙ both-known .0))
 
       -- it is placed by its own words
-      next-placed : entryOf a z node ∷ placedBy (wordsAt s e) (map (numbered b) (next .0)) ≡ placedBy (wordsAt s i) (map (numbered b) (h .rest))
+      next-placed : identityOn a z node ∷ placedBy (wordsAt s e) (map (numbered b) (next .0)) ≡ placedBy (wordsAt s i) (map (numbered b) (h .rest))
       next-placed =
           let w = claim-words s i a z x y e n in
           placed-first (wordsAt s i) (wordsAt s e) (partAt a z) node (numbered b (claimOn s a z x y)) (map (numbered b) (next .0)) (w .0) is-node (w .1)
           ∙ ap (λ (t : List Claim). placedBy (wordsAt s i) (map (numbered b) t)) (sym (next .2))
 
       -- the identity is stored
-      pub storing-next : length (nodeNames b) ≡ nodes → Storing b nodes s from (set list count (entryOf a z node)) (count + 1) e
+      storing-next : length (nodeNames b) ≡ nodes → Storing b nodes s from (set list count (identityOn a z node)) (count + 1) e
       storing-next l =
           let r : count < length list = omega (arith, has-room, h .size) in
-          let longer : take (count + 1) (set list count (entryOf a z node)) ≡ take count list ++ (entryOf a z node ∷ []) = rw add-one (take-suc-set list count (entryOf a z node) r) in
+          let longer : take (count + 1) (set list count (identityOn a z node)) ≡ take count list ++ (identityOn a z node ∷ []) = rw add-one (take-suc-set list count (identityOn a z node) r) in
           let moved : h .done ++ h .rest ≡ (h .done ++ (claimOn s a z x y ∷ [])) ++ next .0 = ap (λ (t : List Claim). h .done ++ t) (next .2) ∙ sym (append-assoc (h .done) (claimOn s a z x y ∷ []) (next .0)) in
           record {
             done = h .done ++ (claimOn s a z x y ∷ []);
@@ -142,23 +138,26 @@ module _ (b : Book) (nodes : ℕ) (s : Bytes) (from : ℕ) (list : List Identity
             few = simp length-append (omega (arith, next-few));
             known = both-known .1;
             counted = simp length-append (omega (arith, h .counted));
-            size = length-set list count (entryOf a z node) ∙ h .size;
+            size = length-set list count (identityOn a z node) ∙ h .size;
             is = λ text d.
                 ap (λ (t : List IdentityData). map (identityIn text) t) longer
-                ∙ map-end (identityIn text) (take count list) (entryOf a z node)
+                ∙ map-end (identityIn text) (take count list) (identityOn a z node)
                 ∙ (λ t. h .is text d t ++ (named text d t ∷ []))
                 ∙ sym (map-end (numbered b) (h .done) (claimOn s a z x y));
             below = λ j m. either (equal-or-not j count)
-                (λ q. rw (q, getD-set-same list count (entryOf a z node) noIdentity r) (node-below l))
-                (λ q. rw (getD-set-other list count j (entryOf a z node) noIdentity (q .1)) (h .below j (omega arith)));
+                (λ q. rw (q, getD-set-same list count (identityOn a z node) noIdentity r) (node-below l))
+                (λ q. rw (getD-set-other list count j (identityOn a z node) noIdentity (q .1)) (h .below j (omega arith)));
             places =
                 ap (λ (t : List IdentityData). t ++ placedBy (wordsAt s e) (map (numbered b) (next .0))) longer
-                ∙ append-assoc (take count list) (entryOf a z node ∷ []) (placedBy (wordsAt s e) (map (numbered b) (next .0)))
+                ∙ append-assoc (take count list) (identityOn a z node ∷ []) (placedBy (wordsAt s e) (map (numbered b) (next .0)))
                 ∙ ap (λ (t : List IdentityData). take count list ++ t) next-placed
                 ∙ h .places
                 ∙ ap (λ (t : List Claim). placedBy (wordsAt s from) (map (numbered b) t)) moved;
-            past = one-less list count (entryOf a z node) has-room (h .past);
+            past = one-less list count (identityOn a z node) has-room (h .past);
           }
+
+      pub storing-given : (x : IdentityData) → x ≡ identityOn a z node → length (nodeNames b) ≡ nodes → Storing b nodes s from (set list count x) (count + 1) e
+      storing-given x d l = subst (λ (v : IdentityData). Storing b nodes s from (set list count v) (count + 1) e) (sym d) (storing-next l)
 
   none-left : h .rest ≡ [] → take count list ≡ take count list ++ placedBy (wordsAt s i) (map (numbered b) (h .rest))
   unfolding placedBy

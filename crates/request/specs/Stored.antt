@@ -14,11 +14,15 @@ use Rattle.model.specs.Answers.{partOf, identityIn}
 use Rattle.model.specs.RequestPlaces.{noIdentity, placedBy, slots}
 use Rattle.model.specs.declared.Identity.{Identity as IdentityData}
 use Rattle.request.specs.declared.Identities.{Identities}
-use Rattle.request.specs.Claims.{wordsAt, claimsFrom}
+use Rattle.request.specs.Claims.{wordsAt, partAt, claimsFrom}
 
 -- eight times no identity
 abbrev pub noIdentities : List IdentityData
 noIdentities = replicate 8 noIdentity
+
+-- an identity whose actor's name stands from a place to another, by the number of its node
+abbrev pub identityOn : ℕ → ℕ → ℕ → IdentityData
+identityOn a b node = record { actor = partAt a b; node = node }
 
 -- an identity with the number of its node
 abbrev pub numbered : Book → Claim → Identity

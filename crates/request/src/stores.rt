@@ -1,12 +1,13 @@
 // The identities of a request as plain data.
 ghost use mathlib.Core.Path.{_≡_};
 ghost use mathlib.Core.List.{List};
+ghost use Prim.Native.Nat.{_≤_};
 ghost use Rattle.model.specs.Choice.{just};
 ghost use Rattle.model.specs.Request.{Claim};
 ghost use Rattle.tables.specs.View.{bookAt};
 ghost use Rattle.tables.specs.Fits.{Fits};
 ghost use Rattle.request.specs.Claims.{claimsFrom};
-ghost use Rattle.request.specs.Stored.{ClaimsAsked, ClaimsStored};
+ghost use Rattle.request.specs.Stored.{identityOn, ClaimsAsked, ClaimsStored};
 use crate::ClaimAt;
 use crate::Identities;
 use crate::claims;
@@ -23,6 +24,20 @@ pub const NONE: Identity = Identity {
     },
     node: 0,
 };
+
+// An identity, its actor's name standing from a place to another.
+fn identity(from: usize, to: usize, node: usize) -> Identity
+    requires { ⌜ from ≤ to ⌝ }
+    ensures { λ r. ⌜ r ≡ identityOn from to node ⌝ }
+{
+    Identity {
+        actor: Part {
+            start: from,
+            length: to - from,
+        },
+        node,
+    }
+}
 
 // The identities from a place on, each with the number of its node.
 pub fn identities(
@@ -51,13 +66,7 @@ pub fn identities(
             return Identities { list, count };
         };
         let node = tables::names::find_node(book, words, counts, &s[node_start..node_end]);
-        list[count] = Identity {
-            actor: Part {
-                start: actor_start,
-                length: actor_end - actor_start,
-            },
-            node,
-        };
+        list[count] = identity(actor_start, actor_end, node);
         count += 1;
         i = next;
     }

@@ -8,7 +8,7 @@ use Rattle.model.specs.Answers.{partOf}
 use Rattle.tables.proofs.NameLaws.{node-names, length-names}
 use Rattle.tables.specs.Layout.{nodeNames}
 use Rattle.tables.specs.View.{bookAt}
-use Rattle.request.proofs.StoreLaws.{Storing, storing-start, has-room, storing-next, stored, stored-over}
+use Rattle.request.proofs.StoreLaws.{Storing, storing-start, has-room, storing-given, stored, stored-over}
 use Rattle.request.proofs.ClaimLaws.{placed-at}
 use Rattle.request.proofs.stores.identities.Statement.{statement}
 use Rattle.request.proofs.stores.identities.Tie as tie
@@ -46,24 +46,24 @@ part-find-node-end c = let h = placed-at (c .before .before .before .before .bef
 find-node-requires : tie.Need-find-node-requires Inv-loop μ-loop
 find-node-requires c κs = c .before .before .before .before .before .before .before .before .before .before .pre .0
 
-sub-t17 : tie.Need-sub-t17 Inv-loop μ-loop
-sub-t17 c = let h = placed-at (c .before .before .before .before .before .before .before .before .before .before .before .args .s .now) (c .before .before .before .before .before .before .before .loop .i) _ (c .before .before .before .actor-start .given .1) (c .before .before .before .before .before .next-claim .ensures .placed) in omega (arith, h .actor .some)
+identity-requires : tie.Need-identity-requires Inv-loop μ-loop
+identity-requires c κs = let h = placed-at (c .before .before .before .before .before .before .before .before .before .before .before .args .s .now) (c .before .before .before .before .before .before .before .loop .i) _ (c .before .before .before .actor-start .given .1) (c .before .before .before .before .before .next-claim .ensures .placed) in omega (arith, h .actor .some)
 
 mul-list : tie.Need-mul-list Inv-loop μ-loop
-mul-list c = let a = c .before .before .before .before .before .before .before .before .before .before .before .args in omega (arith, has-room (bookAt (a .book .now) (a .words .now) (a .counts)) (a .counts .nodes) (a .s .now) (a .from) (c .before .before .before .before .before .before .before .loop .list) (c .before .before .before .before .before .before .before .loop .count) (c .before .before .before .before .before .before .before .loop .i) (c .before .before .before .before .before .before .before .loop .inv) _ _ _ _ _ (sym (c .before .before .before .actor-start .given .1) ∙ c .before .before .before .before .before .next-claim .ensures .is), c .before .before .before .before .before .before .before .loop .inv .size)
+mul-list c = let a = c .before .before .before .before .before .before .before .before .before .before .before .before .args in omega (arith, has-room (bookAt (a .book .now) (a .words .now) (a .counts)) (a .counts .nodes) (a .s .now) (a .from) (c .before .before .before .before .before .before .before .before .loop .list) (c .before .before .before .before .before .before .before .before .loop .count) (c .before .before .before .before .before .before .before .before .loop .i) (c .before .before .before .before .before .before .before .before .loop .inv) _ _ _ _ _ (sym (c .before .before .before .before .actor-start .given .1) ∙ c .before .before .before .before .before .before .next-claim .ensures .is), c .before .before .before .before .before .before .before .before .loop .inv .size)
 
 array-set-from-list : tie.Need-array-set-from-list Inv-loop μ-loop
-array-set-from-list c = let a = c .before .before .before .before .before .before .before .before .before .before .before .args in omega (arith, has-room (bookAt (a .book .now) (a .words .now) (a .counts)) (a .counts .nodes) (a .s .now) (a .from) (c .before .before .before .before .before .before .before .loop .list) (c .before .before .before .before .before .before .before .loop .count) (c .before .before .before .before .before .before .before .loop .i) (c .before .before .before .before .before .before .before .loop .inv) _ _ _ _ _ (sym (c .before .before .before .actor-start .given .1) ∙ c .before .before .before .before .before .next-claim .ensures .is), c .before .before .before .before .before .before .before .loop .inv .size)
+array-set-from-list c = let a = c .before .before .before .before .before .before .before .before .before .before .before .before .args in omega (arith, has-room (bookAt (a .book .now) (a .words .now) (a .counts)) (a .counts .nodes) (a .s .now) (a .from) (c .before .before .before .before .before .before .before .before .loop .list) (c .before .before .before .before .before .before .before .before .loop .count) (c .before .before .before .before .before .before .before .before .loop .i) (c .before .before .before .before .before .before .before .before .loop .inv) _ _ _ _ _ (sym (c .before .before .before .before .actor-start .given .1) ∙ c .before .before .before .before .before .before .next-claim .ensures .is), c .before .before .before .before .before .before .before .before .loop .inv .size)
 
 add-count : tie.Need-add-count Inv-loop μ-loop
-add-count c = let a = c .before .before .before .before .before .before .before .before .before .before .before .args in omega (arith, has-room (bookAt (a .book .now) (a .words .now) (a .counts)) (a .counts .nodes) (a .s .now) (a .from) (c .before .before .before .before .before .before .before .loop .list) (c .before .before .before .before .before .before .before .loop .count) (c .before .before .before .before .before .before .before .loop .i) (c .before .before .before .before .before .before .before .loop .inv) _ _ _ _ _ (sym (c .before .before .before .actor-start .given .1) ∙ c .before .before .before .before .before .next-claim .ensures .is), c .before .before .before .before .before .before .before .loop .inv .size)
+add-count c = let a = c .before .before .before .before .before .before .before .before .before .before .before .before .args in omega (arith, has-room (bookAt (a .book .now) (a .words .now) (a .counts)) (a .counts .nodes) (a .s .now) (a .from) (c .before .before .before .before .before .before .before .before .loop .list) (c .before .before .before .before .before .before .before .before .loop .count) (c .before .before .before .before .before .before .before .before .loop .i) (c .before .before .before .before .before .before .before .before .loop .inv) _ _ _ _ _ (sym (c .before .before .before .before .actor-start .given .1) ∙ c .before .before .before .before .before .before .next-claim .ensures .is), c .before .before .before .before .before .before .before .before .loop .inv .size)
 
 loop-less : tie.Need-loop-less Inv-loop μ-loop
-loop-less c = let h = placed-at (c .before .before .before .before .before .before .before .before .before .before .before .args .s .now) (c .before .before .before .before .before .before .before .loop .i) _ (c .before .before .before .actor-start .given .1) (c .before .before .before .before .before .next-claim .ensures .placed) in omega (arith, h .onward)
+loop-less c = let h = placed-at (c .before .before .before .before .before .before .before .before .before .before .before .before .args .s .now) (c .before .before .before .before .before .before .before .before .loop .i) _ (c .before .before .before .before .actor-start .given .1) (c .before .before .before .before .before .before .next-claim .ensures .placed) in omega (arith, h .onward)
 
 loop-again : tie.Need-loop-again Inv-loop μ-loop
 unfolding partOf
-loop-again c = let a = c .before .before .before .before .before .before .before .before .before .before .before .args in storing-next (bookAt (a .book .now) (a .words .now) (a .counts)) (a .counts .nodes) (a .s .now) (a .from) (c .before .before .before .before .before .before .before .loop .list) (c .before .before .before .before .before .before .before .loop .count) (c .before .before .before .before .before .before .before .loop .i) (c .before .before .before .before .before .before .before .loop .inv) _ _ _ _ _ (sym (c .before .before .before .actor-start .given .1) ∙ c .before .before .before .before .before .next-claim .ensures .is) (placed-at (a .s .now) (c .before .before .before .before .before .before .before .loop .i) _ (c .before .before .before .actor-start .given .1) (c .before .before .before .before .before .next-claim .ensures .placed)) _ (c .find-node .ensures) (ap length (node-names (a .book .now) (a .words .now) (a .counts)) ∙ length-names (a .book .now) (a .words .now) nodeNames (a .counts .nodes))
+loop-again c = let a = c .before .before .before .before .before .before .before .before .before .before .before .before .args in storing-given (bookAt (a .book .now) (a .words .now) (a .counts)) (a .counts .nodes) (a .s .now) (a .from) (c .before .before .before .before .before .before .before .before .loop .list) (c .before .before .before .before .before .before .before .before .loop .count) (c .before .before .before .before .before .before .before .before .loop .i) (c .before .before .before .before .before .before .before .before .loop .inv) _ _ _ _ _ (sym (c .before .before .before .before .actor-start .given .1) ∙ c .before .before .before .before .before .before .next-claim .ensures .is) (placed-at (a .s .now) (c .before .before .before .before .before .before .before .before .loop .i) _ (c .before .before .before .before .actor-start .given .1) (c .before .before .before .before .before .before .next-claim .ensures .placed)) _ (c .before .find-node .ensures) _ (c .identity .ensures) (ap length (node-names (a .book .now) (a .words .now) (a .counts)) ∙ length-names (a .book .now) (a .words .now) nodeNames (a .counts .nodes))
 
 returns-2 : tie.Need-returns-2 Inv-loop μ-loop
 returns-2 c = let a = c .before .before .before .before .before .args in stored-over (bookAt (a .book .now) (a .words .now) (a .counts)) (a .counts .nodes) (a .s .now) (a .from) (c .before .loop .list) (c .before .loop .count) (c .before .loop .i) (c .before .loop .inv) (c .loop-test .left)
@@ -83,7 +83,7 @@ identities-spec =
     part-find-node-start
     part-find-node-end
     find-node-requires
-    sub-t17
+    identity-requires
     mul-list
     array-set-from-list
     add-count
