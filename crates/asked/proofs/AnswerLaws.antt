@@ -7,13 +7,14 @@ use native.Mathlib.Omega.{arith}
 use lib.ListN.{length, getD}
 use Rattle.model.specs.Bytes.{Bytes}
 use Rattle.model.specs.Choice.{just}
+use Rattle.model.specs.Lists.{keep}
 use Rattle.model.specs.Names.{place}
 use Rattle.model.specs.Book.{Book}
 use Rattle.model.specs.QueryText.{QueryText}
 use Rattle.model.specs.Query.{vertexNames}
 use Rattle.model.specs.Pattern.{Pattern, patternOf}
 use Rattle.model.specs.Request.{Identity}
-use Rattle.model.specs.Weave.{Asked, named, moved, returnsOf, weave, wovenFault}
+use Rattle.model.specs.Weave.{Asked, isExcluded, named, moved, returnsOf, weave, wovenFault}
 use Rattle.model.specs.declared.Identity.{Identity as IdentityData}
 use Rattle.model.proofs.Places.{length-map}
 use Rattle.tables.specs.declared.BookCounts.{BookCounts}
@@ -22,15 +23,14 @@ use Rattle.tables.proofs.ListedLaws.{length-listed}
 use Rattle.ranks.specs.declared.RulesCounts.{RulesCounts}
 use Rattle.ranks.specs.View.{actorsAt, treeOf}
 use Rattle.woven.specs.declared.WovenCounts.{WovenCounts}
-use Rattle.woven.specs.Tables.{clausesAt, returnsAt, wovenAt}
+use Rattle.woven.specs.Tables.{returnsAt, wovenAt}
 use Rattle.woven.proofs.VertexLaws.{length-vertices}
-use Rattle.weave.specs.OneMore.{underNames}
+use Rattle.weave.specs.OneMore.{underNames, Ranged}
 use Rattle.weave.specs.Identities.{identitiesIn, IdentitiesReady, FinishReady, Finished}
 use Rattle.weave.proofs.Whole.{woven-low, woven-stays, woven-fault}
-use Rattle.search.specs.ProblemOf.{exclusionsOf}
-use Rattle.search.specs.Ranges.{Ranged}
-use Rattle.search.specs.Given.{Given, Identified}
-use Rattle.search.proofs.Ranged.{woven-ranged}
+use Rattle.weave.specs.Given.{Given, Identified}
+use Rattle.weave.proofs.Ranges.{weave-ranged}
+use Rattle.weave.proofs.Identified.{identities-say}
 use Rattle.asked.specs.declared.AskedWoven.{AskedWoven}
 use Rattle.asked.specs.Texts.{textsBelow}
 use Rattle.asked.specs.OneNamed.{oneNamed, AllNamed, Declared}
@@ -38,8 +38,7 @@ use Rattle.asked.specs.Ready.{TextsClear, Held}
 use Rattle.asked.specs.Woven.{AllWoven, AskedSays, AskedAnswer}
 use Rattle.asked.proofs.DeclaredLaws.{labels-below, attributes-below}
 use Rattle.asked.proofs.TextLaws.{tree-is, texts-are}
-use Rattle.asked.proofs.ClearLaws.{some-returned, texts-named, texts-sound}
-use Rattle.asked.proofs.IdentityLaws.{as-many-exclusions, identities-say}
+use Rattle.asked.proofs.ClearLaws.{some-returned, texts-sound}
 
 module _ (book : Bytes) (words : List ℕ) (k : BookCounts) (query rules : Bytes) (rulesWords : List ℕ) (rc : RulesCounts) (category : ℕ) (clear : TextsClear book words k query rules rulesWords rc category) where
   abbrev b : Book
@@ -89,10 +88,9 @@ module _ (book : Bytes) (words : List ℕ) (k : BookCounts) (query rules : Bytes
       declared : Declared k query rules new c
       declared = subst AllNamed (sym (finished .same-pattern (oneNamed k))) (held .declared)
 
-      exclusions-counted : length (exclusionsOf (wovenAt b query rules new c .clauses)) ≡ c .exclusions
+      exclusions-counted : length (keep isExcluded (wovenAt b query rules new c .clauses)) ≡ c .exclusions
       unfolding wovenAt
-      exclusions-counted =
-          ap (λ (p : Pattern). length (exclusionsOf (p .clauses))) (finished .same-pattern b) ∙ as-many-exclusions (clausesAt b query rules old (c .exclusions + c .requirements)) ∙ held .kept .counted b
+      exclusions-counted = ap (λ (p : Pattern). length (keep isExcluded (p .clauses))) (finished .same-pattern b) ∙ held .kept .counted b
 
       search-given : Given book words k query rules new c
       search-given =
@@ -109,7 +107,7 @@ module _ (book : Bytes) (words : List ℕ) (k : BookCounts) (query rules : Bytes
             labels = labels-below k query rules new c declared;
             attributes = attributes-below k query rules new c declared;
             counted = exclusions-counted;
-            ranged = subst Ranged (sym stays) (woven-ranged all-texts (texts-named book words k query rules rulesWords rc category clear));
+            ranged = subst Ranged (sym stays) (weave-ranged all-texts (texts-sound book words k query rules rulesWords rc category clear));
           }
 
       pub all-woven : AllWoven book words k query rules all-texts ids (length (treeOf query .returns)) new c

@@ -30,7 +30,7 @@ use Rattle.weave.specs.Adding.{noCounts, TextAdded}
 use Rattle.weave.proofs.OneMore.{Sound}
 use Rattle.weave.proofs.Parts.{pattern-in-front}
 use Rattle.weave.proofs.Whole.{none-woven, text-held, text-passed}
-use Rattle.search.proofs.ClauseLaws.{text-rules}
+use Rattle.weave.proofs.Parts.{text-rules}
 use Rattle.query.specs.PatternRead.{PatternRead}
 use Rattle.asked.specs.Texts.{queryAsked, policyAsked, textsBelow}
 use Rattle.asked.specs.OneNamed.{Declared}

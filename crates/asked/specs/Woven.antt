@@ -23,7 +23,7 @@ use Rattle.woven.specs.Tables.{wovenAt}
 use Rattle.weave.specs.declared.Added.{Added}
 use Rattle.weave.specs.declared.Added.the-variants as added
 use Rattle.weave.specs.Identities.{identitiesIn}
-use Rattle.search.specs.Given.{Given, Identified}
+use Rattle.weave.specs.Given.{Given, Identified}
 use Rattle.asked.specs.declared.AskedWoven.{AskedWoven}
 use Rattle.asked.specs.declared.AskedWoven.the-variants.{Woven, Refused}
 use Rattle.asked.specs.declared.policies.TextsWoven.{TextsWoven}

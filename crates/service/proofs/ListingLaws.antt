@@ -29,7 +29,7 @@ use Rattle.rows.specs.Buffer.{rowsIn, flat}
 use Rattle.rows.specs.BufferLaws.{length-rowsIn, flat-rowsIn}
 use Rattle.backjump.specs.Problem.{AllRows}
 use Rattle.search.specs.ProblemOf.{problemOf}
-use Rattle.search.specs.Given.{Identified}
+use Rattle.weave.specs.Given.{Identified}
 use Rattle.search.specs.Rows.{RowsFound}
 use Rattle.service.specs.Behind.{rowsFrom, rowsOfRules, rowsOfQuery, rowsOfTexts, Lists}
 use Rattle.service.proofs.BookLaws.{little, enough}

@@ -26,7 +26,7 @@ use Rattle.model.specs.declared.RowsListed.{RowsListed}
 use Rattle.rows.specs.Order.{Row}
 use Rattle.backjump.specs.Problem.{AllRows}
 use Rattle.search.specs.ProblemOf.{problemOf}
-use Rattle.search.specs.Given.{Identified}
+use Rattle.weave.specs.Given.{Identified}
 
 -- the rules reader: the counts
 unfoldable pub rulesFrom : Bytes → Book → Outcome RulesAnswer

@@ -1,4 +1,4 @@
--- Laws of weaving that belong to no one function; Whole has those that a caller cites.
+-- Laws of weaving that belong to no one function; Whole and Identified have those that a caller cites.
 pub mod OneMore
 pub mod Limits
 pub mod Ranges
@@ -8,4 +8,5 @@ pub mod TieLaws
 pub mod IdentityLaws
 pub mod Finishing
 pub mod Whole
+pub mod Identified
 pub mod Parts

@@ -1,4 +1,4 @@
--- A pattern whose names end within a part of a text reads the same in that part and in all that follows. Assumes nothing.
+-- The text that a name stands in; a pattern whose names end within a part of it reads the same in that part and in all that follows. Assumes nothing.
 use Prim.Native.Nat.{ℕ, zero, suc, _+_, _≤_}
 use mathlib.Core.Path.{_≡_, refl, ap}
 use mathlib.Core.List.{[], _∷_}
@@ -21,6 +21,18 @@ use Rattle.model.specs.declared.Pattern.{Pattern as PatternData}
 use Rattle.model.specs.PlainData.{noPart, noEdge, noClause, ValueWithin, ConditionWithin, PartsWithin}
 use Rattle.weave.proofs.OneMore.{map-each}
 use Rattle.weave.proofs.OneText.{each-take}
+use mathlib.Core.Logic.{_≢_}
+use borrow.Author.Tests.{eq-eqb, ne-eqb}
+use Rattle.woven.specs.Tables.{textOf}
+
+-- the text that a name or value stands in: the query, or the rules for a policy
+pub text-query : (query rules : Bytes) (k : ℕ) → k ≡ 0 → textOf query rules k ≡ query
+unfolding textOf
+text-query query rules k e = rw (eq-eqb k 0 e)
+
+pub text-rules : (query rules : Bytes) (k : ℕ) → k ≢ 0 → textOf query rules k ≡ rules
+unfolding textOf
+text-rules query rules k e = rw (ne-eqb k 0 e)
 
 part-of-front : (s : Bytes) (i n size : ℕ) → i + n ≤ size → take n (drop i (take size s)) ≡ take n (drop i s)
 part-of-front s zero n size h = take-take n size s (omega arith)

@@ -15,8 +15,9 @@ use Rattle.model.specs.QueryText.{Condition, differ, demand, Match, QueryText}
 use Rattle.model.specs.Query.{ChainEdge, chainVertices, chainEdges, vertexNames, edgesOf, edgeNames, conditionsOf}
 use Rattle.model.specs.Pattern.{Pattern, Edge, Clause, excluded, vertexHas, edgeHas, clauseOf, edgeOf, patternOf}
 use Rattle.model.specs.Graph.{Each}
+use Rattle.model.specs.Satisfies.{edgeAt}
 use Rattle.model.specs.Weave.{Asked, moved, movedEdge, movedClause, named, movedClauses, returnsOf, weave}
-use Rattle.model.proofs.Members.{_∈_, mem-e, mem-i, each-i, joined-e, joined-i, firsts-i}
+use Rattle.model.proofs.Members.{_∈_, mem-e, mem-i, each-e, each-i, joined-e, joined-i, firsts-i}
 use Rattle.model.proofs.ByNodes.{NamedIn, Named}
 use Rattle.model.proofs.Chains.{chain-ends}
 use Rattle.model.proofs.Places.{at-place, getD-in, length-map}
@@ -143,3 +144,19 @@ module _ (q : QueryText) (declared : Named q) where
 
       clause : (c : Condition) → c ∈ conditionsOf q → ClauseWithin (length (vertexNames q)) (length (edgeNames q)) (clauseOf (vertexNames q) (edgeNames q) c)
       clause c i = let j = joined-e (λ (m : Match). m .conditions) (q .matches) c i in condition-within c (declared .conditions (j .0) (j .1) c (j .2))
+
+-- the woven pattern of texts whose names are declared
+pub woven-ranged : (asked : List Asked) → ((a : Asked) → a ∈ asked → Named (a .text)) → Ranged (weave asked)
+woven-ranged asked h = weave-ranged asked (each-i Sound asked (λ a i. pattern-ranged (a .text) (h a i)))
+
+-- what each edge, clause and Return of a pattern in range names
+module _ (p : Pattern) (ranged : Ranged p) where
+  pub ends-within : (e : ℕ) → e < length (p .edges) → (edgeAt p e .from < length (p .vertices)) × (edgeAt p e .to < length (p .vertices))
+  unfolding edgeAt
+  ends-within e h = each-e (λ (e : Edge). (e .from < length (p .vertices)) × (e .to < length (p .vertices))) (p .edges) (ranged .edges) _ (getD-in (p .edges) e _ h)
+
+  pub clause-within : (c : Clause) → c ∈ p .clauses → ClauseWithin (length (p .vertices)) (length (p .edges)) c
+  clause-within c i = each-e (ClauseWithin (length (p .vertices)) (length (p .edges))) (p .clauses) (ranged .clauses) c i
+
+  pub return-within : (v : ℕ) → v ∈ p .returns → v < length (p .vertices)
+  return-within v i = each-e (λ v. v < length (p .vertices)) (p .returns) (ranged .returns) v i

@@ -11,16 +11,16 @@ use Rattle.facts.specs.Tests.{passes→true}
 use Rattle.model.specs.Bytes.{Bytes, same}
 use Rattle.model.specs.Choice.{pick, Maybe, nothing, just}
 use Rattle.model.specs.Lists.{keep, joined}
-use Rattle.model.specs.Names.{mem, twice, firsts}
+use Rattle.model.specs.Names.{twice, firsts}
 use Rattle.model.specs.Book.{Book}
-use Rattle.model.specs.Refusal.{lowest, _if_}
+use Rattle.model.specs.Refusal.{lowest}
 use Rattle.model.specs.Pattern.{patternOf}
 use Rattle.model.specs.Request.{Identity}
 use Rattle.model.specs.Graph.{Each}
 use Rattle.model.specs.Weave.{Asked, named, movedClauses, returnsOf, weave, wovenTooMany, wovenFault}
 use Rattle.model.specs.Answers.{patternIn}
 use Rattle.model.specs.declared.Pattern.{Pattern as PatternData}
-use Rattle.model.proofs.Members.{_∈_, mem-i, map-i}
+use Rattle.model.proofs.Members.{_∈_, map-i}
 use Rattle.model.proofs.Places.{twice-i, twice-tail}
 use Rattle.model.proofs.Decides.{same→eq, same-refl}
 use Rattle.tables.specs.Listed.{listed}

@@ -1,23 +1,42 @@
--- A vertex has an identity by its word exactly if some identity has its name. Assumes nothing.
+-- The words of identities say what each identity asks; a vertex has one by its word exactly if some identity has its name. Assumes nothing.
 use Prim.Native.Nat.{ℕ, _+_, _<_}
 use mathlib.Core.Path.{_≡_, sym, subst}
 use mathlib.Core.Logic.{⊎-elim}
-use mathlib.Core.List.{List, map}
+use mathlib.Core.List.{List, [], map}
 use mathlib.Core.Bool.{Bool, true, false, not, _||_}
 use native.Mathlib.Omega.{arith}
 use lib.Dec.{T, eqb, eqb→eq}
 use lib.ListN.{length, getD}
 use Rattle.facts.specs.Tests.{either, passes-or-not, same-test, eq→eqb, not-both, or-left, or-either}
 use Rattle.model.specs.Bytes.{same}
+use Rattle.model.specs.Choice.{pick, nothing, just}
 use Rattle.model.specs.Lists.{all}
-use Rattle.model.specs.Names.{mem}
+use Rattle.model.specs.Names.{mem, twice}
 use Rattle.model.specs.Pattern.{Pattern}
 use Rattle.model.specs.Request.{Identity}
 use Rattle.model.proofs.Members.{_∈_, all-e, all-i, mem-e, mem-i, map-e, map-i}
 use Rattle.model.proofs.Decides.{same→eq, same-refl}
-use Rattle.woven.specs.Tables.{noNode}
-use Rattle.search.specs.ProblemOf.{nameOf, keepsIdentity}
-use Rattle.search.specs.Given.{identityLets, hasIdentity, Identified}
+use Rattle.woven.specs.Tables.{noNode, nodeIn, identityAt}
+use Rattle.weave.specs.Identities.{identityOf}
+use Rattle.weave.specs.Given.{nameOf, keepsIdentity, identityLets, hasIdentity, Identified}
+use Rattle.weave.proofs.Whole.{Identifies, identified-by}
+
+-- an identity's word lets a node be taken exactly if its node is that one, where it says one
+lets-e : (w n : ℕ) → T (identityLets w n) → Identifies (nodeIn w) n
+unfolding identityLets nodeIn
+lets-e w n = go (eqb w noNode)
+  where
+    go : (t : Bool) → T (t || eqb w n) → Identifies (pick t nothing (just w)) n
+    go true h = tt
+    go false h = sym (eqb→eq w n h)
+
+lets-i : (w n : ℕ) → Identifies (nodeIn w) n → T (identityLets w n)
+unfolding identityLets nodeIn
+lets-i w n = go (eqb w noNode)
+  where
+    go : (t : Bool) → Identifies (pick t nothing (just w)) n → T (t || eqb w n)
+    go true h = tt
+    go false h = eq→eqb w n (sym h)
 
 -- what each identity asks of a name's node
 asks-e : (p : Pattern) (v n : ℕ) (d : Identity) → T (keepsIdentity p v n d) → nameOf p v ≡ d .actor → n ≡ d .node
@@ -33,6 +52,20 @@ asks-i p v n d f = go (same (nameOf p v) (d .actor)) (λ t. f (same→eq (nameOf
     go : (t : Bool) → (T t → n ≡ d .node) → T (not t || eqb (d .node) n)
     go true g = eq→eqb (d .node) n (sym (g tt))
     go false g = tt
+
+-- where no actor is identified twice, the words that give each vertex its identity say what all identities ask
+pub identities-say : (p : Pattern) (ids : List Identity) (woven : List ℕ) → (T (twice (map (λ i. i .actor) ids)) → ⊥)
+    → ((v : ℕ) → v < length (p .vertices) → identityAt woven v ≡ identityOf ids (getD (p .vertices) v [])) → Identified p ids woven
+unfolding identityAt nameOf
+identities-say p ids woven once given = record {
+  each = λ v l n m.
+      let w = getD woven (412 + v) 0 in
+      let name = getD (p .vertices) v [] in
+      let by = identified-by ids name n once in
+      same-test (all (keepsIdentity p v n) ids) (identityLets w n)
+      (λ t. lets-i w n (subst (λ z. Identifies z n) (sym (given v l)) (by .1 (λ d i e. asks-e p v n d (all-e (keepsIdentity p v n) ids t d i) e))))
+      (λ t. all-i (keepsIdentity p v n) ids (λ d i. asks-i p v n d (by .0 (subst (λ z. Identifies z n) (given v l) (lets-e w n t)) d i)));
+}
 
 -- a word that lets both nodes 0 and 1 be taken says none
 lets-both : (w : ℕ) → T (identityLets w 0) → T (identityLets w 1) → w ≡ noNode
