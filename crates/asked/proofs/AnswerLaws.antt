@@ -12,9 +12,9 @@ use Rattle.model.specs.Names.{place}
 use Rattle.model.specs.Book.{Book}
 use Rattle.model.specs.QueryText.{QueryText}
 use Rattle.model.specs.Query.{vertexNames}
-use Rattle.model.specs.Pattern.{Pattern, patternOf}
+use Rattle.model.specs.Pattern.{patternOf}
 use Rattle.model.specs.Request.{Identity}
-use Rattle.model.specs.Weave.{Asked, isExcluded, named, moved, returnsOf, weave, wovenFault}
+use Rattle.model.specs.Weave.{Asked, isExcluded, named, moved, returnsOf, weave, wovenFault, WovenPattern}
 use Rattle.model.specs.declared.Identity.{Identity as IdentityData}
 use Rattle.model.proofs.Places.{length-map}
 use Rattle.tables.specs.declared.BookCounts.{BookCounts}
@@ -78,7 +78,7 @@ module _ (book : Bytes) (words : List ℕ) (k : BookCounts) (query rules : Bytes
     unfolding wovenAt returnsAt weave named returnsOf patternOf textsBelow underNames
     return-count e =
         let tree = patternOf (treeOf query) in
-        sym (length-listed (λ i. getD new (408 + i) 0) (c .returns)) ∙ ap (λ (p : Pattern). length (p .returns)) e
+        sym (length-listed (λ i. getD new (408 + i) 0) (c .returns)) ∙ ap (λ (p : WovenPattern). length (p .returns)) e
         ∙ length-map (λ (v : ℕ). moved (weave all-texts .vertices) (underNames 0 (actorsAt rules rulesWords category) tree) v) (tree .returns) ∙ length-map (λ v. place v (vertexNames (treeOf query))) (treeOf query .returns)
 
     module _ (ids : List Identity) (finished : Finished query rules ids old new c true) (room : 512 ≤ length new) where
@@ -90,7 +90,7 @@ module _ (book : Bytes) (words : List ℕ) (k : BookCounts) (query rules : Bytes
 
       exclusions-counted : length (keep isExcluded (wovenAt b query rules new c .clauses)) ≡ c .exclusions
       unfolding wovenAt
-      exclusions-counted = ap (λ (p : Pattern). length (keep isExcluded (p .clauses))) (finished .same-pattern b) ∙ held .kept .counted b
+      exclusions-counted = ap (λ (p : WovenPattern). length (keep isExcluded (p .clauses))) (finished .same-pattern b) ∙ held .kept .counted b
 
       search-given : Given book words k query rules new c
       search-given =

@@ -8,11 +8,10 @@ use lib.ListN.{length, getD, take, drop, List·getD-eq-default}
 use borrow.Author.Tests.{eq-eqb, ne-eqb}
 use Rattle.facts.specs.Tests.{either, below-or-not}
 use Rattle.model.specs.Bytes.{Bytes}
-use Rattle.model.specs.Lists.{joined}
-use Rattle.model.specs.Names.{firsts}
+use Rattle.model.specs.Lists.{joined, firstsBy}
 use Rattle.model.specs.Book.{Attr, attrNames}
 use Rattle.model.specs.Pattern.{Pattern, Edge, Clause, excluded, vertexHas, edgeHas}
-use Rattle.model.specs.Weave.{movedEdge, movedClause, named, movedClauses, returnsOf, weave}
+use Rattle.model.specs.Weave.{WovenVertex, WovenPattern, movedEdge, movedClause, named, movedClauses, returnsOf, weave}
 use Rattle.model.specs.Answers.{edgeIn, clauseIn, patternIn}
 use Rattle.model.specs.declared.Condition.{Condition}
 use Rattle.model.specs.declared.Condition.the-variants.{Excluded, OfVertex, OfEdge}
@@ -74,21 +73,21 @@ module _ (k : BookCounts) (text : Bytes) (p : PatternData) (fits : PatternFits (
   }
 
 -- one text more keeps names declared
-one-more-named : (j : ℕ) (actors : List Bytes) (p woven : Pattern) → AllNamed p → AllNamed woven → AllNamed (oneMore j actors p woven)
+one-more-named : (j : ℕ) (actors : List Bytes) (p : Pattern) (woven : WovenPattern) → AllNamed p → AllNamed woven → AllNamed (oneMore j actors p woven)
 unfolding oneMore moreVertices underNames movedEdge
 one-more-named j actors p woven own before = record {
   edges = each-append (λ (e : Edge). e .label ≡ aName) (woven .edges) _ (before .edges) (each-map (λ (e : Edge). e .label ≡ aName) (λ (e : Edge). e .label ≡ aName) _ (p .edges) (λ e h. h) (own .edges));
   clauses = each-append NamesOne (woven .clauses) _ (before .clauses) (each-map NamesOne NamesOne _ (p .clauses) (moved-named _ _ _) (own .clauses));
 }
   where
-    moved-named : (vs : List Bytes) (q : Pattern) (n : ℕ) (c : Clause) → NamesOne c → NamesOne (movedClause vs q n c)
+    moved-named : (vs : List WovenVertex) (q : WovenPattern) (n : ℕ) (c : Clause) → NamesOne c → NamesOne (movedClause vs q n c)
     moved-named vs q n (excluded u v) h = unfold movedClause in tt
     moved-named vs q n (vertexHas v a r x) h = unfold movedClause in h
     moved-named vs q n (edgeHas e a r x) h = unfold movedClause in h
 
 -- before the first text, and with one text more
 pub none-declared : (k : BookCounts) (q r : Bytes) (words : List ℕ) → Declared k q r words noCounts
-unfolding weave named joined firsts movedClauses returnsOf
+unfolding weave named joined firstsBy movedClauses returnsOf
 none-declared k q r words = subst AllNamed (sym (none-woven (oneNamed k) q r words)) none
   where
     none : AllNamed (weave [])

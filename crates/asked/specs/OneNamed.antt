@@ -6,7 +6,7 @@ use mathlib.Core.List.{List, [], _∷_}
 use Rattle.model.specs.Bytes.{Bytes}
 use Rattle.model.specs.Values.{ints}
 use Rattle.model.specs.Book.{Attr, Book}
-use Rattle.model.specs.Pattern.{Pattern, Edge, Clause, excluded, vertexHas, edgeHas}
+use Rattle.model.specs.Pattern.{PatternOver, Edge, Clause, excluded, vertexHas, edgeHas}
 use Rattle.model.specs.Graph.{Each}
 use Rattle.tables.specs.Listed.{listed}
 use Rattle.tables.specs.declared.BookCounts.{BookCounts}
@@ -32,7 +32,7 @@ NamesOne (vertexHas v a r x) = a ≡ aName
 NamesOne (edgeHas e a r x) = a ≡ aName
 
 -- every edge and every clause of a pattern names what the book declares
-pub record AllNamed (p : Pattern) : Type 0 where
+pub record AllNamed {Vertex : Type 0} (p : PatternOver Vertex) : Type 0 where
   pub edges : Each (λ (e : Edge). e .label ≡ aName) (p .edges)
   pub clauses : Each NamesOne (p .clauses)
 

@@ -9,12 +9,10 @@ use Rattle.model.specs.Book.{Book}
 use Rattle.model.specs.Request.{Identity}
 use Rattle.model.specs.Graph.{Each}
 use Rattle.model.specs.Satisfies.{NumberedMapping, Satisfies}
-use Rattle.model.specs.Weave.{Asked, weave}
+use Rattle.model.specs.Weave.{Asked, weave, actor, noVertex}
 use Rattle.model.specs.MayHave.{Mapped, AllAgree, Identified, MayHave}
 use Rattle.model.proofs.Members.{_∈_}
 use Rattle.model.proofs.Choices.{IsModel}
-use Rattle.model.proofs.AcceptedQuery.{ClearNames}
-use Rattle.model.proofs.WovenNames.{AllBeginWithByte}
 
 -- the text of a mapping
 abbrev pub askedOf : Mapped → Asked
@@ -35,7 +33,7 @@ familyRow (h ∷ hs) = map (h .mapping .node) (h .asked .text .returns)
 -- a mapping of the woven pattern that keeps the identities
 pub record WovenModel (b : Book) (ids : List Identity) (asked : List Asked) (m : NumberedMapping) : Type 0 where
   pub satisfies : Satisfies b (weave asked) m
-  pub identified : (i : ℕ) → i < length (weave asked .vertices) → (d : Identity) → d ∈ ids → getD (weave asked .vertices) i [] ≡ d .actor → m .node i ≡ d .node
+  pub identified : (i : ℕ) → i < length (weave asked .vertices) → (d : Identity) → d ∈ ids → getD (weave asked .vertices) i noVertex ≡ actor (d .actor) → m .node i ≡ d .node
 
 -- the row of a mapping of the woven pattern
 abbrev pub wovenRow : List Asked → NumberedMapping → List ℕ
@@ -46,11 +44,6 @@ pub record WovenRow (b : Book) (ids : List Identity) (asked : List Asked) (row :
   pub woven : NumberedMapping
   pub model : WovenModel b ids asked woven
   pub gives : row ≡ wovenRow asked woven
-
--- what weaving asks of a text: its names are clear, and the actors of its category begin with a byte
-pub record Weavable (a : Asked) : Type 0 where
-  pub names : ClearNames (a .text)
-  pub actors : AllBeginWithByte (a .actors)
 
 -- a row may be had exactly if a family gives it
 pub had-by-family : (b : Book) (ids : List Identity) (query : Asked) (policies : List Asked) (row : List ℕ)

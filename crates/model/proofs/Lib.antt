@@ -33,6 +33,7 @@ pub mod AcceptedQuery
 pub mod AcceptedRules
 pub mod AcceptedRequest
 -- the woven pattern
+pub mod WovenVertices
 pub mod WovenNames
 pub mod Families
 pub mod WovenParts

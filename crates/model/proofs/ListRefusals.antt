@@ -13,10 +13,9 @@ use Rattle.model.specs.Lists.{all, memℕ, below}
 use Rattle.model.specs.Refusal.{Refusal, refused, lowest}
 use Rattle.model.specs.Book.{Book}
 use Rattle.model.specs.QueryText.{QueryText}
-use Rattle.model.specs.Pattern.{Pattern}
 use Rattle.model.specs.Rules.{Rules}
 use Rattle.model.specs.Request.{Identity, Request}
-use Rattle.model.specs.Weave.{wovenTooMany, tied, wovenFault, askedQuery, askedPolicies, weave}
+use Rattle.model.specs.Weave.{wovenTooMany, tied, wovenFault, askedQuery, askedPolicies, weave, WovenPattern}
 use Rattle.model.specs.Service.{listFound}
 use Rattle.model.proofs.Decides.{pick-iff}
 use Rattle.model.proofs.Members.{_∈_, test, below-i, below-e}
@@ -39,14 +38,14 @@ fails-not-all p [] x m h t = elim m [ ]
 fails-not-all p (y ∷ l) x m h t = let u = pick-iff (p y) (all p l) .1 t in ⊎-elim (λ e. h (subst (λ z. T (p z)) (sym e) (u .0))) (λ n. fails-not-all p l x n h (u .1)) (mathlib.Core.List.List·Memᴰ·cases-cons m)
 
 -- a vertex that is not tied to an identity
-abbrev pub Untied : Pattern → List Identity → Type 0
+abbrev pub Untied : WovenPattern → List Identity → Type 0
 Untied p ids = (v : ℕ) × IsVertex p v × (TiedTo p ids v → ⊥)
 
 -- the number given where limits are passed or not, and every vertex is tied or not
 abbrev number : Bool → Bool → Maybe ℕ
 number a c = pick a (just 12) (pick (not c) (just 13) nothing)
 
-module _ (p : Pattern) (ids : List Identity) where
+module _ (p : WovenPattern) (ids : List Identity) where
   -- the test that every vertex is tied
   abbrev every-tied : Bool
   every-tied = all (λ v. memℕ v (tied p ids)) (below (length (p .vertices)))
@@ -89,7 +88,7 @@ module _ (p : Pattern) (ids : List Identity) where
       go false false e = inr (cc)
 
 -- the pattern woven for a query and a request
-abbrev pub woven : Rules → QueryText → Request → Pattern
+abbrev pub woven : Rules → QueryText → Request → WovenPattern
 woven r q x = weave (askedQuery r x q ∷ askedPolicies r x)
 
 module _ (work words : ℕ) (book rules query request : Bytes) where

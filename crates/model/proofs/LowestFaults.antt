@@ -15,11 +15,10 @@ use Rattle.model.specs.Book.{Book}
 use Rattle.model.specs.ReadBook.{nameFaults, nameFault, nodeFaults, nodeFault, relFaults, relFault}
 use Rattle.model.specs.QueryText.{QueryText}
 use Rattle.model.specs.ReadQuery.{queryFaults, queryFault}
-use Rattle.model.specs.Pattern.{Pattern}
 use Rattle.model.specs.Rules.{Rules}
 use Rattle.model.specs.ReadRules.{category, policy, categoryFaults, policyFaults, rulesFault}
 use Rattle.model.specs.Request.{Identity, RequestLine, requestFaults, requestFault}
-use Rattle.model.specs.Weave.{wovenFaults, wovenFault}
+use Rattle.model.specs.Weave.{WovenPattern, wovenFaults, wovenFault}
 use Rattle.model.proofs.Decides.{and-iff}
 use Rattle.model.proofs.Members.{_∈_, each-e, each-i, all-e}
 use Rattle.model.proofs.Pairwise.{Pairwise}
@@ -107,6 +106,6 @@ unfolding requestFault ascending all
 request-fault-lowest b r x n = gives-lowest (requestFaults b r x) tt n
 
 -- the woven pattern: 12, 13
-pub woven-fault-lowest : (p : Pattern) (ids : List Identity) (n : ℕ) → (wovenFault p ids ≡ just n) ↔ LowestFound (wovenFaults p ids) n
+pub woven-fault-lowest : (p : WovenPattern) (ids : List Identity) (n : ℕ) → (wovenFault p ids ≡ just n) ↔ LowestFound (wovenFaults p ids) n
 unfolding wovenFault ascending all
 woven-fault-lowest p ids n = gives-lowest (wovenFaults p ids) tt n

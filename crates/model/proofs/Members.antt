@@ -8,8 +8,8 @@ use native.Mathlib.Omega.{arith}
 use lib.ListN.{getD}
 use lib.Dec.{T, eqb, eqb→eq, eqb-refl}
 use Rattle.model.specs.Bytes.{Bytes, same}
-use Rattle.model.specs.Lists.{any, all, keep, joined, upTo, below, placeWhere}
-use Rattle.model.specs.Names.{mem, place, addNew, firsts}
+use Rattle.model.specs.Lists.{any, all, keep, joined, upTo, below, placeWhere, addNewBy, firstsBy}
+use Rattle.model.specs.Names.{mem, place, firsts}
 use Rattle.model.specs.Graph.{Each}
 use Rattle.model.proofs.Decides.{each-all, same→eq, same-refl}
 
@@ -105,48 +105,74 @@ module _ {A : Type 0} where
   joined-e f [] x m = elim m [ ]
   joined-e f (z ∷ l) x m = ⊎-elim (λ n. (z, List·Memᴰ·head refl, n)) (λ n. let r = joined-e f l x n in (r .0, List·Memᴰ·tail (r .1), r .2)) (append-cases (f z) m)
 
+-- a test tells whether two are the same
+abbrev pub Tells : {A : Type 0} → (A → A → Bool) → Type 0
+Tells {A} alike = ((x y : A) → T (alike x y) → x ≡ y) × ((x : A) → T (alike x x))
+
+-- the test of names does
+pub same-tells : Tells same
+same-tells = (same→eq, same-refl)
+
+-- what holds of lists by such a test: of names, and of woven vertices
+module _ {A : Type 0} (alike : A → A → Bool) (tells : Tells alike) where
+  -- what is found stands in the list
+  pub alike-e : (x : A) (xs : List A) → T (any (alike x) xs) → x ∈ xs
+  alike-e x xs t = let r = any-e (alike x) xs t in mathlib.Core.List.Memᴰ·cast (tells .0 x (r .0) (r .2)) (r .1)
+
+  -- and what stands in a list is found
+  pub alike-i : (x : A) (xs : List A) → x ∈ xs → T (any (alike x) xs)
+  alike-i x xs m = any-i (alike x) xs x m (tells .1 x)
+
+  -- what is there stays
+  pub addNewBy-old : (xs : List A) (w x : A) → x ∈ xs → x ∈ addNewBy alike xs w
+  unfolding addNewBy
+  addNewBy-old xs w x m = ⊎-elim (λ h. rw (is-true (any (alike w) xs) h) m) (λ h. rw (is-false (any (alike w) xs) h) (Memᴰ·append-left (w ∷ []) m)) (test (any (alike w) xs))
+
+  -- what is added is there
+  addNewBy-new : (xs : List A) (w : A) → w ∈ addNewBy alike xs w
+  unfolding addNewBy
+  addNewBy-new xs w = ⊎-elim (λ h. rw (is-true (any (alike w) xs) h) (alike-e w xs h)) (λ h. rw (is-false (any (alike w) xs) h) (Memᴰ·append-right xs (List·Memᴰ·head refl))) (test (any (alike w) xs))
+
+  addNewBy-e : (xs : List A) (w x : A) → x ∈ addNewBy alike xs w → (x ≡ w) ⊎ (x ∈ xs)
+  unfolding addNewBy
+  addNewBy-e xs w x m = ⊎-elim (λ h. inr (rw (is-true (any (alike w) xs) h) at m))
+      (λ h. ⊎-elim inr (λ n. inl (mathlib.Core.List.List·Memᴰ·eq-of-singleton n)) (append-cases xs (rw (is-false (any (alike w) xs) h) at m))) (test (any (alike w) xs))
+
+  -- what was seen stays
+  firstsBy-old : (seen xs : List A) (x : A) → x ∈ seen → x ∈ firstsBy alike seen xs
+  unfolding firstsBy
+  firstsBy-old seen [] x m = m
+  firstsBy-old seen (w ∷ xs) x m = firstsBy-old (addNewBy alike seen w) xs x (addNewBy-old seen w x m)
+
+  -- what stands in the list is among the first appearances
+  pub firstsBy-i : (seen xs : List A) (x : A) → x ∈ xs → x ∈ firstsBy alike seen xs
+  unfolding firstsBy
+  firstsBy-i seen [] x m = elim m [ ]
+  firstsBy-i seen (w ∷ xs) x m = ⊎-elim (λ e. firstsBy-old (addNewBy alike seen w) xs x (mathlib.Core.List.Memᴰ·cast e (addNewBy-new seen w))) (λ n. firstsBy-i (addNewBy alike seen w) xs x n) (cases-cons m)
+
+  -- a first appearance was seen or is of the list
+  pub firstsBy-e : (seen xs : List A) (x : A) → x ∈ firstsBy alike seen xs → (x ∈ seen) ⊎ (x ∈ xs)
+  unfolding firstsBy
+  firstsBy-e seen [] x m = inl m
+  firstsBy-e seen (w ∷ xs) x m = ⊎-elim (λ n. ⊎-elim (λ e. inr (List·Memᴰ·head e)) inl (addNewBy-e seen w x n)) (λ n. inr (List·Memᴰ·tail n)) (firstsBy-e (addNewBy alike seen w) xs x m)
+
 -- a name that is found stands in the list
 pub mem-e : (w : Bytes) (ws : List Bytes) → T (mem w ws) → w ∈ ws
 unfolding mem
-mem-e w ws t = let r = any-e (same w) ws t in mathlib.Core.List.Memᴰ·cast (same→eq w (r .0) (r .2)) (r .1)
+mem-e w ws t = alike-e same same-tells w ws t
 
 -- and a name that stands in a list is found
 pub mem-i : (w : Bytes) (ws : List Bytes) → w ∈ ws → T (mem w ws)
 unfolding mem
-mem-i w ws m = any-i (same w) ws w m (same-refl w)
-
--- a name that is there stays
-pub addNew-old : (ws : List Bytes) (w x : Bytes) → x ∈ ws → x ∈ addNew ws w
-unfolding addNew
-addNew-old ws w x m = ⊎-elim (λ h. rw (is-true (mem w ws) h) m) (λ h. rw (is-false (mem w ws) h) (Memᴰ·append-left (w ∷ []) m)) (test (mem w ws))
-
--- a name that is added is there
-pub addNew-new : (ws : List Bytes) (w : Bytes) → w ∈ addNew ws w
-unfolding addNew
-addNew-new ws w = ⊎-elim (λ h. rw (is-true (mem w ws) h) (mem-e w ws h)) (λ h. rw (is-false (mem w ws) h) (Memᴰ·append-right ws (List·Memᴰ·head refl))) (test (mem w ws))
-
--- a name that was seen stays
-pub firsts-old : (seen ws : List Bytes) (x : Bytes) → x ∈ seen → x ∈ firsts seen ws
-unfolding firsts
-firsts-old seen [] x m = m
-firsts-old seen (w ∷ ws) x m = firsts-old (addNew seen w) ws x (addNew-old seen w x m)
+mem-i w ws m = alike-i same same-tells w ws m
 
 -- a name of the list is among the first appearances
 pub firsts-i : (seen ws : List Bytes) (x : Bytes) → x ∈ ws → x ∈ firsts seen ws
-unfolding firsts
-firsts-i seen [] x m = elim m [ ]
-firsts-i seen (w ∷ ws) x m = ⊎-elim (λ e. firsts-old (addNew seen w) ws x (mathlib.Core.List.Memᴰ·cast e (addNew-new seen w))) (λ n. firsts-i (addNew seen w) ws x n) (cases-cons m)
-
-addNew-e : (ws : List Bytes) (w x : Bytes) → x ∈ addNew ws w → (x ≡ w) ⊎ (x ∈ ws)
-unfolding addNew
-addNew-e ws w x m = ⊎-elim (λ h. inr (rw (is-true (mem w ws) h) at m))
-    (λ h. ⊎-elim inr (λ n. inl (mathlib.Core.List.List·Memᴰ·eq-of-singleton n)) (append-cases ws (rw (is-false (mem w ws) h) at m))) (test (mem w ws))
+firsts-i seen ws x m = firstsBy-i same same-tells seen ws x m
 
 -- a first appearance was seen or is of the list
 pub firsts-e : (seen ws : List Bytes) (x : Bytes) → x ∈ firsts seen ws → (x ∈ seen) ⊎ (x ∈ ws)
-unfolding firsts
-firsts-e seen [] x m = inl m
-firsts-e seen (w ∷ ws) x m = ⊎-elim (λ n. ⊎-elim (λ e. inr (List·Memᴰ·head e)) inl (addNew-e seen w x n)) (λ n. inr (List·Memᴰ·tail n)) (firsts-e (addNew seen w) ws x m)
+firsts-e seen ws x m = firstsBy-e same same-tells seen ws x m
 
 -- the numbers below n
 upTo-old : (n : ℕ) (ns : List ℕ) (x : ℕ) → x ∈ ns → x ∈ upTo n ns

@@ -3,6 +3,7 @@ use Prim.Native.Nat.{ℕ, zero, suc, _<_}
 use mathlib.Core.Path.{_≡_, refl, sym, ap, subst, _∙_}
 use mathlib.Core.Logic.{⊎-elim}
 use mathlib.Core.List.{List, [], _∷_, _++_, map, append-assoc, List·Memᴰ·head, List·Memᴰ·tail, List·Memᴰ·cases-cons as cases-cons}
+use mathlib.Core.Bool.{Bool}
 use native.Mathlib.Omega.{arith}
 use lib.ListN.{length, getD}
 use lib.Dec.{T}
@@ -10,15 +11,20 @@ use Rattle.model.specs.Bytes.{Bytes, same}
 use Rattle.model.specs.Lists.{isNil, joined, placeWhere}
 use Rattle.model.specs.Names.{mem, twice, place}
 use Rattle.model.proofs.Decides.{same→eq, same-refl}
-use Rattle.model.proofs.Members.{_∈_, test, is-true, is-false, mem-i}
+use Rattle.model.proofs.Members.{_∈_, test, is-true, is-false, mem-i, Tells, same-tells}
+
+-- what stands in a list stands at its place, by a test that tells whether two are the same
+pub at-place-by : {A : Type 0} (alike : A → A → Bool) → Tells alike → (d : A) (xs : List A) (x : A) → x ∈ xs → (placeWhere (alike x) xs < length xs) × (getD xs (placeWhere (alike x) xs) d ≡ x)
+unfolding placeWhere
+at-place-by alike tells d [] x m = elim m [ ]
+at-place-by alike tells d (y ∷ xs) x m = ⊎-elim
+    (λ t. rw (is-true (alike x y) t) (omega arith, sym (tells .0 x y t)))
+    (λ t. ⊎-elim (λ e. absurd (t (subst (λ z. T (alike x z)) e (tells .1 x)))) (λ n. let r = at-place-by alike tells d xs x n in rw (is-false (alike x y) t) (omega (arith, r .0), r .1)) (cases-cons m)) (test (alike x y))
 
 -- a name of a list stands at its place
 pub at-place : (vs : List Bytes) (v : Bytes) → v ∈ vs → (place v vs < length vs) × (getD vs (place v vs) [] ≡ v)
-unfolding place placeWhere
-at-place [] v m = elim m [ ]
-at-place (x ∷ vs) v m = ⊎-elim
-    (λ t. rw (is-true (same v x) t) (omega arith, sym (same→eq v x t)))
-    (λ t. ⊎-elim (λ e. absurd (t (subst (λ z. T (same v z)) e (same-refl v)))) (λ n. let r = at-place vs v n in rw (is-false (same v x) t) (omega (arith, r .0), r .1)) (cases-cons m)) (test (same v x))
+unfolding place
+at-place vs v m = at-place-by same same-tells [] vs v m
 
 -- names of one place are one name
 pub place-injective : (vs : List Bytes) (v u : Bytes) → v ∈ vs → u ∈ vs → place v vs ≡ place u vs → v ≡ u

@@ -5,7 +5,7 @@ use mathlib.Core.List.{List, [], _∷_, _++_, map, append-assoc, append-nil, Lis
 use mathlib.Core.Bool.{true}
 use lib.Dec.{T}
 use Rattle.model.specs.Bytes.{Bytes}
-use Rattle.model.specs.Lists.{joined}
+use Rattle.model.specs.Lists.{joined, firstsBy}
 use Rattle.model.specs.Names.{place, firsts}
 use Rattle.model.specs.QueryText.{Chain, end, right, Condition, Match, QueryText}
 use Rattle.model.specs.Grammar.{asks, returns, Tail, tailOf}
@@ -212,7 +212,7 @@ ends-known q x m =
 
 -- the vertices of a text are their own first appearances
 vertices-are-first : (q : QueryText) → firsts [] (vertexNames q) ≡ vertexNames q
-unfolding vertexNames firsts
+unfolding vertexNames firstsBy
 vertices-are-first q = firsts-again [] (joined verticesIn (q .matches)) refl
 
 written-names : (ps : List WrittenMatch) (cs : List Condition) (vs : List Bytes) → vertexNames (writtenTree ps cs vs) ≡ firsts [] (joined matchVertices ps)

@@ -2,22 +2,22 @@
 use Prim.Native.Nat.{ℕ, zero, suc, _+_, _<_}
 use mathlib.Core.Path.{_≡_, refl, sym, subst, _∙_}
 use mathlib.Core.Logic.{_⊎_, inl, inr, ⊎-elim, _↔_}
-use mathlib.Core.List.{List, [], _∷_, map}
+use mathlib.Core.List.{List, [], _∷_}
 use mathlib.Core.Bool.{Bool, _&&_, _||_}
 use native.Mathlib.Omega.{arith}
 use lib.ListN.{length, getD}
 use lib.Dec.{T, eqb, eqb→eq, eqb-refl}
 use Rattle.model.specs.Lists.{any, memℕ, upTo, below}
-use Rattle.model.specs.Names.{mem}
-use Rattle.model.specs.Pattern.{Edge, Pattern}
+use Rattle.model.specs.Pattern.{Edge}
 use Rattle.model.specs.Request.{Identity}
-use Rattle.model.specs.Weave.{withIdentity, stepAlong, stepsAlong, tied}
+use Rattle.model.specs.Weave.{WovenPattern, actor, noVertex, identifiedBy, withIdentity, stepAlong, stepsAlong, tied}
 use Rattle.model.proofs.Decides.{and-iff, or-l, or-r, or-cases}
-use Rattle.model.proofs.Members.{_∈_, any-e, any-i, keep-e, keep-i, mem-e, mem-i, below-i, below-e}
+use Rattle.model.proofs.Members.{_∈_, any-e, any-i, keep-e, keep-i, below-i, below-e}
+use Rattle.model.proofs.WovenVertices.{identified-exactly}
 use Rattle.model.proofs.Closures.{Within, steps, holds-after, steps-keep, closed}
 
 -- a number is the number of a vertex
-abbrev pub IsVertex : Pattern → ℕ → Type 0
+abbrev pub IsVertex : WovenPattern → ℕ → Type 0
 IsVertex p v = v < length (p .vertices)
 
 -- an edge joins two vertices, whichever way it runs
@@ -25,16 +25,16 @@ abbrev pub Joins : Edge → ℕ → ℕ → Type 0
 Joins e v u = ((v ≡ e .from) × (u ≡ e .to)) ⊎ ((v ≡ e .to) × (u ≡ e .from))
 
 -- a path of edges from a vertex to another, either way along each
-pub data Path (p : Pattern) : ℕ → ℕ → Type 0 where
+pub data Path (p : WovenPattern) : ℕ → ℕ → Type 0 where
   here : {v : ℕ} → IsVertex p v → Path p v v
   along : {v u w : ℕ} {e : Edge} → IsVertex p v → e ∈ p .edges → Joins e v u → Path p u w → Path p v w
 
--- a vertex has an identity: its name is the actor of one
-abbrev pub HasIdentity : Pattern → List Identity → ℕ → Type 0
-HasIdentity p ids v = IsVertex p v × (getD (p .vertices) v [] ∈ map (λ i. i .actor) ids)
+-- a vertex has an identity: it is the actor vertex of the name of one
+abbrev pub HasIdentity : WovenPattern → List Identity → ℕ → Type 0
+HasIdentity p ids v = IsVertex p v × ((i : Identity) × (i ∈ ids) × (getD (p .vertices) v noVertex ≡ actor (i .actor)))
 
 -- a vertex is tied to an identity: a path leads to a vertex that has one
-abbrev pub TiedTo : Pattern → List Identity → ℕ → Type 0
+abbrev pub TiedTo : WovenPattern → List Identity → ℕ → Type 0
 TiedTo p ids v = (w : ℕ) × HasIdentity p ids w × Path p v w
 
 -- the test of membership says that a number is one of a list
@@ -62,7 +62,7 @@ below-length n = go n [] ∙ omega arith
     go zero ns = omega arith
     go (suc n) ns = go n (n ∷ ns) ∙ omega arith
 
-module _ (p : Pattern) where
+module _ (p : WovenPattern) where
   -- the numbers of the vertices
   abbrev numbers : List ℕ
   numbers = below (length (p .vertices))
@@ -102,15 +102,21 @@ module _ (p : Pattern) where
   unfolding tied
   tied-steps ids = rw (below-length (length (p .vertices))) (steps-along (length (p .vertices)) (withIdentity p ids))
 
+  -- the test that a vertex has an identity
+  abbrev has : List Identity → ℕ → Bool
+  has ids v = any (identifiedBy (getD (p .vertices) v noVertex)) ids
+
   identity-e : (ids : List Identity) (v : ℕ) → v ∈ withIdentity p ids → HasIdentity p ids v
   unfolding withIdentity
-  identity-e ids v m = let r = keep-e (λ v. mem (getD (p .vertices) v []) (map (λ (i : Identity). i .actor) ids)) numbers v m in
-      (below-e (length (p .vertices)) v (r .0), mem-e (getD (p .vertices) v []) (map (λ (i : Identity). i .actor) ids) (r .1))
+  identity-e ids v m =
+      let r = keep-e (has ids) numbers v m in
+      let a = any-e (identifiedBy (getD (p .vertices) v noVertex)) ids (r .1) in
+      (below-e (length (p .vertices)) v (r .0), (a .0, a .1, identified-exactly (getD (p .vertices) v noVertex) (a .0) .0 (a .2)))
 
   identity-i : (ids : List Identity) (v : ℕ) → HasIdentity p ids v → v ∈ withIdentity p ids
   unfolding withIdentity
-  identity-i ids v (h, k) = keep-i (λ v. mem (getD (p .vertices) v []) (map (λ (i : Identity). i .actor) ids)) numbers v (below-i (length (p .vertices)) v h)
-      (mem-i (getD (p .vertices) v []) (map (λ (i : Identity). i .actor) ids) k)
+  identity-i ids v (h, (i, k, e)) = keep-i (has ids) numbers v (below-i (length (p .vertices)) v h)
+      (any-i (identifiedBy (getD (p .vertices) v noVertex)) ids i k (identified-exactly (getD (p .vertices) v noVertex) i .1 e))
 
   -- the vertices that the definition gives are those tied to an identity
   pub tied-by-path : (ids : List Identity) (v : ℕ) → (v ∈ tied p ids) ↔ TiedTo p ids v

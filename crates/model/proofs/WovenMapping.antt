@@ -2,13 +2,13 @@
 use Prim.Native.Nat.{ℕ, _+_, _-_, _<_}
 use mathlib.Core.Path.{_≡_, refl, sym, ap, subst, _∙_}
 use mathlib.Core.Logic.{⊎-elim}
-use mathlib.Core.List.{List, [], _∷_, map, List·Memᴰ·head, List·Memᴰ·tail, Memᴰ·cast}
+use mathlib.Core.List.{List, [], _∷_, map, List·Memᴰ·head, Memᴰ·cast}
 use native.Mathlib.Omega.{arith}
 use lib.ListN.{length, getD}
 use lib.Dec.{T, ltb, ltb→lt, lt→ltb}
 use Rattle.model.specs.Bytes.{Bytes}
 use Rattle.model.specs.Choice.{pick}
-use Rattle.model.specs.Lists.{below}
+use Rattle.model.specs.Lists.{below, any}
 use Rattle.model.specs.Names.{mem, place}
 use Rattle.model.specs.Book.{Book}
 use Rattle.model.specs.Query.{vertexNames, edgeNames}
@@ -16,17 +16,18 @@ use Rattle.model.specs.Pattern.{patternOf}
 use Rattle.model.specs.Request.{Identity}
 use Rattle.model.specs.Graph.{IsNode}
 use Rattle.model.specs.Satisfies.{NumberedMapping, NumberedEdgeHolds, Satisfies, edgeAt}
-use Rattle.model.specs.Weave.{wovenName, named, returnsOf, weave}
+use Rattle.model.specs.Weave.{named, returnsOf, weave, WovenVertex, actor, sameVertex, placeVertex, noVertex, weaveVertex}
 use Rattle.model.specs.MayHave.{isActor, Mapped, Agree, AllAgree, Identified}
-use Rattle.model.proofs.Members.{_∈_, test, is-true, is-false, each-e, each-i, map-i, mem-e, mem-i, firsts-i, firsts-e, below-e, place-map}
+use Rattle.model.proofs.Members.{_∈_, test, is-true, is-false, each-e, each-i, map-i, below-e, place-map, alike-e, alike-i}
 use Rattle.model.proofs.Places.{at-place, getD-in, getD-map, length-map}
 use Rattle.model.proofs.ByNodes.{node-in}
 use Rattle.model.proofs.Choices.{IsModel, actor-i}
-use Rattle.model.proofs.AllowedBytes.{BeginsWithByte}
 use Rattle.model.proofs.NumberedMappings.{numbered, byName, SameOnNames, satisfied, same-satisfies, edge-count}
-use Rattle.model.proofs.WovenNames.{AllBeginWithByte, woven-name-of-actor, equal-woven-names}
-use Rattle.model.proofs.Families.{askedOf, Family, familyRow, WovenModel, wovenRow, Weavable}
+use Rattle.model.proofs.WovenNames.{woven-to-actor, woven-to-one}
+use Rattle.model.proofs.Families.{askedOf, Family, familyRow, WovenModel, wovenRow}
 use Rattle.model.proofs.WovenParts.{edgesIn, Counted, counted-map, counted-both, counted-asked, within, Part, verticesOf, wovenVertices, wovenEdges, edges-e, parts-e, vertices-e, vertices-i, woven-returns}
+use Rattle.model.proofs.AcceptedQuery.{ClearNames}
+use Rattle.model.proofs.WovenVertices.{vertex-tells, at-vertex, first-vertices-i, first-vertices-e}
 
 -- the vertices of a mapping's text
 abbrev pub namesOf : Mapped → List Bytes
@@ -37,49 +38,49 @@ abbrev pub actorsIn : Mapped → List Bytes
 actorsIn h = h .asked .actors
 
 -- the node of a woven vertex: from the first text that has it
-unfoldable pub nodeBy : ℕ → List Mapped → Bytes → ℕ
+unfoldable pub nodeBy : ℕ → List Mapped → WovenVertex → ℕ
 nodeBy k [] w = 0
 nodeBy k (h ∷ hs) w =
-    let ws = map (wovenName k (actorsIn h)) (namesOf h) in
+    let ws = map (weaveVertex k (actorsIn h)) (namesOf h) in
     let rest = nodeBy (k + 1) hs w in
-    pick (mem w ws) (h .mapping .node (getD (namesOf h) (place w ws) [])) rest
+    pick (any (sameVertex w) ws) (h .mapping .node (getD (namesOf h) (placeVertex w ws) [])) rest
 
 -- a woven vertex that the first text has gets its node from it
-node-here : (k : ℕ) (h : Mapped) (hs : List Mapped) (w : Bytes) → T (mem w (map (wovenName k (actorsIn h)) (namesOf h)))
-    → (u : Bytes) × (u ∈ namesOf h) × (wovenName k (actorsIn h) u ≡ w) × (nodeBy k (h ∷ hs) w ≡ h .mapping .node u)
+node-here : (k : ℕ) (h : Mapped) (hs : List Mapped) (w : WovenVertex) → T (any (sameVertex w) (map (weaveVertex k (actorsIn h)) (namesOf h)))
+    → (u : Bytes) × (u ∈ namesOf h) × (weaveVertex k (actorsIn h) u ≡ w) × (nodeBy k (h ∷ hs) w ≡ h .mapping .node u)
 unfolding nodeBy
 node-here k h hs w t =
-    let f = wovenName k (actorsIn h) in
+    let f = weaveVertex k (actorsIn h) in
     let ws = map f (namesOf h) in
-    let p = at-place ws w (mem-e w ws t) in
-    let l : place w ws < length (namesOf h) = subst (λ z. place w ws < z) (length-map f (namesOf h)) (p .0) in
-    (getD (namesOf h) (place w ws) [], getD-in (namesOf h) (place w ws) [] l, sym (getD-map f (namesOf h) (place w ws) [] [] l) ∙ p .1, rw (is-true (mem w ws) t) refl)
+    let p = at-vertex ws w (alike-e sameVertex vertex-tells w ws t) in
+    let l : placeVertex w ws < length (namesOf h) = subst (λ z. placeVertex w ws < z) (length-map f (namesOf h)) (p .0) in
+    (getD (namesOf h) (placeVertex w ws) [], getD-in (namesOf h) (placeVertex w ws) [] l, sym (getD-map f (namesOf h) (placeVertex w ws) [] noVertex l) ∙ p .1, rw (is-true (any (sameVertex w) ws) t) refl)
 
 -- another gets it from the texts after
-node-there : (k : ℕ) (h : Mapped) (hs : List Mapped) (w : Bytes) → (T (mem w (map (wovenName k (actorsIn h)) (namesOf h))) → ⊥) → nodeBy k (h ∷ hs) w ≡ nodeBy (k + 1) hs w
+node-there : (k : ℕ) (h : Mapped) (hs : List Mapped) (w : WovenVertex) → (T (any (sameVertex w) (map (weaveVertex k (actorsIn h)) (namesOf h))) → ⊥) → nodeBy k (h ∷ hs) w ≡ nodeBy (k + 1) hs w
 unfolding nodeBy
-node-there k h hs w t = rw (is-false (mem w (map (wovenName k (actorsIn h)) (namesOf h))) t) refl
+node-there k h hs w t = rw (is-false (any (sameVertex w) (map (weaveVertex k (actorsIn h)) (namesOf h))) t) refl
 
 -- f gives the woven vertices of a text the nodes that its mapping gives
-abbrev pub NodesKept : (Bytes → ℕ) → ℕ → ℕ → Mapped → Type 0
-NodesKept f j i h = (v : Bytes) → v ∈ namesOf h → f (wovenName j (actorsIn h) v) ≡ h .mapping .node v
+abbrev pub NodesKept : (WovenVertex → ℕ) → ℕ → ℕ → Mapped → Type 0
+NodesKept f j i h = (v : Bytes) → v ∈ namesOf h → f (weaveVertex j (actorsIn h) v) ≡ h .mapping .node v
 
 -- where the mappings agree, each text's nodes are kept
-pub nodes-kept : (k n : ℕ) (hs : List Mapped) → AllAgree hs → ((h : Mapped) → h ∈ hs → AllBeginWithByte (actorsIn h)) → Counted askedOf (NodesKept (nodeBy k hs)) k n hs
-nodes-kept k n [] g p = tt
-nodes-kept k n (h ∷ hs) g p = (
-  λ v i. let w = wovenName k (actorsIn h) v in
-      let r = node-here k h hs w (mem-i w _ (map-i (wovenName k (actorsIn h)) (namesOf h) v i)) in
-      r .3 ∙ ap (h .mapping .node) (equal-woven-names k k (actorsIn h) (actorsIn h) (r .0) v (p h (List·Memᴰ·head refl)) (p h (List·Memᴰ·head refl)) (r .2) .0),
+pub nodes-kept : (k n : ℕ) (hs : List Mapped) → AllAgree hs → Counted askedOf (NodesKept (nodeBy k hs)) k n hs
+nodes-kept k n [] g = tt
+nodes-kept k n (h ∷ hs) g = (
+  λ v i. let w = weaveVertex k (actorsIn h) v in
+      let r = node-here k h hs w (alike-i sameVertex vertex-tells w _ (map-i (weaveVertex k (actorsIn h)) (namesOf h) v i)) in
+      r .3 ∙ ap (h .mapping .node) (woven-to-one k k (actorsIn h) (actorsIn h) (r .0) v (r .2) .0),
   counted-map askedOf (NodesKept (nodeBy (k + 1) hs)) (NodesKept (nodeBy k (h ∷ hs))) (k + 1) (n + edgesIn (h .asked)) hs
-      (λ j i x l _ m ih v s. let w = wovenName j (actorsIn x) v in ⊎-elim
+      (λ j i x l _ m ih v s. let w = weaveVertex j (actorsIn x) v in ⊎-elim
       (λ t. let r = node-here k h hs w t in
-      let e = equal-woven-names k j (actorsIn h) (actorsIn x) (r .0) v (p h (List·Memᴰ·head refl)) (p x (List·Memᴰ·tail m)) (r .2) in
+      let e = woven-to-one k j (actorsIn h) (actorsIn x) (r .0) v (r .2) in
       let a : T (mem (r .0) (actorsIn h)) × T (mem v (actorsIn x)) = ⊎-elim (λ c. c) (λ c. absurd (omega arith)) (e .1) in
       r .3 ∙ ap (h .mapping .node) (e .0) ∙ each-e (Agree h) hs (g .0) x m v (actor-i (h .asked) v (Memᴰ·cast (sym (e .0)) (r .1)) (subst (λ z. T (mem z (actorsIn h))) (e .0) (a .0))) (actor-i (x .asked) v s (a .1)))
       (λ t. node-there k h hs w t ∙ ih v s)
-      (test (mem w (map (wovenName k (actorsIn h)) (namesOf h)))))
-      (nodes-kept (k + 1) (n + edgesIn (h .asked)) hs (g .1) (λ x m. p x (List·Memᴰ·tail m))),
+      (test (any (sameVertex w) (map (weaveVertex k (actorsIn h)) (namesOf h)))))
+      (nodes-kept (k + 1) (n + edgesIn (h .asked)) hs (g .1)),
 )
 
 -- the relationship of a woven edge: from its own text, n edges standing before
@@ -107,47 +108,47 @@ rels-kept k n (h ∷ hs) = (
 
 -- the woven mapping of a family
 abbrev pub wovenOf : List Mapped → NumberedMapping
-wovenOf hs = record { node = λ i. nodeBy 0 hs (getD (wovenVertices (map askedOf hs)) i []); rel = relBy 0 hs }
+wovenOf hs = record { node = λ i. nodeBy 0 hs (getD (wovenVertices (map askedOf hs)) i noVertex); rel = relBy 0 hs }
 
 module _ (b : Book) (ids : List Identity) (hs : List Mapped) (family : Family b ids (map askedOf hs) hs)
-    (weavable : (h : Mapped) → h ∈ hs → Weavable (h .asked)) (actors-begin : (d : Identity) → d ∈ ids → BeginsWithByte (d .actor)) where
+    (clear : (h : Mapped) → h ∈ hs → ClearNames (h .asked .text)) where
   -- the woven vertices
-  abbrev vs : List Bytes
+  abbrev vs : List WovenVertex
   vs = wovenVertices (map askedOf hs)
 
-  in-vs : (w : Bytes) → w ∈ verticesOf 0 (map askedOf hs) → w ∈ vs
-  in-vs w i = firsts-i [] _ w i
+  in-vs : (w : WovenVertex) → w ∈ verticesOf 0 (map askedOf hs) → w ∈ vs
+  in-vs w i = first-vertices-i [] _ w i
 
   -- each text's nodes are those of its woven vertices
   nodes : Counted askedOf (NodesKept (nodeBy 0 hs)) 0 0 hs
-  nodes = nodes-kept 0 0 hs (family .agreeing) (λ h m. weavable h m .actors)
+  nodes = nodes-kept 0 0 hs (family .agreeing)
 
   -- by the place of a woven vertex
   abbrev AtPlace : ℕ → ℕ → Mapped → Type 0
-  AtPlace j i h = (v : Bytes) → v ∈ namesOf h → wovenOf hs .node (place (wovenName j (actorsIn h) v) vs) ≡ h .mapping .node v
+  AtPlace j i h = (v : Bytes) → v ∈ namesOf h → wovenOf hs .node (placeVertex (weaveVertex j (actorsIn h) v) vs) ≡ h .mapping .node v
 
   at-places : Counted askedOf AtPlace 0 0 hs
-  at-places = counted-map askedOf (λ j i h. ((v : Bytes) → v ∈ namesOf h → wovenName j (actorsIn h) v ∈ vs) × NodesKept (nodeBy 0 hs) j i h) AtPlace 0 0 hs
-      (λ j i h _ _ _ p v m. ap (nodeBy 0 hs) (at-place vs (wovenName j (actorsIn h) v) (p .0 v m) .1) ∙ p .1 v m)
+  at-places = counted-map askedOf (λ j i h. ((v : Bytes) → v ∈ namesOf h → weaveVertex j (actorsIn h) v ∈ vs) × NodesKept (nodeBy 0 hs) j i h) AtPlace 0 0 hs
+      (λ j i h _ _ _ p v m. ap (nodeBy 0 hs) (at-vertex vs (weaveVertex j (actorsIn h) v) (p .0 v m) .1) ∙ p .1 v m)
       (counted-both askedOf _ _ 0 0 hs (vertices-i askedOf vs 0 0 hs in-vs) nodes)
 
   -- each text's pattern is satisfied within the woven mapping
   parts : Counted askedOf (λ j i h. Part b vs (wovenOf hs) j i (h .asked)) 0 0 hs
   unfolding patternOf
   parts = counted-map askedOf (λ j i h. AtPlace j i h × RelsKept (relBy 0 hs) j i h) (λ j i h. Part b vs (wovenOf hs) j i (h .asked)) 0 0 hs
-      (λ j n h _ _ m p. let q = h .asked .text in let s = weavable h m .names in
+      (λ j n h _ _ m p. let q = h .asked .text in let s = clear h m in
       same-satisfies b q s (numbered q (h .mapping)) (within vs (wovenOf hs) j n (h .asked))
-      (λ i l. sym (ap (λ z. wovenOf hs .node (place z vs)) (getD-map (wovenName j (actorsIn h)) (namesOf h) i [] [] l) ∙ p .0 (getD (namesOf h) i []) (getD-in (namesOf h) i [] l)), λ i l. sym (p .1 i l))
+      (λ i l. sym (ap (λ z. wovenOf hs .node (placeVertex z vs)) (getD-map (weaveVertex j (actorsIn h)) (namesOf h) i [] noVertex l) ∙ p .0 (getD (namesOf h) i []) (getD-in (namesOf h) i [] l)), λ i l. sym (p .1 i l))
       (satisfied b q s (h .mapping) (each-e (IsModel b) hs (family .models) h m)))
       (counted-both askedOf AtPlace (RelsKept (relBy 0 hs)) 0 0 hs at-places (rels-kept 0 0 hs))
 
   -- what holds of each text's vertices by name and node holds of each woven vertex
-  of-vertex : (C : Bytes → Type 0)
-      → ((j : ℕ) (h : Mapped) → h ∈ hs → (v : Bytes) → v ∈ namesOf h → nodeBy 0 hs (wovenName j (actorsIn h) v) ≡ h .mapping .node v → C (wovenName j (actorsIn h) v))
-      → (i : ℕ) → i < length vs → C (getD vs i [])
+  of-vertex : (C : WovenVertex → Type 0)
+      → ((j : ℕ) (h : Mapped) → h ∈ hs → (v : Bytes) → v ∈ namesOf h → nodeBy 0 hs (weaveVertex j (actorsIn h) v) ≡ h .mapping .node v → C (weaveVertex j (actorsIn h) v))
+      → (i : ℕ) → i < length vs → C (getD vs i noVertex)
   of-vertex C f i l = vertices-e askedOf C 0 0 hs
-      (counted-map askedOf (NodesKept (nodeBy 0 hs)) (λ j i h. (v : Bytes) → v ∈ namesOf h → C (wovenName j (actorsIn h) v)) 0 0 hs (λ j i h _ _ m p v n. f j h m v n (p v n)) nodes)
-      (getD vs i []) (⊎-elim (λ z. elim z [ ]) (λ z. z) (firsts-e [] (verticesOf 0 (map askedOf hs)) (getD vs i []) (getD-in vs i [] l)))
+      (counted-map askedOf (NodesKept (nodeBy 0 hs)) (λ j i h. (v : Bytes) → v ∈ namesOf h → C (weaveVertex j (actorsIn h) v)) 0 0 hs (λ j i h _ _ m p v n. f j h m v n (p v n)) nodes)
+      (getD vs i noVertex) (⊎-elim (λ z. elim z [ ]) (λ z. z) (first-vertices-e [] (verticesOf 0 (map askedOf hs)) (getD vs i noVertex) (getD-in vs i noVertex l)))
 
   -- the woven pattern is satisfied
   woven-satisfies : Satisfies b (weave (map askedOf hs)) (wovenOf hs)
@@ -163,10 +164,10 @@ module _ (b : Book) (ids : List Identity) (hs : List Mapped) (family : Family b 
       }
 
   -- and the identities are kept
-  woven-identified : (i : ℕ) → i < length (weave (map askedOf hs) .vertices) → (d : Identity) → d ∈ ids → getD (weave (map askedOf hs) .vertices) i [] ≡ d .actor → wovenOf hs .node i ≡ d .node
+  woven-identified : (i : ℕ) → i < length (weave (map askedOf hs) .vertices) → (d : Identity) → d ∈ ids → getD (weave (map askedOf hs) .vertices) i noVertex ≡ actor (d .actor) → wovenOf hs .node i ≡ d .node
   unfolding weave
-  woven-identified i l d m e = of-vertex (λ w. w ≡ d .actor → nodeBy 0 hs w ≡ d .node)
-      (λ j h k v n p q. let r = woven-name-of-actor j (actorsIn h) v (d .actor) (actors-begin d m) q in
+  woven-identified i l d m e = of-vertex (λ w. w ≡ actor (d .actor) → nodeBy 0 hs w ≡ d .node)
+      (λ j h k v n p q. let r = woven-to-actor j (actorsIn h) v (d .actor) q in
       p ∙ ap (h .mapping .node) (r .1) ∙ each-e (λ (z : Identity). T (isActor (h .asked) (z .actor)) → h .mapping .node (z .actor) ≡ z .node) ids (each-e (Identified ids) hs (family .identified) h k) d m
       (subst (λ z. T (isActor (h .asked) z)) (r .1) (actor-i (h .asked) v n (r .0))))
       i l e
@@ -179,17 +180,16 @@ module _ (b : Book) (ids : List Identity) (hs : List Mapped) (family : Family b 
   pub mappings-kept : Counted askedOf (λ j n h. SameOnNames (h .asked .text) (byName (h .asked .text) (within vs (wovenOf hs) j n (h .asked))) (h .mapping)) 0 0 hs
   mappings-kept = counted-map askedOf (λ j i h. AtPlace j i h × RelsKept (relBy 0 hs) j i h) _ 0 0 hs
       (λ j n h _ _ _ p. (
-        λ v i. ap (λ z. wovenOf hs .node (place z vs)) (place-map (wovenName j (actorsIn h)) [] (namesOf h) v i) ∙ p .0 v i,
+        λ v i. ap (λ z. wovenOf hs .node (placeVertex z vs)) (place-map (weaveVertex j (actorsIn h)) noVertex (namesOf h) v i) ∙ p .0 v i,
         λ e i. let k = at-place (edgeNames (h .asked .text)) e i in p .1 (place e (edgeNames (h .asked .text))) (subst (λ z. place e (edgeNames (h .asked .text)) < z) (edge-count (h .asked .text)) (k .0)) ∙ ap (h .mapping .rel) (k .1),
       ))
       (counted-both askedOf AtPlace (RelsKept (relBy 0 hs)) 0 0 hs at-places (rels-kept 0 0 hs))
 
 -- and its row is the family's
-pub woven-row : (b : Book) (ids : List Identity) (hs : List Mapped) → Family b ids (map askedOf hs) hs → ((h : Mapped) → h ∈ hs → Weavable (h .asked))
-    → ((d : Identity) → d ∈ ids → BeginsWithByte (d .actor))
+pub woven-row : (b : Book) (ids : List Identity) (hs : List Mapped) → Family b ids (map askedOf hs) hs → ((h : Mapped) → h ∈ hs → ClearNames (h .asked .text))
     → wovenRow (map askedOf hs) (wovenOf hs) ≡ familyRow hs
 unfolding weave returnsOf named
-woven-row b ids [] family weavable begin = refl
-woven-row b ids (h ∷ hs) family weavable begin =
-    woven-returns (wovenVertices (map askedOf (h ∷ hs))) (wovenOf (h ∷ hs)) (h .mapping .node) (h .asked) (map askedOf hs) (weavable h (List·Memᴰ·head refl) .names .declared)
-    (at-places b ids (h ∷ hs) family weavable begin .0)
+woven-row b ids [] family clear = refl
+woven-row b ids (h ∷ hs) family clear =
+    woven-returns (wovenVertices (map askedOf (h ∷ hs))) (wovenOf (h ∷ hs)) (h .mapping .node) (h .asked) (map askedOf hs) (clear h (List·Memᴰ·head refl) .declared)
+    (at-places b ids (h ∷ hs) family clear .0)

@@ -9,18 +9,19 @@ use lib.Seq.{getD-append-add}
 use lib.Dec.{T, ltb, ltb→lt, lt→ltb}
 use Rattle.model.specs.Bytes.{Bytes}
 use Rattle.model.specs.Lists.{joined, below}
-use Rattle.model.specs.Names.{place, firsts}
+use Rattle.model.specs.Names.{place}
 use Rattle.model.specs.Book.{Book}
 use Rattle.model.specs.Query.{vertexNames}
-use Rattle.model.specs.Pattern.{Pattern, Edge, Clause, excluded, vertexHas, edgeHas, patternOf}
+use Rattle.model.specs.Pattern.{Edge, Clause, excluded, vertexHas, edgeHas, patternOf}
 use Rattle.model.specs.Graph.{Each, IsNode}
 use Rattle.model.specs.Models.{EdgeHolds}
 use Rattle.model.specs.Satisfies.{NumberedMapping, edgeAt, NumberedEdgeHolds, ClauseHolds, Satisfies}
-use Rattle.model.specs.Weave.{Asked, wovenName, named, moved, movedEdge, movedClause, movedClauses, returnsOf}
+use Rattle.model.specs.Weave.{Asked, named, moved, movedEdge, movedClause, movedClauses, returnsOf, WovenVertex, WovenPattern, placeVertex, firstVertices, noVertex, weaveVertex}
 use Rattle.model.specs.MayHave.{Mapped}
 use Rattle.model.proofs.Members.{_∈_, test, each-e, each-i, map-i, map-e, below-i, below-e, place-map}
-use Rattle.model.proofs.Places.{at-place, getD-in, getD-map, length-map}
+use Rattle.model.proofs.Places.{getD-in, getD-map, length-map}
 use Rattle.model.proofs.ByNodes.{Named}
+use Rattle.model.proofs.WovenVertices.{at-vertex}
 
 -- the edges of a text's pattern
 abbrev pub edgesIn : Asked → ℕ
@@ -51,11 +52,11 @@ counted-asked P k n [] f = tt
 counted-asked P k n (h ∷ hs) f = (f .0, counted-asked P (k + 1) (n + edgesIn (h .asked)) hs (f .1))
 
 -- the map of a text's pattern within a map of the woven pattern
-abbrev pub within : List Bytes → NumberedMapping → ℕ → ℕ → Asked → NumberedMapping
-within vs m k n a = record { node = λ i. m .node (place (getD (map (wovenName k (a .actors)) (vertexNames (a .text))) i []) vs); rel = λ i. m .rel (n + i) }
+abbrev pub within : List WovenVertex → NumberedMapping → ℕ → ℕ → Asked → NumberedMapping
+within vs m k n a = record { node = λ i. m .node (placeVertex (getD (map (weaveVertex k (a .actors)) (vertexNames (a .text))) i noVertex) vs); rel = λ i. m .rel (n + i) }
 
 -- a text's pattern is satisfied within a map of the woven pattern
-abbrev pub Part : Book → List Bytes → NumberedMapping → ℕ → ℕ → Asked → Type 0
+abbrev pub Part : Book → List WovenVertex → NumberedMapping → ℕ → ℕ → Asked → Type 0
 Part b vs m k n a = Satisfies b (patternOf (a .text)) (within vs m k n a)
 
 -- the edge where there is none
@@ -108,20 +109,20 @@ each-right P xs ys h = each-i P ys (λ x m. each-e P (xs ++ ys) h x (Memᴰ·app
 pub each-both : {A : Type 0} (P : A → Type 0) (xs ys : List A) → Each P xs → Each P ys → Each P (xs ++ ys)
 each-both P xs ys f g = each-i P (xs ++ ys) (λ x m. ⊎-elim (each-e P xs f x) (each-e P ys g x) (append-cases xs m))
 
--- the pattern of a text under woven names
-abbrev pub namedOne : ℕ → Asked → Pattern
-namedOne k a = record { vertices = map (wovenName k (a .actors)) (vertexNames (a .text)); edges = patternOf (a .text) .edges; clauses = patternOf (a .text) .clauses; returns = patternOf (a .text) .returns }
+-- the pattern of a text, of woven vertices
+abbrev pub namedOne : ℕ → Asked → WovenPattern
+namedOne k a = record { vertices = map (weaveVertex k (a .actors)) (vertexNames (a .text)); edges = patternOf (a .text) .edges; clauses = patternOf (a .text) .clauses; returns = patternOf (a .text) .returns }
 
--- the vertices of texts under woven names, one text after another
-abbrev pub verticesOf : ℕ → List Asked → List Bytes
+-- the woven vertices of texts, one text after another
+abbrev pub verticesOf : ℕ → List Asked → List WovenVertex
 verticesOf k asked = joined (λ p. p .vertices) (named k asked)
 
--- the woven vertices
-abbrev pub wovenVertices : List Asked → List Bytes
-wovenVertices asked = firsts [] (verticesOf 0 asked)
+-- the woven vertices, each once
+abbrev pub wovenVertices : List Asked → List WovenVertex
+wovenVertices asked = firstVertices [] (verticesOf 0 asked)
 
 -- the woven edges of texts
-abbrev pub wovenEdges : List Bytes → ℕ → List Asked → List Edge
+abbrev pub wovenEdges : List WovenVertex → ℕ → List Asked → List Edge
 wovenEdges vs k asked = joined (λ p. map (movedEdge vs p) (p .edges)) (named k asked)
 
 -- a clause excludes no vertex from itself
@@ -130,7 +131,7 @@ Apart (excluded u v) = u ≢ v
 Apart (vertexHas v a r x) = Unit {0}
 Apart (edgeHas e a r x) = Unit {0}
 
-module _ (b : Book) (vs : List Bytes) (m : NumberedMapping) where
+module _ (b : Book) (vs : List WovenVertex) (m : NumberedMapping) where
   -- a clause of the woven pattern that excludes no vertex from itself holds within a text
   clause-within : (k n : ℕ) (a : Asked) (c : Clause) → Apart (movedClause vs (namedOne k a) n c) → ClauseHolds b m (movedClause vs (namedOne k a) n c) → ClauseHolds b (within vs m k n a) c
   unfolding movedClause moved
@@ -145,16 +146,16 @@ module _ (b : Book) (vs : List Bytes) (m : NumberedMapping) where
   clause-woven k n a (vertexHas v c r x) h = h
   clause-woven k n a (edgeHas e c r x) h = h
 
-  part-i : (k n : ℕ) (a : Asked) → ((w : Bytes) → w ∈ map (wovenName k (a .actors)) (vertexNames (a .text)) → w ∈ vs) → ((i : ℕ) → i < length vs → IsNode b (m .node i))
+  part-i : (k n : ℕ) (a : Asked) → ((w : WovenVertex) → w ∈ map (weaveVertex k (a .actors)) (vertexNames (a .text)) → w ∈ vs) → ((i : ℕ) → i < length vs → IsNode b (m .node i))
       → EdgesAt b m n (map (movedEdge vs (namedOne k a)) (patternOf (a .text) .edges)) → Each Apart (map (movedClause vs (namedOne k a) n) (patternOf (a .text) .clauses))
       → Each (ClauseHolds b m) (map (movedClause vs (namedOne k a) n) (patternOf (a .text) .clauses)) → Part b vs m k n a
   unfolding patternOf edgeAt movedEdge moved
   part-i k n a f g h d c =
       let p = patternOf (a .text) in
-      let ws = map (wovenName k (a .actors)) (vertexNames (a .text)) in
+      let ws = map (weaveVertex k (a .actors)) (vertexNames (a .text)) in
       record {
-        vertices = each-i (λ v. IsNode b (within vs m k n a .node v)) (below (length (vertexNames (a .text)))) (λ i l. let t = subst (λ z. i < z) (sym (length-map (wovenName k (a .actors)) (vertexNames (a .text)))) (below-e _ i l) in
-            g _ (at-place vs (getD ws i []) (f (getD ws i []) (getD-in ws i [] t)) .0));
+        vertices = each-i (λ v. IsNode b (within vs m k n a .node v)) (below (length (vertexNames (a .text)))) (λ i l. let t = subst (λ z. i < z) (sym (length-map (weaveVertex k (a .actors)) (vertexNames (a .text)))) (below-e _ i l) in
+            g _ (at-vertex vs (getD ws i noVertex) (f (getD ws i noVertex) (getD-in ws i noVertex t)) .0));
         edges = each-i (NumberedEdgeHolds b p (within vs m k n a)) (below (length (p .edges))) (λ i l. let t = below-e _ i l in
             subst (Holds b m (n + i)) (getD-map (movedEdge vs (namedOne k a)) (p .edges) i none none t) (h i (subst (λ z. i < z) (sym (length-map (movedEdge vs (namedOne k a)) (p .edges))) t)));
         clauses = each-i (ClauseHolds b (within vs m k n a)) (p .clauses) (λ e l.
@@ -174,13 +175,13 @@ module _ (b : Book) (vs : List Bytes) (m : NumberedMapping) where
       )
 
   -- from the woven pattern to the texts
-  pub parts-i : (k n : ℕ) (asked : List Asked) → ((w : Bytes) → w ∈ verticesOf k asked → w ∈ vs) → ((i : ℕ) → i < length vs → IsNode b (m .node i))
+  pub parts-i : (k n : ℕ) (asked : List Asked) → ((w : WovenVertex) → w ∈ verticesOf k asked → w ∈ vs) → ((i : ℕ) → i < length vs → IsNode b (m .node i))
       → EdgesAt b m n (wovenEdges vs k asked) → Each Apart (movedClauses vs n (named k asked)) → Each (ClauseHolds b m) (movedClauses vs n (named k asked)) → Counted (λ a. a) (Part b vs m) k n asked
   unfolding named joined movedClauses patternOf
   parts-i k n [] f g h d c = tt
   parts-i k n (a ∷ others) f g h d c =
       let p = patternOf (a .text) in
-      let ws = map (wovenName k (a .actors)) (vertexNames (a .text)) in
+      let ws = map (weaveVertex k (a .actors)) (vertexNames (a .text)) in
       let xs = map (movedEdge vs (namedOne k a)) (p .edges) in
       let ys = wovenEdges vs (k + 1) others in
       let cs = map (movedClause vs (namedOne k a) n) (p .clauses) in
@@ -206,40 +207,40 @@ module _ (b : Book) (vs : List Bytes) (m : NumberedMapping) where
         each-both (ClauseHolds b m) cs ds (r .1) (s .1),
       )
 
--- what holds of the woven names of every text's vertices holds of every woven vertex
-pub vertices-e : {A : Type 0} (of : A → Asked) (C : Bytes → Type 0) (k n : ℕ) (l : List A) → Counted of (λ j i x. (v : Bytes) → v ∈ vertexNames (of x .text) → C (wovenName j (of x .actors) v)) k n l
-    → (w : Bytes) → w ∈ verticesOf k (map of l) → C w
+-- what holds of what every text's vertices become holds of every woven vertex
+pub vertices-e : {A : Type 0} (of : A → Asked) (C : WovenVertex → Type 0) (k n : ℕ) (l : List A) → Counted of (λ j i x. (v : Bytes) → v ∈ vertexNames (of x .text) → C (weaveVertex j (of x .actors) v)) k n l
+    → (w : WovenVertex) → w ∈ verticesOf k (map of l) → C w
 unfolding named joined patternOf
 vertices-e of C k n [] h w i = elim i [ ]
 vertices-e of C k n (x ∷ l) h w i =
-    let f = wovenName k (of x .actors) in
+    let f = weaveVertex k (of x .actors) in
     ⊎-elim (λ j. let r = map-e f (vertexNames (of x .text)) w j in subst C (sym (r .2)) (h .0 (r .0) (r .1)))
     (λ j. vertices-e of C (k + 1) (n + edgesIn (of x)) l (h .1) w j) (append-cases (map f (vertexNames (of x .text))) i)
 
--- every woven name of a text's vertices is a woven vertex
-pub vertices-i : {A : Type 0} (of : A → Asked) (vs : List Bytes) (k n : ℕ) (l : List A) → ((w : Bytes) → w ∈ verticesOf k (map of l) → w ∈ vs)
-    → Counted of (λ j i x. (v : Bytes) → v ∈ vertexNames (of x .text) → wovenName j (of x .actors) v ∈ vs) k n l
+-- what every text's vertices become is a woven vertex
+pub vertices-i : {A : Type 0} (of : A → Asked) (vs : List WovenVertex) (k n : ℕ) (l : List A) → ((w : WovenVertex) → w ∈ verticesOf k (map of l) → w ∈ vs)
+    → Counted of (λ j i x. (v : Bytes) → v ∈ vertexNames (of x .text) → weaveVertex j (of x .actors) v ∈ vs) k n l
 unfolding named joined patternOf
 vertices-i of vs k n [] f = tt
 vertices-i of vs k n (x ∷ l) f =
-    let g = wovenName k (of x .actors) in (
+    let g = weaveVertex k (of x .actors) in (
       λ v i. f (g v) (Memᴰ·append-left (verticesOf (k + 1) (map of l)) (map-i g (vertexNames (of x .text)) v i)),
       vertices-i of vs (k + 1) (n + edgesIn (of x)) l (λ w i. f w (Memᴰ·append-right (map g (vertexNames (of x .text))) i)),
     )
 
 -- the nodes of the woven Return vertices are those of the first text's Return names
-pub woven-returns : (vs : List Bytes) (m : NumberedMapping) (f : Bytes → ℕ) (a : Asked) (others : List Asked) → Named (a .text)
-    → ((v : Bytes) → v ∈ vertexNames (a .text) → m .node (place (wovenName 0 (a .actors) v) vs) ≡ f v)
+pub woven-returns : (vs : List WovenVertex) (m : NumberedMapping) (f : Bytes → ℕ) (a : Asked) (others : List Asked) → Named (a .text)
+    → ((v : Bytes) → v ∈ vertexNames (a .text) → m .node (placeVertex (weaveVertex 0 (a .actors) v) vs) ≡ f v)
     → map (m .node) (returnsOf vs (named 0 (a ∷ others))) ≡ map f (a .text .returns)
 unfolding returnsOf named patternOf moved
 woven-returns vs m f a others d h = go (a .text .returns) (d .returns)
   where
     g : ℕ → ℕ
-    g i = place (getD (map (wovenName 0 (a .actors)) (vertexNames (a .text))) i []) vs
+    g i = placeVertex (getD (map (weaveVertex 0 (a .actors)) (vertexNames (a .text))) i noVertex) vs
 
     go : (rs : List Bytes) → ((v : Bytes) → v ∈ rs → v ∈ vertexNames (a .text)) → map (m .node) (map g (map (λ v. place v (vertexNames (a .text))) rs)) ≡ map f rs
     go [] p = refl
     go (r ∷ rs) p =
         let n = p r (List·Memᴰ·head refl) in
-        let e : m .node (g (place r (vertexNames (a .text)))) ≡ f r = ap (λ z. m .node (place z vs)) (place-map (wovenName 0 (a .actors)) [] (vertexNames (a .text)) r n) ∙ h r n in
+        let e : m .node (g (place r (vertexNames (a .text)))) ≡ f r = ap (λ z. m .node (placeVertex z vs)) (place-map (weaveVertex 0 (a .actors)) noVertex (vertexNames (a .text)) r n) ∙ h r n in
         let ih = go rs (λ v k. p v (List·Memᴰ·tail k)) in cc

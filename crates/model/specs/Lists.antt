@@ -1,4 +1,4 @@
--- Lists: tests over them, what passes a test, and numbers below a bound.
+-- Lists: tests over them, what passes a test, numbers below a bound, first appearances.
 use Prim.Native.Nat.{ℕ, zero, suc, _+_}
 use mathlib.Core.List.{List, [], _∷_, _++_}
 use mathlib.Core.Bool.{Bool, true, false}
@@ -57,3 +57,12 @@ below n = upTo n []
 unfoldable pub placeWhere : {A : Type 0} → (A → Bool) → List A → ℕ
 placeWhere p [] = 0
 placeWhere p (x ∷ xs) = let rest = suc (placeWhere p xs) in pick (p x) 0 rest
+
+-- an element put behind a list that has it not yet, by a test that tells whether two elements are the same
+unfoldable pub addNewBy : {A : Type 0} → (A → A → Bool) → List A → A → List A
+addNewBy alike xs x = pick (any (alike x) xs) xs (xs ++ (x ∷ []))
+
+-- every element once, in order of first appearance, behind those seen already, by such a test
+unfoldable pub firstsBy : {A : Type 0} → (A → A → Bool) → List A → List A → List A
+firstsBy alike seen [] = seen
+firstsBy alike seen (x ∷ xs) = firstsBy alike (addNewBy alike seen x) xs

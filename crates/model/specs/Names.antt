@@ -1,10 +1,10 @@
 -- Names, and names in lists: membership, repeats, places, first appearances.
 use Prim.Native.Nat.{ℕ}
-use mathlib.Core.List.{List, [], _∷_, _++_}
+use mathlib.Core.List.{List, [], _∷_}
 use mathlib.Core.Bool.{Bool, true, false}
 use Rattle.model.specs.Bytes.{Bytes, same}
 use Rattle.model.specs.Choice.{pick}
-use Rattle.model.specs.Lists.{any, placeWhere}
+use Rattle.model.specs.Lists.{any, placeWhere, addNewBy, firstsBy}
 
 -- a name is the bytes of a word
 abbrev pub Name : Type 0
@@ -24,10 +24,9 @@ unfoldable pub place : Name → List Name → ℕ
 place w ws = placeWhere (same w) ws
 
 -- a name put behind a list that has it not yet
-unfoldable pub addNew : List Name → Name → List Name
-addNew ws w = pick (mem w ws) ws (ws ++ (w ∷ []))
+abbrev pub addNew : List Name → Name → List Name
+addNew ws w = addNewBy same ws w
 
 -- every name once, in order of first appearance, behind those seen already
-unfoldable pub firsts : List Name → List Name → List Name
-firsts seen [] = seen
-firsts seen (w ∷ ws) = firsts (addNew seen w) ws
+abbrev pub firsts : List Name → List Name → List Name
+firsts seen ws = firstsBy same seen ws

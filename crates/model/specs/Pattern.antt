@@ -20,12 +20,16 @@ pub data Clause : Type 0 where
   vertexHas : ℕ → Name → Relation → Value → Clause
   edgeHas : ℕ → Name → Relation → Value → Clause
 
--- V, E, Σ with Γ in the order of the text, Ret
-pub record Pattern : Type 0 where
-  pub vertices : List Name
+-- V, E, Σ with Γ in the order of the text, Ret; what a vertex of V is, is left open
+pub record PatternOver (Vertex : Type 0) : Type 0 where
+  pub vertices : List Vertex
   pub edges : List Edge
   pub clauses : List Clause
   pub returns : List ℕ
+
+-- the pattern of a text: a vertex is its name
+abbrev pub Pattern : Type 0
+Pattern = PatternOver Name
 
 -- a condition by the numbers of what it names
 unfoldable pub clauseOf : List Name → List Name → Condition → Clause

@@ -7,7 +7,7 @@ use native.Mathlib.Omega.{arith}
 use lib.ListN.{length, getD, take, set, length-append}
 use borrow.Author.Tests.{lt-ltb, le-ltb}
 use Rattle.model.specs.Bytes.{Bytes, same}
-use Rattle.model.specs.Lists.{any, joined}
+use Rattle.model.specs.Lists.{any, joined, addNewBy, firstsBy}
 use Rattle.model.specs.Names.{mem, place, addNew, firsts}
 use Rattle.model.specs.Answers.{nameAt}
 use Rattle.model.specs.declared.Part.{Part}
@@ -81,12 +81,12 @@ module _ (s : Bytes) (v : Vertices) (size : length (v .parts) ≡ 8) (h : Found 
   counted = names-counted s v size (h .within)
 
   pub vertex-known : n < v .count → Found s v (addNew ws w)
-  unfolding addNew
+  unfolding addNewBy mem
   vertex-known l = let t = place-known w ws (omega (arith, counted)) in record { within = h .within; named = rw t; inside = h .inside }
 
   module _ (l : v .count ≤ n) where
     grown : addNew ws w ≡ ws ++ (w ∷ [])
-    unfolding addNew
+    unfolding addNewBy mem
     grown = rw (place-new w ws (omega (arith, counted)))
 
     pub vertex-room : length (addNew ws w) ≤ 8 → v .count < 8
@@ -104,11 +104,11 @@ module _ (s : Bytes) (v : Vertices) (size : length (v .parts) ≡ 8) (h : Found 
 -- the vertices with that of a piece
 module _ (s : Bytes) (v : Vertices) (p : Piece) (r : NameOf) (h : asList s r ≡ vertexIn (pieceOf s p)) where
   pub piece-adds : (name : Part) → r ≡ Is name → firsts (namesOf s v) (vertexIn (pieceOf s p)) ≡ addNew (namesOf s v) (nameAt s name)
-  unfolding asList firsts
+  unfolding asList firstsBy
   piece-adds name e = rw (← h, e)
 
   pub piece-keeps : r ≡ None → firsts (namesOf s v) (vertexIn (pieceOf s p)) ≡ namesOf s v
-  unfolding asList firsts
+  unfolding asList firstsBy
   piece-keeps e = rw (← h, e)
 
 -- the vertices found from the text's start to a place, and those of the pieces behind it
@@ -138,7 +138,7 @@ module _ (s : Bytes) (from : Place) (v : Vertices) (so : VerticesSoFar s from v)
     }
 
   pub vertices-end : (w : Bool) → r ≡ read.None w → Found s v (vertexNamesIn s)
-  unfolding joined firsts
+  unfolding joined firstsBy
   vertices-end w e = record {
     within = so .stored .within;
     named = sym (ap (λ ps. firsts (namesOf s v) (verticesIn ps)) (step-none s from r h w e)) ∙ so .rest;

@@ -14,7 +14,6 @@ use Rattle.model.specs.Lists.{joined}
 use Rattle.model.specs.Refusal.{Outcome, accepted, refused, onAccept, refusal}
 use Rattle.model.specs.Book.{Book}
 use Rattle.model.specs.ReadBook.{readBook}
-use Rattle.model.specs.Pattern.{Pattern}
 use Rattle.model.specs.Request.{Identity}
 use Rattle.model.specs.Service.{ones, FoundRows, ListAnswer, rowWords, listFound, listService}
 use Rattle.model.specs.Answers.{refusalOf, listAnswer}
@@ -33,6 +32,7 @@ use Rattle.weave.specs.Given.{Identified}
 use Rattle.search.specs.Rows.{RowsFound}
 use Rattle.service.specs.Behind.{rowsFrom, rowsOfRules, rowsOfQuery, rowsOfTexts, Lists}
 use Rattle.service.proofs.BookLaws.{little, enough}
+use Rattle.model.specs.Weave.{WovenPattern}
 
 -- rows that were found or refused
 abbrev pub RowsGiven : Type 0
@@ -63,7 +63,7 @@ joined-flat [] = refl
 joined-flat (row ∷ rows) = ap (λ (l : List ℕ). row ++ l) (joined-flat rows)
 
 -- all rows of a problem, as the search found them
-module _ (b : Book) (p : Pattern) (woven : List ℕ) (returns : ℕ) (before after : List ℕ) (count : ℕ) (full : Bool)
+module _ (b : Book) (p : WovenPattern) (woven : List ℕ) (returns : ℕ) (before after : List ℕ) (count : ℕ) (full : Bool)
     (found : RowsFound b p woven returns before after count full)
     (ids : List Identity) (identified : Identified p ids woven) (list : List Row) (all : AllRows (problemOf b p ids) list) where
   -- they do not fit

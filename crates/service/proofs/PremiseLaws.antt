@@ -14,10 +14,9 @@ use Rattle.model.specs.Lists.{all, memℕ, below}
 use Rattle.model.specs.Refusal.{accepted, refusal, onAccept, refusedIf, lowest}
 use Rattle.model.specs.Book.{Book}
 use Rattle.model.specs.QueryText.{QueryText}
-use Rattle.model.specs.Pattern.{Pattern}
 use Rattle.model.specs.Rules.{Rules}
 use Rattle.model.specs.Request.{Identity, Request}
-use Rattle.model.specs.Weave.{askedQuery, askedPolicies, tied, wovenTooMany, wovenFault}
+use Rattle.model.specs.Weave.{WovenPattern, askedQuery, askedPolicies, tied, wovenTooMany, wovenFault}
 use Rattle.model.specs.MayHave.{MayHave}
 use Rattle.model.specs.Service.{withWork, listFound}
 use Rattle.model.proofs.Members.{_∈_, all-e, all-i, below-i, below-e}
@@ -32,7 +31,7 @@ use Rattle.rows.specs.SortedLaws.{same-list}
 use Rattle.service.proofs.AskedLaws.{ascending-sorted}
 
 -- a woven pattern has no fault exactly if it passes no limit and each of its vertices is tied to an identity
-pub woven-clear : (p : Pattern) (ids : List Identity) → (wovenFault p ids ≡ nothing) ↔ ((T (wovenTooMany p) → ⊥) × ((v : ℕ) → IsVertex p v → TiedTo p ids v))
+pub woven-clear : (p : WovenPattern) (ids : List Identity) → (wovenFault p ids ≡ nothing) ↔ ((T (wovenTooMany p) → ⊥) × ((v : ℕ) → IsVertex p v → TiedTo p ids v))
 unfolding wovenFault lowest
 woven-clear p ids = (λ e. let u = go (wovenTooMany p) every .0 e in (u .0, each (u .1)), λ u. go (wovenTooMany p) every .1 (u .0, back (u .1)))
   where

@@ -17,7 +17,7 @@ use Rattle.model.specs.Writing.{writtenQuery}
 use Rattle.model.specs.Rules.{Rules, categoryNames}
 use Rattle.model.specs.ReadRules.{readRules}
 use Rattle.model.specs.Request.{Identity, Request, readRequest}
-use Rattle.model.specs.Weave.{askedQuery, askedPolicies, weave, wovenFault}
+use Rattle.model.specs.Weave.{WovenPattern, askedQuery, askedPolicies, weave, wovenFault}
 use Rattle.model.specs.Rows.{rowsOf}
 use Rattle.model.specs.Service.{RulesAnswer, RequestAnswer, FoundRows, onto, rowWords}
 use Rattle.model.specs.Answers.{writerAnswer, listAnswer}
@@ -86,7 +86,7 @@ pub record Lists (o : Outcome FoundRows) (words : ℕ) (after : List ℕ) (r : R
   pub rows : after ≡ rowWords words o
 
 -- all rows of the problem of a woven pattern are listed, if they fit the words, whatever identities the woven words say
-abbrev pub WovenListed : Book → Pattern → List ℕ → ℕ → ℕ → List ℕ → RowsListed → Type 0
+abbrev pub WovenListed : Book → WovenPattern → List ℕ → ℕ → ℕ → List ℕ → RowsListed → Type 0
 WovenListed b p woven returns words after r =
     (ids : List Identity) → Identified p ids woven → (list : List Row) → AllRows (problemOf b p ids) list
     → Lists (pick (ltb words (length list * returns)) (refusal 14 5 0) (accepted (record { rows = list; width = returns }))) words after r

@@ -2,25 +2,24 @@
 use Prim.Native.Nat.{ℕ, _+_, _<_}
 use mathlib.Core.Path.{_≡_, refl, sym, ap, ap₂, subst, _∙_}
 use mathlib.Core.Logic.{inl}
-use mathlib.Core.List.{List, [], map}
+use mathlib.Core.List.{List, []}
 use mathlib.Core.Bool.{Bool, true, false, not}
 use native.Mathlib.Omega.{arith}
 use lib.ListN.{length, getD}
 use Rattle.model.specs.Bytes.{Bytes}
 use Rattle.model.specs.Choice.{pick, Maybe, nothing, just}
-use Rattle.model.specs.Lists.{all, keep, memℕ, below}
-use Rattle.model.specs.Names.{mem}
+use Rattle.model.specs.Lists.{any, all, keep, memℕ, below}
 use Rattle.model.specs.Book.{Book}
 use Rattle.model.specs.Refusal.{lowest}
 use Rattle.model.specs.Pattern.{Edge}
 use Rattle.model.specs.Request.{Identity}
-use Rattle.model.specs.Weave.{isExcluded, wovenTooMany, withIdentity, stepsAlong, tied, wovenFault}
+use Rattle.model.specs.Weave.{noVertex, identifiedBy, isExcluded, wovenTooMany, withIdentity, stepsAlong, tied, wovenFault}
 use Rattle.model.proofs.Members.{below-e, each-e}
 use Rattle.model.proofs.Places.{getD-in}
 use Rattle.bits.specs.Word.{bit}
 use Rattle.tables.proofs.ListedLaws.{getD-listed}
 use Rattle.woven.specs.declared.WovenCounts.{WovenCounts}
-use Rattle.woven.specs.Tables.{vertexName, edgeAt, verticesAt, edgesAt, clausesAt, wovenAt}
+use Rattle.woven.specs.Tables.{vertexOfWord, edgeAt, verticesAt, edgesAt, clausesAt, wovenAt}
 use Rattle.weave.specs.OneMore.{Ranged}
 use Rattle.weave.specs.Adding.{Kept}
 use Rattle.weave.specs.Identities.{identityOf, IdentitiesGiven, markedBelow, fromOf, toOf, EdgesLow, TiedBy, Finished}
@@ -32,9 +31,9 @@ use Rattle.woven.proofs.ReturnLaws.{returns-same}
 use Rattle.weave.proofs.OneText.{length-edges, length-clauses, keep-both}
 use Rattle.weave.proofs.TieLaws.{keep-same, all-same, marked-mem}
 
-vertex-at : (q r : Bytes) (words : List ℕ) (n v : ℕ) → v < n → getD (verticesAt q r words n) v [] ≡ vertexName q r (getD words v 0)
+vertex-at : (q r : Bytes) (words : List ℕ) (n v : ℕ) → v < n → getD (verticesAt q r words n) v noVertex ≡ vertexOfWord q r (getD words v 0)
 unfolding verticesAt
-vertex-at q r words n v h = getD-listed (λ i. vertexName q r (getD words i 0)) n v [] h
+vertex-at q r words n v h = getD-listed (λ i. vertexOfWord q r (getD words i 0)) n v noVertex h
 
 -- a woven pattern whose counts are kept passes no limit
 pub kept-within : (b : Book) (q r : Bytes) (words : List ℕ) (c : WovenCounts) → Kept q r words c → wovenTooMany (wovenAt b q r words c) ≡ false
@@ -75,19 +74,19 @@ module _ (q r : Bytes) (ids : List Identity) (old new : List ℕ) (c : WovenCoun
       let returns = returns-same old new (c .returns) (λ i l u. given .kept i (inl (omega arith))) in
       λ i. record { vertices = vertices i; edges = edges i; clauses = clauses i; returns = returns i }
 
-  name-at : (v : ℕ) → v < c .vertices → vertexName q r (getD old v 0) ≡ getD (verticesAt q r new (c .vertices)) v []
-  name-at v h = let few = kept .vertices in ap (vertexName q r) (sym (given .kept v (inl (omega arith)))) ∙ sym (vertex-at q r new (c .vertices) v h)
+  vertex-is : (v : ℕ) → v < c .vertices → vertexOfWord q r (getD old v 0) ≡ getD (verticesAt q r new (c .vertices)) v noVertex
+  vertex-is v h = let few = kept .vertices in ap (vertexOfWord q r) (sym (given .kept v (inl (omega arith)))) ∙ sym (vertex-at q r new (c .vertices) v h)
 
-  woven-name : (b : Book) (v : ℕ) → v < c .vertices → vertexName q r (getD old v 0) ≡ getD (wovenAt b q r new c .vertices) v []
+  woven-vertex : (b : Book) (v : ℕ) → v < c .vertices → vertexOfWord q r (getD old v 0) ≡ getD (wovenAt b q r new c .vertices) v noVertex
   unfolding wovenAt
-  woven-name b v h = name-at v h
+  woven-vertex b v h = vertex-is v h
 
   -- the marks are at the vertices that have an identity
   marks-with : (b : Book) → withIdentity (wovenAt b q r new c) ids ≡ markedBelow (c .vertices) mask
   unfolding withIdentity wovenAt markedBelow
   marks-with b =
-      ap (λ n. keep (λ v. mem (getD (verticesAt q r new (c .vertices)) v []) (map (λ i. i .actor) ids)) (below n)) (length-vertices q r new (c .vertices))
-      ∙ keep-same _ (bit mask) (below (c .vertices)) (λ v i. let h = below-e (c .vertices) v i in ap (λ z. mem z (map (λ d. d .actor) ids)) (sym (name-at v h)) ∙ sym (given .marked v h))
+      ap (λ n. keep (λ v. any (identifiedBy (getD (verticesAt q r new (c .vertices)) v noVertex)) ids) (below n)) (length-vertices q r new (c .vertices))
+      ∙ keep-same _ (bit mask) (below (c .vertices)) (λ v i. let h = below-e (c .vertices) v i in ap (λ z. any (identifiedBy z) ids) (sym (vertex-is v h)) ∙ sym (given .marked v h))
 
   -- identities change no edge
   pub low-stays : EdgesLow old (c .edges) (c .vertices) → EdgesLow new (c .edges) (c .vertices)
@@ -111,7 +110,7 @@ module _ (q r : Bytes) (ids : List Identity) (old new : List ℕ) (c : WovenCoun
     unfolding wovenFault lowest
     finished answer e = record {
       same-pattern = pattern-stays;
-      given = λ b v h. given .given v h ∙ ap (identityOf ids) (woven-name b v h);
+      given = λ b v h. given .given v h ∙ ap (identityOf ids) (woven-vertex b v h);
       fault = λ b. ap₂ (λ x y. pick {A = Maybe ℕ} x (just 12) (pick (not y) (just 13) nothing)) (ap wovenTooMany (pattern-stays b) ∙ kept-within b q r old c kept) (all-tied b ∙ sym e) ∙ by-answer answer;
     }
       where

@@ -11,14 +11,14 @@ use borrow.Author.Tests.{le-ltb}
 use Rattle.facts.specs.Tests.{either, or-either, or-left, or-right}
 use Rattle.model.specs.Bytes.{Bytes}
 use Rattle.model.specs.Lists.{keep}
-use Rattle.model.specs.Names.{firsts}
 use Rattle.model.specs.Pattern.{Pattern, Clause}
 use Rattle.model.specs.Graph.{Each}
-use Rattle.model.specs.Weave.{Asked, movedEdge, movedClause, isExcluded, wovenTooMany, weave}
+use Rattle.model.specs.Weave.{Asked, movedEdge, movedClause, isExcluded, wovenTooMany, weave, WovenPattern, firstVertices}
 use Rattle.weave.specs.OneMore.{underNames, moreVertices, oneMore}
 use Rattle.woven.proofs.Kept.{keep-append}
 use Rattle.model.proofs.FirstNames.{firsts-grow}
 use Rattle.weave.proofs.OneMore.{Sound, weave-keeps}
+use Rattle.woven.proofs.Places.{vertices-grow}
 
 -- the exclusions and the requirements among clauses
 abbrev pub exclusions : List Clause → List Clause
@@ -28,10 +28,10 @@ abbrev pub requirements : List Clause → List Clause
 requirements = keep (λ c. not (isExcluded c))
 
 -- one of the four limits is passed
-abbrev pub Passed : Pattern → Type 0
+abbrev pub Passed : WovenPattern → Type 0
 Passed p = (((24 < length (p .vertices)) ⊎ (48 < length (p .edges))) ⊎ (48 < length (exclusions (p .clauses)))) ⊎ (48 < length (requirements (p .clauses)))
 
-pub passed-is-too-many : (p : Pattern) → Passed p → T (wovenTooMany p)
+pub passed-is-too-many : (p : WovenPattern) → Passed p → T (wovenTooMany p)
 unfolding wovenTooMany
 passed-is-too-many p h =
     let A = ltb 24 (length (p .vertices)) in
@@ -44,7 +44,7 @@ passed-is-too-many p h =
     (λ c. or-right (A || B) C (lt→ltb 48 (length (exclusions (p .clauses))) c))))
     (λ d. or-right (A || B || C) D (lt→ltb 48 (length (requirements (p .clauses))) d))
 
-pub too-many-is-passed : (p : Pattern) → T (wovenTooMany p) → Passed p
+pub too-many-is-passed : (p : WovenPattern) → T (wovenTooMany p) → Passed p
 unfolding wovenTooMany
 too-many-is-passed p t =
     let A = ltb 24 (length (p .vertices)) in
@@ -57,7 +57,7 @@ too-many-is-passed p t =
     (λ c. inr (ltb→lt 48 (length (exclusions (p .clauses))) c))))
     (λ d. inr (ltb→lt 48 (length (requirements (p .clauses))) d))
 
-pub within-limits : (p : Pattern) → length (p .vertices) ≤ 24 → length (p .edges) ≤ 48 → length (exclusions (p .clauses)) ≤ 48 → length (requirements (p .clauses)) ≤ 48 → wovenTooMany p ≡ false
+pub within-limits : (p : WovenPattern) → length (p .vertices) ≤ 24 → length (p .edges) ≤ 48 → length (exclusions (p .clauses)) ≤ 48 → length (requirements (p .clauses)) ≤ 48 → wovenTooMany p ≡ false
 unfolding wovenTooMany
 within-limits p a b c d = rw (le-ltb 24 (length (p .vertices)) a, le-ltb 48 (length (p .edges)) b, le-ltb 48 (length (exclusions (p .clauses))) c, le-ltb 48 (length (requirements (p .clauses))) d)
 
@@ -65,15 +65,15 @@ keep-grow : {A : Type 0} (p : A → Bool) (xs ys : List A) → length (keep p xs
 keep-grow p xs ys = omega (arith, length-append (keep p xs) (keep p ys), ap length (keep-append p xs ys))
 
 -- a limit that is passed stays passed
-pub passed-stays : (k : ℕ) (actors : List Bytes) (p woven : Pattern) → Passed woven → Passed (oneMore k actors p woven)
+pub passed-stays : (k : ℕ) (actors : List Bytes) (p : Pattern) (woven : WovenPattern) → Passed woven → Passed (oneMore k actors p woven)
 unfolding oneMore moreVertices
 passed-stays k actors p woven h =
     let own = underNames k actors p in
-    let vs = firsts (woven .vertices) (own .vertices) in
+    let vs = firstVertices (woven .vertices) (own .vertices) in
     let edges = map (movedEdge vs own) (p .edges) in
     let clauses = map (movedClause vs own (length (woven .edges))) (p .clauses) in
     either h (λ h. inl (either h (λ h. inl (either h
-    (λ a. inl (omega (arith, firsts-grow (woven .vertices) (own .vertices))))
+    (λ a. inl (omega (arith, vertices-grow (woven .vertices) (own .vertices))))
     (λ b. inr (omega (arith, length-append (woven .edges) edges)))))
     (λ c. inr (omega (arith, keep-grow isExcluded (woven .clauses) clauses)))))
     (λ d. inr (omega (arith, keep-grow (λ c. not (isExcluded c)) (woven .clauses) clauses)))

@@ -11,19 +11,17 @@ use lib.Dec.{T, eqb}
 use Rattle.model.specs.Bytes.{Bytes}
 use Rattle.model.specs.Choice.{pick}
 use Rattle.model.specs.Lists.{keep}
-use Rattle.model.specs.Names.{place, firsts}
 use Rattle.model.specs.Book.{Book}
-use Rattle.model.specs.Pattern.{Pattern, Edge, Clause, excluded, vertexHas, edgeHas}
+use Rattle.model.specs.Pattern.{Edge, Clause, excluded, vertexHas, edgeHas}
 use Rattle.model.specs.Graph.{Each}
-use Rattle.model.specs.Weave.{moved, movedEdge, movedClause, isExcluded, wovenTooMany}
+use Rattle.model.specs.Weave.{moved, movedEdge, movedClause, isExcluded, wovenTooMany, WovenVertex, WovenPattern, placeVertex, firstVertices, noVertex}
 use Rattle.model.specs.Answers.{edgeIn, clauseIn, patternIn}
 use Rattle.model.specs.declared.Condition.{Condition}
 use Rattle.model.specs.declared.Condition.the-variants.{Excluded, OfVertex, OfEdge}
 use Rattle.model.specs.declared.Edge.{Edge as EdgeData}
 use Rattle.model.specs.declared.Clause.{Clause as ClauseData}
 use Rattle.model.specs.declared.Pattern.{Pattern as PatternData}
-use Rattle.model.proofs.Places.{at-place, getD-in, length-map}
-use Rattle.model.proofs.Members.{firsts-i}
+use Rattle.model.proofs.Places.{getD-in, length-map}
 use Rattle.tables.proofs.ListedLaws.{length-listed}
 use Rattle.woven.specs.declared.WovenCounts.{WovenCounts}
 use Rattle.woven.specs.declared.vertices.Numbers.{Numbers}
@@ -31,7 +29,7 @@ use Rattle.weave.specs.declared.Added.the-variants.{Woven}
 use Rattle.woven.specs.Tables.{textOf, verticesAt, edgesAt, clausesAt, wovenAt}
 use Rattle.weave.specs.OneMore.{underNames, moreVertices, oneMore, ClauseWithin}
 use Rattle.model.specs.PlainData.{noEdge, noClause, ConditionFits, PatternFits}
-use Rattle.woven.specs.Steps.{renumberedEdge, ownNames, VerticesAdded}
+use Rattle.woven.specs.Steps.{renumberedEdge, VerticesAdded, textVertices}
 use Rattle.woven.specs.ClauseSteps.{renumberedClause, namedClause, ExclusionsCounted}
 use Rattle.weave.specs.Adding.{Kept, TextAdded, RestAdded}
 use Rattle.weave.proofs.OneMore.{map-each}
@@ -42,6 +40,7 @@ use Rattle.woven.proofs.VertexLaws.{length-vertices, vertices-same}
 use Rattle.woven.proofs.EdgeLaws.{edges-same}
 use Rattle.woven.proofs.ClauseTable.{clauses-same}
 use Rattle.woven.proofs.ReturnLaws.{returns-same}
+use Rattle.model.proofs.WovenVertices.{at-vertex, first-vertices-i}
 
 -- what holds at each number holds of each element taken
 pub each-take : {A : Type 0} (P : A → Type 0) (d : A) (xs : List A) (n : ℕ) → ((i : ℕ) → i < n → P (getD xs i d)) → Each P (take n xs)
@@ -49,9 +48,9 @@ each-take P d xs zero f = tt
 each-take P d [] (suc n) f = tt
 each-take P d (x ∷ xs) (suc n) f = (f 0 (omega arith), each-take P d xs n (λ i h. f (suc i) (omega arith)))
 
--- a name of a text has a place among the woven vertices
-place-in : (vs names : List Bytes) (i : ℕ) → i < length names → place (getD names i []) (firsts vs names) < length (firsts vs names)
-place-in vs names i h = at-place (firsts vs names) (getD names i []) (firsts-i vs names (getD names i []) (getD-in names i [] h)) .0
+-- a vertex of a text has a place among the woven vertices
+place-in : (vs us : List WovenVertex) (i : ℕ) → i < length us → placeVertex (getD us i noVertex) (firstVertices vs us) < length (firstVertices vs us)
+place-in vs us i h = at-vertex (firstVertices vs us) (getD us i noVertex) (first-vertices-i vs us (getD us i noVertex) (getD-in us i noVertex h)) .0
 
 -- what a test keeps and what it does not
 pub keep-both : {A : Type 0} (p : A → Bool) (xs : List A) → length (keep p xs) + length (keep (λ x. not (p x)) xs) ≡ length xs
@@ -75,7 +74,7 @@ keep-map p f (x ∷ xs) e = ap (λ t. length (pick t (f x ∷ keep p (map f xs))
     go false h = h
 
 -- an exclusion stays one under other numbers
-moved-excluded : (vs : List Bytes) (p : Pattern) (n : ℕ) (c : Clause) → isExcluded (movedClause vs p n c) ≡ isExcluded c
+moved-excluded : (vs : List WovenVertex) (p : WovenPattern) (n : ℕ) (c : Clause) → isExcluded (movedClause vs p n c) ≡ isExcluded c
 unfolding movedClause isExcluded
 moved-excluded vs p n (excluded u v) = refl
 moved-excluded vs p n (vertexHas v a r x) = refl
@@ -106,20 +105,20 @@ condition-within b text base v e (OfEdge w x) f = f .0
 abbrev textFrom : Bytes → Bytes → ℕ → ℕ → Bytes
 textFrom q r k base = drop base (textOf q r k)
 
--- the names that its vertices are woven under
-abbrev namesOf : Bytes → Bytes → List Bytes → ℕ → ℕ → PatternData → List Bytes
-namesOf q r actors k base p = ownNames (textFrom q r k base) k actors (p .vertices) (p .counts .vertices)
+-- what weaving makes of its vertices
+abbrev verticesOf : Bytes → Bytes → List Bytes → ℕ → ℕ → PatternData → List WovenVertex
+verticesOf q r actors k base p = textVertices (textFrom q r k base) k actors (p .vertices) (p .counts .vertices)
 
 -- the woven pattern with the text
-abbrev grown : Bytes → Bytes → List Bytes → ℕ → ℕ → PatternData → List ℕ → WovenCounts → Book → Pattern
+abbrev grown : Bytes → Bytes → List Bytes → ℕ → ℕ → PatternData → List ℕ → WovenCounts → Book → WovenPattern
 grown q r actors k base p old c b = oneMore k actors (patternIn b (textFrom q r k base) p) (wovenAt b q r old c)
 
 -- its vertices
-abbrev verticesThen : Bytes → Bytes → List Bytes → ℕ → ℕ → PatternData → List ℕ → WovenCounts → Book → List Bytes
+abbrev verticesThen : Bytes → Bytes → List Bytes → ℕ → ℕ → PatternData → List ℕ → WovenCounts → Book → List WovenVertex
 verticesThen q r actors k base p old c b = moreVertices k actors (patternIn b (textFrom q r k base) p) (verticesAt q r old (c .vertices))
 
--- the text's own pattern under woven names
-abbrev underOwn : Bytes → Bytes → List Bytes → ℕ → ℕ → PatternData → Book → Pattern
+-- the text's own pattern, of woven vertices
+abbrev underOwn : Bytes → Bytes → List Bytes → ℕ → ℕ → PatternData → Book → WovenPattern
 underOwn q r actors k base p b = underNames k actors (patternIn b (textFrom q r k base) p)
 
 -- an edge between vertices below n
@@ -128,7 +127,7 @@ EndsBelow n e = (e .from < n) × (e .to < n)
 
 module _ (q r : Bytes) (actors : List Bytes) (k base : ℕ) (p : PatternData) (old : List ℕ) (c : WovenCounts) where
   -- a limit that is passed, by what is counted
-  pub passed-by-vertices : 24 < length (firsts (verticesAt q r old (c .vertices)) (namesOf q r actors k base p)) → (b : Book) → T (wovenTooMany (grown q r actors k base p old c b))
+  pub passed-by-vertices : 24 < length (firstVertices (verticesAt q r old (c .vertices)) (verticesOf q r actors k base p)) → (b : Book) → T (wovenTooMany (grown q r actors k base p old c b))
   unfolding oneMore moreVertices underNames patternIn wovenAt
   passed-by-vertices h b = passed-is-too-many (grown q r actors k base p old c b) (inl (inl (inl h)))
 
@@ -180,7 +179,7 @@ module _ (q r : Bytes) (actors : List Bytes) (k base : ℕ) (p : PatternData) (o
 
 -- the text's vertices are woven
 module _ (q r : Bytes) (actors : List Bytes) (k base : ℕ) (p : PatternData) (old one : List ℕ) (c : WovenCounts) (numbered : Numbers) (fits : PatternFits base p) (few : numbered .count ≤ 24)
-    (added : VerticesAdded q r (namesOf q r actors k base p) (p .counts .vertices) old one (c .vertices) numbered) where
+    (added : VerticesAdded q r (verticesOf q r actors k base p) (p .counts .vertices) old one (c .vertices) numbered) where
   -- the numbers that were found are the woven ones
   number-is : (b : Book) (i : ℕ) → i < p .counts .vertices
       → getD (numbered .numbers) i 0 ≡ moved (verticesThen q r actors k base p old c b) (underOwn q r actors k base p b) i
@@ -190,8 +189,8 @@ module _ (q r : Bytes) (actors : List Bytes) (k base : ℕ) (p : PatternData) (o
   pub number-low : (i : ℕ) → i < p .counts .vertices → getD (numbered .numbers) i 0 < 24
   number-low i h =
       let vs = verticesAt q r old (c .vertices) in
-      let names = namesOf q r actors k base p in
-      let below = place-in vs names i (omega (arith, added .all)) in
+      let us = verticesOf q r actors k base p in
+      let below = place-in vs us i (omega (arith, added .all)) in
       omega (arith, added .numbers few i (omega (arith, added .all)), ap length (added .vertices few), length-vertices q r one (numbered .count))
 
   edges-moved : (b : Book) → let es = map (edgeIn b (textFrom q r k base)) (take (p .counts .edges) (p .edges)) in

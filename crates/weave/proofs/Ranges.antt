@@ -9,14 +9,14 @@ use lib.ListN.{length, getD, length-append}
 use lib.Dec.{T, eqb}
 use Rattle.model.specs.Bytes.{Bytes}
 use Rattle.model.specs.Choice.{pick}
-use Rattle.model.specs.Lists.{joined}
-use Rattle.model.specs.Names.{mem, place, firsts}
+use Rattle.model.specs.Lists.{joined, firstsBy}
+use Rattle.model.specs.Names.{mem, place}
 use Rattle.model.specs.QueryText.{Condition, differ, demand, Match, QueryText}
 use Rattle.model.specs.Query.{ChainEdge, chainVertices, chainEdges, vertexNames, edgesOf, edgeNames, conditionsOf}
 use Rattle.model.specs.Pattern.{Pattern, Edge, Clause, excluded, vertexHas, edgeHas, clauseOf, edgeOf, patternOf}
 use Rattle.model.specs.Graph.{Each}
 use Rattle.model.specs.Satisfies.{edgeAt}
-use Rattle.model.specs.Weave.{Asked, moved, movedEdge, movedClause, named, movedClauses, returnsOf, weave}
+use Rattle.model.specs.Weave.{Asked, moved, movedEdge, movedClause, named, movedClauses, returnsOf, weave, WovenVertex, WovenPattern, firstVertices, noVertex}
 use Rattle.model.proofs.Members.{_∈_, mem-e, mem-i, each-e, each-i, joined-e, joined-i, firsts-i}
 use Rattle.model.proofs.ByNodes.{NamedIn, Named}
 use Rattle.model.proofs.Chains.{chain-ends}
@@ -24,6 +24,8 @@ use Rattle.model.proofs.Places.{at-place, getD-in, length-map}
 use Rattle.weave.specs.OneMore.{underNames, moreVertices, oneMore, ClauseWithin, Ranged}
 use Rattle.model.proofs.FirstNames.{firsts-grow}
 use Rattle.weave.proofs.OneMore.{Sound, ranged-under, weave-keeps}
+use Rattle.model.proofs.WovenVertices.{at-vertex, first-vertices-i}
+use Rattle.woven.proofs.Places.{vertices-grow}
 
 -- what holds of each element holds of each that is made of it
 pub each-map : {A B : Type 0} (P : A → Type 0) (Q : B → Type 0) (f : A → B) (l : List A) → ((x : A) → P x → Q (f x)) → Each P l → Each Q (map f l)
@@ -45,40 +47,40 @@ within-more v e n m p q (vertexHas x a r z) h = omega arith
 within-more v e n m p q (edgeHas x a r z) h = omega arith
 
 -- a vertex of a text has a woven number
-pub moved-below : (own : Pattern) (vs : List Bytes) (i : ℕ) → i < length (own .vertices) → moved (firsts vs (own .vertices)) own i < length (firsts vs (own .vertices))
+pub moved-below : (own : WovenPattern) (vs : List WovenVertex) (i : ℕ) → i < length (own .vertices) → moved (firstVertices vs (own .vertices)) own i < length (firstVertices vs (own .vertices))
 unfolding moved
-moved-below own vs i h = at-place (firsts vs (own .vertices)) (getD (own .vertices) i []) (firsts-i vs (own .vertices) (getD (own .vertices) i []) (getD-in (own .vertices) i [] h)) .0
+moved-below own vs i h = at-vertex (firstVertices vs (own .vertices)) (getD (own .vertices) i noVertex) (first-vertices-i vs (own .vertices) (getD (own .vertices) i noVertex) (getD-in (own .vertices) i noVertex h)) .0
 
 -- the edges and clauses of a text, moved to woven numbers
-module _ (own : Pattern) (ranged : Ranged own) (ws : List Bytes) (m : ℕ) where
-  moved-edges : let vs = firsts ws (own .vertices) in Each (λ (e : Edge). (e .from < length vs) × (e .to < length vs)) (map (movedEdge vs own) (own .edges))
+module _ (own : WovenPattern) (ranged : Ranged own) (ws : List WovenVertex) (m : ℕ) where
+  moved-edges : let vs = firstVertices ws (own .vertices) in Each (λ (e : Edge). (e .from < length vs) × (e .to < length vs)) (map (movedEdge vs own) (own .edges))
   unfolding movedEdge
-  moved-edges = each-map _ _ (movedEdge (firsts ws (own .vertices)) own) (own .edges) (λ e h. (moved-below own ws (e .from) (h .0), moved-below own ws (e .to) (h .1))) (ranged .edges)
+  moved-edges = each-map _ _ (movedEdge (firstVertices ws (own .vertices)) own) (own .edges) (λ e h. (moved-below own ws (e .from) (h .0), moved-below own ws (e .to) (h .1))) (ranged .edges)
 
-  moved-clauses : let vs = firsts ws (own .vertices) in Each (ClauseWithin (length vs) (m + length (own .edges))) (map (movedClause vs own m) (own .clauses))
+  moved-clauses : let vs = firstVertices ws (own .vertices) in Each (ClauseWithin (length vs) (m + length (own .edges))) (map (movedClause vs own m) (own .clauses))
   unfolding movedClause
-  moved-clauses = each-map (ClauseWithin (length (own .vertices)) (length (own .edges))) (ClauseWithin (length (firsts ws (own .vertices))) (m + length (own .edges))) (movedClause (firsts ws (own .vertices)) own m) (own .clauses) one (ranged .clauses)
+  moved-clauses = each-map (ClauseWithin (length (own .vertices)) (length (own .edges))) (ClauseWithin (length (firstVertices ws (own .vertices))) (m + length (own .edges))) (movedClause (firstVertices ws (own .vertices)) own m) (own .clauses) one (ranged .clauses)
     where
-      one : (c : Clause) → ClauseWithin (length (own .vertices)) (length (own .edges)) c → ClauseWithin (length (firsts ws (own .vertices))) (m + length (own .edges)) (movedClause (firsts ws (own .vertices)) own m c)
+      one : (c : Clause) → ClauseWithin (length (own .vertices)) (length (own .edges)) c → ClauseWithin (length (firstVertices ws (own .vertices))) (m + length (own .edges)) (movedClause (firstVertices ws (own .vertices)) own m c)
       one (excluded u v) h = (moved-below own ws u (h .0), moved-below own ws v (h .1))
       one (vertexHas v a r x) h = moved-below own ws v h
       one (edgeHas e a r x) h = omega arith
 
-  moved-returns : let vs = firsts ws (own .vertices) in Each (λ v. v < length vs) (map (moved vs own) (own .returns))
-  moved-returns = each-map _ (λ v. v < length (firsts ws (own .vertices))) (moved (firsts ws (own .vertices)) own) (own .returns) (moved-below own ws) (ranged .returns)
+  moved-returns : let vs = firstVertices ws (own .vertices) in Each (λ v. v < length vs) (map (moved vs own) (own .returns))
+  moved-returns = each-map _ (λ v. v < length (firstVertices ws (own .vertices))) (moved (firstVertices ws (own .vertices)) own) (own .returns) (moved-below own ws) (ranged .returns)
 
 -- one text more keeps numbers in range
-pub one-more-ranged : (k : ℕ) (actors : List Bytes) (p woven : Pattern) → Ranged p → Ranged woven → Ranged (oneMore k actors p woven)
+pub one-more-ranged : (k : ℕ) (actors : List Bytes) (p : Pattern) (woven : WovenPattern) → Ranged p → Ranged woven → Ranged (oneMore k actors p woven)
 unfolding oneMore moreVertices underNames
 one-more-ranged k actors p woven h g =
     let own = underNames k actors p in
     let ranged = ranged-under k actors p h in
-    let vs = firsts (woven .vertices) (own .vertices) in
+    let vs = firstVertices (woven .vertices) (own .vertices) in
     let n = length (woven .vertices) in
     let m = length (woven .edges) in
     let edges = map (movedEdge vs own) (p .edges) in
     let clauses = map (movedClause vs own m) (p .clauses) in
-    let grown : n ≤ length vs = firsts-grow (woven .vertices) (own .vertices) in
+    let grown : n ≤ length vs = vertices-grow (woven .vertices) (own .vertices) in
     let few : length edges ≡ length (p .edges) = length-map (movedEdge vs own) (p .edges) in
     let all : length (woven .edges ++ edges) ≡ m + length edges = length-append (woven .edges) edges in
     let count : m + length (p .edges) ≡ length (woven .edges ++ edges) = omega arith in
@@ -96,7 +98,7 @@ one-more-ranged k actors p woven h g =
 
 -- no number of a woven pattern is out of range
 pub weave-ranged : (asked : List Asked) → Each Sound asked → Ranged (weave asked)
-unfolding weave named joined firsts movedClauses returnsOf
+unfolding weave named joined firstsBy movedClauses returnsOf
 weave-ranged asked sound = weave-keeps Ranged one-more-ranged [] asked sound none
   where
     none : Ranged (weave [])
@@ -150,7 +152,7 @@ pub woven-ranged : (asked : List Asked) → ((a : Asked) → a ∈ asked → Nam
 woven-ranged asked h = weave-ranged asked (each-i Sound asked (λ a i. pattern-ranged (a .text) (h a i)))
 
 -- what each edge, clause and Return of a pattern in range names
-module _ (p : Pattern) (ranged : Ranged p) where
+module _ (p : WovenPattern) (ranged : Ranged p) where
   pub ends-within : (e : ℕ) → e < length (p .edges) → (edgeAt p e .from < length (p .vertices)) × (edgeAt p e .to < length (p .vertices))
   unfolding edgeAt
   ends-within e h = each-e (λ (e : Edge). (e .from < length (p .vertices)) × (e .to < length (p .vertices))) (p .edges) (ranged .edges) _ (getD-in (p .edges) e _ h)

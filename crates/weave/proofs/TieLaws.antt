@@ -11,8 +11,8 @@ use Rattle.model.specs.Bytes.{Bytes}
 use Rattle.model.specs.Choice.{pick}
 use Rattle.model.specs.Lists.{any, all, keep, memℕ, below}
 use Rattle.model.specs.Book.{Book}
-use Rattle.model.specs.Pattern.{Pattern, Edge}
-use Rattle.model.specs.Weave.{stepAlong, stepsAlong}
+use Rattle.model.specs.Pattern.{Edge}
+use Rattle.model.specs.Weave.{WovenPattern, stepAlong, stepsAlong}
 use Rattle.model.proofs.Members.{_∈_, any-e, any-i, keep-e, keep-i, below-i, below-e}
 use Rattle.bits.specs.Word.{bit, with}
 use Rattle.bits.specs.WordLaws.{bit-with}
@@ -63,7 +63,7 @@ module _ (b : Book) (q r : Bytes) (words : List ℕ) (c : WovenCounts) (mask : �
       marks ∙ ap (λ n. keep (λ v. memℕ v vs || any (joinsTo vs v) (edgesAt b q r words (c .edges))) (below n)) (sym (length-vertices q r words (c .vertices)))
 
 -- steps that change nothing any more
-pub steps-done : (k : ℕ) (p : Pattern) (vs : List ℕ) → stepAlong p vs ≡ vs → stepsAlong k p vs ≡ vs
+pub steps-done : (k : ℕ) (p : WovenPattern) (vs : List ℕ) → stepAlong p vs ≡ vs → stepsAlong k p vs ≡ vs
 unfolding stepsAlong
 steps-done zero p vs e = refl
 steps-done (suc k) p vs e = ap (stepsAlong k p) e ∙ steps-done k p vs e

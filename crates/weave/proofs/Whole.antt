@@ -8,21 +8,20 @@ use native.Mathlib.Omega.{arith}
 use lib.ListN.{length, drop}
 use lib.Dec.{T}
 use Rattle.facts.specs.Tests.{passes→true}
-use Rattle.model.specs.Bytes.{Bytes, same}
+use Rattle.model.specs.Bytes.{Bytes}
 use Rattle.model.specs.Choice.{pick, Maybe, nothing, just}
-use Rattle.model.specs.Lists.{keep, joined}
-use Rattle.model.specs.Names.{twice, firsts}
+use Rattle.model.specs.Lists.{keep, joined, firstsBy}
+use Rattle.model.specs.Names.{twice}
 use Rattle.model.specs.Book.{Book}
 use Rattle.model.specs.Refusal.{lowest}
 use Rattle.model.specs.Pattern.{patternOf}
 use Rattle.model.specs.Request.{Identity}
 use Rattle.model.specs.Graph.{Each}
-use Rattle.model.specs.Weave.{Asked, named, movedClauses, returnsOf, weave, wovenTooMany, wovenFault}
+use Rattle.model.specs.Weave.{Asked, named, movedClauses, returnsOf, weave, wovenTooMany, wovenFault, WovenVertex, actor, identifiedBy}
 use Rattle.model.specs.Answers.{patternIn}
 use Rattle.model.specs.declared.Pattern.{Pattern as PatternData}
 use Rattle.model.proofs.Members.{_∈_, map-i}
 use Rattle.model.proofs.Places.{twice-i, twice-tail}
-use Rattle.model.proofs.Decides.{same→eq, same-refl}
 use Rattle.tables.specs.Listed.{listed}
 use Rattle.woven.specs.declared.WovenCounts.{WovenCounts}
 use Rattle.weave.specs.declared.Added.the-variants.{Woven, Passed}
@@ -34,10 +33,11 @@ use Rattle.weave.proofs.OneMore.{Sound, weave-one-more}
 use Rattle.weave.proofs.Limits.{weave-stays-too-many}
 use Rattle.weave.proofs.Ranges.{weave-ranged}
 use Rattle.weave.proofs.Finishing.{edges-low}
+use Rattle.model.proofs.WovenVertices.{identified-exactly}
 
 -- before the first text
 pub none-woven : (b : Book) (q r : Bytes) (words : List ℕ) → wovenAt b q r words noCounts ≡ weave []
-unfolding wovenAt verticesAt edgesAt clausesAt returnsAt listed weave named joined firsts movedClauses returnsOf
+unfolding wovenAt verticesAt edgesAt clausesAt returnsAt listed weave named joined firstsBy movedClauses returnsOf
 none-woven b q r words = refl
 
 pub none-kept : (q r : Bytes) (words : List ℕ) → 512 ≤ length words → Kept q r words noCounts
@@ -75,7 +75,7 @@ module _ (b : Book) (q r : Bytes) (asked : List Asked) (old new : List ℕ) (c :
     pub woven-fault : wovenFault (weave asked) ids ≡ pick answer nothing (just 13)
     woven-fault = ap (λ z. wovenFault z ids) (sym woven-stays) ∙ finished .fault b
 
--- a node is the one that identities give to a name, where they give one
+-- a node is the one that identities give to a vertex, where they give one
 abbrev pub Identifies : Maybe ℕ → ℕ → Type 0
 Identifies nothing n = Unit {0}
 Identifies (just m) n = n ≡ m
@@ -84,28 +84,31 @@ Identifies (just m) n = n ≡ m
 once-here : (x : Identity) (ids : List Identity) → (T (twice (map (λ i. i .actor) (x ∷ ids))) → ⊥) → (d : Identity) → d ∈ ids → x .actor ≡ d .actor → ⊥
 once-here x ids once d i e = once (twice-i (x .actor) (map (λ (z : Identity). z .actor) ids) (subst (λ w. w ∈ map (λ (z : Identity). z .actor) ids) (sym e) (map-i (λ (z : Identity). z .actor) ids d i)))
 
-by-each : (ids : List Identity) (name : Bytes) (n : ℕ) → (T (twice (map (λ i. i .actor) ids)) → ⊥) → Identifies (identityOf ids name) n → (d : Identity) → d ∈ ids → name ≡ d .actor → n ≡ d .node
+by-each : (ids : List Identity) (v : WovenVertex) (n : ℕ) → (T (twice (map (λ i. i .actor) ids)) → ⊥) → Identifies (identityOf ids v) n → (d : Identity) → d ∈ ids → v ≡ actor (d .actor) → n ≡ d .node
 unfolding identityOf
-by-each (x ∷ ids) name n once h d (List·Memᴰ·head e) a = go (same name (x .actor)) (subst (λ z. T (same name z)) (a ∙ ap (λ (z : Identity). z .actor) e) (same-refl name)) h ∙ ap (λ (z : Identity). z .node) (sym e)
+by-each (x ∷ ids) v n once h d (List·Memᴰ·head e) a = go (identifiedBy v x) (identified-exactly v x .1 (a ∙ ap (λ (z : Identity). actor (z .actor)) e)) h ∙ ap (λ (z : Identity). z .node) (sym e)
   where
-    go : (t : Bool) → T t → Identifies (pick t (just (x .node)) (identityOf ids name)) n → n ≡ x .node
+    go : (t : Bool) → T t → Identifies (pick t (just (x .node)) (identityOf ids v)) n → n ≡ x .node
     go true f h = h
     go false f h = absurd f
-by-each (x ∷ ids) name n once h d (List·Memᴰ·tail i) a = go (same name (x .actor)) refl h (λ g. by-each ids name n (λ t. once (twice-tail (x .actor) (map (λ (z : Identity). z .actor) ids) t)) g d i a)
+by-each (x ∷ ids) v n once h d (List·Memᴰ·tail i) a = go (identifiedBy v x) refl h (λ g. by-each ids v n (λ t. once (twice-tail (x .actor) (map (λ (z : Identity). z .actor) ids) t)) g d i a)
   where
-    go : (t : Bool) → same name (x .actor) ≡ t → Identifies (pick t (just (x .node)) (identityOf ids name)) n → (Identifies (identityOf ids name) n → n ≡ d .node) → n ≡ d .node
-    go true e h f = absurd (once-here x ids once d i (sym (same→eq name (x .actor) (subst T (sym e) tt)) ∙ a))
+    one-name : actor (x .actor) ≡ actor (d .actor) → x .actor ≡ d .actor
+    one-name e = cc
+
+    go : (t : Bool) → identifiedBy v x ≡ t → Identifies (pick t (just (x .node)) (identityOf ids v)) n → (Identifies (identityOf ids v) n → n ≡ d .node) → n ≡ d .node
+    go true e h f = absurd (once-here x ids once d i (one-name (sym (identified-exactly v x .0 (subst T (sym e) tt)) ∙ a)))
     go false e h f = f h
 
-by-all : (ids : List Identity) (name : Bytes) (n : ℕ) → ((d : Identity) → d ∈ ids → name ≡ d .actor → n ≡ d .node) → Identifies (identityOf ids name) n
+by-all : (ids : List Identity) (v : WovenVertex) (n : ℕ) → ((d : Identity) → d ∈ ids → v ≡ actor (d .actor) → n ≡ d .node) → Identifies (identityOf ids v) n
 unfolding identityOf
-by-all [] name n f = tt
-by-all (x ∷ ids) name n f = go (same name (x .actor)) refl (by-all ids name n (λ d i. f d (List·Memᴰ·tail i)))
+by-all [] v n f = tt
+by-all (x ∷ ids) v n f = go (identifiedBy v x) refl (by-all ids v n (λ d i. f d (List·Memᴰ·tail i)))
   where
-    go : (t : Bool) → same name (x .actor) ≡ t → Identifies (identityOf ids name) n → Identifies (pick t (just (x .node)) (identityOf ids name)) n
-    go true e h = f x (List·Memᴰ·head refl) (same→eq name (x .actor) (subst T (sym e) tt))
+    go : (t : Bool) → identifiedBy v x ≡ t → Identifies (identityOf ids v) n → Identifies (pick t (just (x .node)) (identityOf ids v)) n
+    go true e h = f x (List·Memᴰ·head refl) (identified-exactly v x .0 (subst T (sym e) tt))
     go false e h = h
 
 -- where no actor is identified twice, that is what each identity asks
-pub identified-by : (ids : List Identity) (name : Bytes) (n : ℕ) → (T (twice (map (λ i. i .actor) ids)) → ⊥) → Identifies (identityOf ids name) n ↔ ((d : Identity) → d ∈ ids → name ≡ d .actor → n ≡ d .node)
-identified-by ids name n once = (by-each ids name n once, by-all ids name n)
+pub identified-by : (ids : List Identity) (v : WovenVertex) (n : ℕ) → (T (twice (map (λ i. i .actor) ids)) → ⊥) → Identifies (identityOf ids v) n ↔ ((d : Identity) → d ∈ ids → v ≡ actor (d .actor) → n ≡ d .node)
+identified-by ids v n once = (by-each ids v n once, by-all ids v n)

@@ -5,27 +5,26 @@ use mathlib.Core.List.{List, [], _∷_, map}
 use mathlib.Core.Bool.{Bool, _&&_, _||_}
 use lib.ListN.{getD, take}
 use lib.Dec.{eqb}
-use Rattle.model.specs.Bytes.{Bytes, same}
+use Rattle.model.specs.Bytes.{Bytes}
 use Rattle.model.specs.Choice.{pick, Maybe, nothing, just}
 use Rattle.model.specs.Lists.{any, keep, below}
-use Rattle.model.specs.Names.{mem}
 use Rattle.model.specs.Book.{Book}
 use Rattle.model.specs.Request.{Identity}
-use Rattle.model.specs.Weave.{stepsAlong, wovenFault}
+use Rattle.model.specs.Weave.{stepsAlong, wovenFault, WovenVertex, noVertex, identifiedBy}
 use Rattle.model.specs.Answers.{identityIn}
 use Rattle.model.specs.declared.Identity.{Identity as IdentityData}
 use Rattle.bits.specs.Word.{bit}
 use Rattle.tables.specs.Listed.{listed}
 use Rattle.woven.specs.declared.WovenCounts.{WovenCounts}
-use Rattle.woven.specs.Tables.{vertexName, wovenAt, identityAt}
+use Rattle.woven.specs.Tables.{wovenAt, identityAt, vertexOfWord}
 use Rattle.model.specs.PlainData.{noPart}
 use Rattle.woven.specs.Steps.{KeptOutside}
 use Rattle.weave.specs.Adding.{Kept}
 
--- the node that identities give to a name
-unfoldable pub identityOf : List Identity → Bytes → Maybe ℕ
-identityOf [] name = nothing
-identityOf (i ∷ ids) name = let rest = identityOf ids name in pick (same name (i .actor)) (just (i .node)) rest
+-- the node that identities give to a woven vertex
+unfoldable pub identityOf : List Identity → WovenVertex → Maybe ℕ
+identityOf [] vertex = nothing
+identityOf (i ∷ ids) vertex = let rest = identityOf ids vertex in pick (identifiedBy vertex i) (just (i .node)) rest
 
 -- the identities of a request, of which so many stand in the array
 abbrev pub identitiesIn : Bytes → List IdentityData → ℕ → List Identity
@@ -42,8 +41,8 @@ pub record IdentitiesReady (identities : List IdentityData) (count : ℕ) : Type
 
 -- each woven vertex has the node that its identity gives, or none, and the marked vertices are those that have one
 pub record IdentitiesGiven (query rules : Bytes) (ids : List Identity) (old new : List ℕ) (n out : ℕ) : Type 0 where
-  pub given : (v : ℕ) → v < n → identityAt new v ≡ identityOf ids (vertexName query rules (getD old v 0))
-  pub marked : (v : ℕ) → v < n → bit out v ≡ mem (vertexName query rules (getD old v 0)) (map (λ i. i .actor) ids)
+  pub given : (v : ℕ) → v < n → identityAt new v ≡ identityOf ids (vertexOfWord query rules (getD old v 0))
+  pub marked : (v : ℕ) → v < n → bit out v ≡ any (identifiedBy (vertexOfWord query rules (getD old v 0))) ids
   pub kept : KeptOutside 412 436 old new
 
 -- the vertices below n that a word marks
@@ -83,5 +82,5 @@ pub record FinishReady (query rules : Bytes) (words : List ℕ) (c : WovenCounts
 -- the woven pattern stands as it was, with identities; 13 exactly if some vertex is not tied to one
 pub record Finished (query rules : Bytes) (ids : List Identity) (old new : List ℕ) (c : WovenCounts) (out : Bool) : Type 0 where
   pub same-pattern : (b : Book) → wovenAt b query rules new c ≡ wovenAt b query rules old c
-  pub given : (b : Book) (v : ℕ) → v < c .vertices → identityAt new v ≡ identityOf ids (getD (wovenAt b query rules new c .vertices) v [])
+  pub given : (b : Book) (v : ℕ) → v < c .vertices → identityAt new v ≡ identityOf ids (getD (wovenAt b query rules new c .vertices) v noVertex)
   pub fault : (b : Book) → wovenFault (wovenAt b query rules new c) ids ≡ pick out nothing (just 13)

@@ -5,21 +5,20 @@ use lib.ListN.{length}
 use lib.Dec.{eqb}
 use Rattle.model.specs.Bytes.{Bytes}
 use Rattle.model.specs.Choice.{pick}
-use Rattle.model.specs.Names.{firsts}
-use Rattle.model.specs.Pattern.{Pattern, Edge, Clause, excluded, vertexHas, edgeHas}
+use Rattle.model.specs.Pattern.{PatternOver, Pattern, Edge, Clause, excluded, vertexHas, edgeHas}
 use Rattle.model.specs.Graph.{Each}
-use Rattle.model.specs.Weave.{wovenName, moved, movedEdge, movedClause}
+use Rattle.model.specs.Weave.{WovenVertex, WovenPattern, firstVertices, weaveVertex, moved, movedEdge, movedClause}
 
--- the pattern of the kth text, its vertices under woven names
-unfoldable pub underNames : ℕ → List Bytes → Pattern → Pattern
-underNames k actors p = record { vertices = map (wovenName k actors) (p .vertices); edges = p .edges; clauses = p .clauses; returns = p .returns }
+-- the pattern of the kth text, of woven vertices
+unfoldable pub underNames : ℕ → List Bytes → Pattern → WovenPattern
+underNames k actors p = record { vertices = map (weaveVertex k actors) (p .vertices); edges = p .edges; clauses = p .clauses; returns = p .returns }
 
 -- the woven vertices with those of one text more
-unfoldable pub moreVertices : ℕ → List Bytes → Pattern → List Bytes → List Bytes
-moreVertices k actors p vs = firsts vs (underNames k actors p .vertices)
+unfoldable pub moreVertices : ℕ → List Bytes → Pattern → List WovenVertex → List WovenVertex
+moreVertices k actors p vs = firstVertices vs (underNames k actors p .vertices)
 
 -- the woven pattern with one text more, the kth: its new vertices, every edge, exclusion and requirement behind those there; Return is that of text 0
-unfoldable pub oneMore : ℕ → List Bytes → Pattern → Pattern → Pattern
+unfoldable pub oneMore : ℕ → List Bytes → Pattern → WovenPattern → WovenPattern
 oneMore k actors p woven =
     let own = underNames k actors p in
     let vs = moreVertices k actors p (woven .vertices) in
@@ -37,7 +36,7 @@ ClauseWithin v e (vertexHas x a r z) = x < v
 ClauseWithin v e (edgeHas x a r z) = x < e
 
 -- every number in a pattern is one of its vertices or edges
-pub record Ranged (p : Pattern) : Type 0 where
+pub record Ranged {Vertex : Type 0} (p : PatternOver Vertex) : Type 0 where
   pub edges : Each (λ (e : Edge). (e .from < length (p .vertices)) × (e .to < length (p .vertices))) (p .edges)
   pub clauses : Each (ClauseWithin (length (p .vertices)) (length (p .edges))) (p .clauses)
   pub returns : Each (λ v. v < length (p .vertices)) (p .returns)

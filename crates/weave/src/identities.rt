@@ -1,8 +1,8 @@
-// Identities on the woven vertices: an actor vertex whose name is that of an identity has its node.
+// Identities on the woven vertices: the actor vertex of an identity's name has its node.
 ghost use mathlib.Core.Path.{_≡_};
 ghost use Prim.Native.Nat.{_≤_};
 ghost use lib.ListN.{length};
-ghost use Rattle.woven.specs.Tables.{vertexName, nodeIn};
+ghost use Rattle.woven.specs.Tables.{vertexOfWord, nodeIn};
 ghost use Rattle.weave.specs.Identities.{identityOf, identitiesIn, IdentitiesReady, IdentitiesGiven};
 use crate::marks;
 use model::Identity;
@@ -24,7 +24,7 @@ fn find_identity(
     word: u32,
 ) -> u32
     requires { ⌜ IdentitiesReady identities count ⌝ }
-    ensures { λ r. ⌜ nodeIn r ≡ identityOf (identitiesIn (now (request .entry)) identities count) (vertexName (now (query .entry)) (now (rules .entry)) word) ⌝ }
+    ensures { λ r. ⌜ nodeIn r ≡ identityOf (identitiesIn (now (request .entry)) identities count) (vertexOfWord (now (query .entry)) (now (rules .entry)) word) ⌝ }
 {
     if word % VERTEX_KINDS == 1 {
         let mut i = 0;

@@ -2,11 +2,10 @@
 use Prim.Native.Nat.{ℕ, _+_, _<_, _≤_}
 use mathlib.Core.Path.{_≡_}
 use mathlib.Core.Logic.{_⊎_}
-use mathlib.Core.List.{List, [], _++_, map}
+use mathlib.Core.List.{List, _++_, map}
 use lib.ListN.{length, getD, take, drop}
 use Rattle.model.specs.Bytes.{Bytes}
-use Rattle.model.specs.Names.{place, addNew, firsts}
-use Rattle.model.specs.Weave.{wovenName}
+use Rattle.model.specs.Weave.{WovenVertex, sameVertex, placeVertex, firstVertices, noVertex, weaveVertex}
 use Rattle.model.specs.Book.{Book}
 use Rattle.model.specs.Pattern.{Edge}
 use Rattle.model.specs.Answers.{nameAt, edgeIn}
@@ -14,8 +13,9 @@ use Rattle.model.specs.declared.Part.{Part}
 use Rattle.model.specs.declared.Edge.{Edge as EdgeData}
 use Rattle.woven.specs.declared.vertices.Placed.{Placed}
 use Rattle.woven.specs.declared.vertices.Numbers.{Numbers}
-use Rattle.woven.specs.Tables.{textOf, vertexName, verticesAt, edgesAt, returnsAt}
+use Rattle.woven.specs.Tables.{textOf, verticesAt, edgesAt, returnsAt, vertexOfWord}
 use Rattle.model.specs.PlainData.{noPart, noEdge, NameFits}
+use Rattle.model.specs.Lists.{addNewBy}
 
 -- the words stay but those of some tables
 abbrev pub KeptOutside : ℕ → ℕ → List ℕ → List ℕ → Type 0
@@ -23,14 +23,14 @@ KeptOutside from to old new = (i : ℕ) → (i < from) ⊎ (to ≤ i) → getD n
 
 -- a vertex has its place among the woven vertices, as a new one where it is new; a count past 24 says that it has no room
 pub record VertexPlaced (query rules : Bytes) (old new : List ℕ) (n word : ℕ) (out : Placed) : Type 0 where
-  pub at : out .at ≡ place (vertexName query rules word) (verticesAt query rules old n)
-  pub counted : out .count ≡ length (addNew (verticesAt query rules old n) (vertexName query rules word))
-  pub vertices : out .count ≤ 24 → verticesAt query rules new (out .count) ≡ addNew (verticesAt query rules old n) (vertexName query rules word)
+  pub at : out .at ≡ placeVertex (vertexOfWord query rules word) (verticesAt query rules old n)
+  pub counted : out .count ≡ length (addNewBy sameVertex (verticesAt query rules old n) (vertexOfWord query rules word))
+  pub vertices : out .count ≤ 24 → verticesAt query rules new (out .count) ≡ addNewBy sameVertex (verticesAt query rules old n) (vertexOfWord query rules word)
   pub kept : KeptOutside 0 24 old new
 
--- the woven names of a text's vertices, of which so many stand in the array
-abbrev pub ownNames : Bytes → ℕ → List Bytes → List Part → ℕ → List Bytes
-ownNames text k actors parts count = map (wovenName k actors) (map (nameAt text) (take count parts))
+-- what weaving makes of a text's vertices, of which so many stand in the array
+abbrev pub textVertices : Bytes → ℕ → List Bytes → List Part → ℕ → List WovenVertex
+textVertices text k actors parts count = map (weaveVertex k actors) (map (nameAt text) (take count parts))
 
 -- what is asked of the vertices of a text
 pub record VerticesReady (base k : ℕ) (parts : List Part) (count : ℕ) : Type 0 where
@@ -39,11 +39,11 @@ pub record VerticesReady (base k : ℕ) (parts : List Part) (count : ℕ) : Type
   pub fit : (i : ℕ) → i < count → NameFits base (getD parts i noPart)
 
 -- the vertices of a text are woven, each with its number; a count past 24 says that the limit is passed
-pub record VerticesAdded (query rules : Bytes) (names : List Bytes) (count : ℕ) (old new : List ℕ) (n : ℕ) (out : Numbers) : Type 0 where
-  pub all : length names ≡ count
-  pub passed : 24 < out .count → 24 < length (firsts (verticesAt query rules old n) names)
-  pub vertices : out .count ≤ 24 → verticesAt query rules new (out .count) ≡ firsts (verticesAt query rules old n) names
-  pub numbers : out .count ≤ 24 → (i : ℕ) → i < length names → getD (out .numbers) i 0 ≡ place (getD names i []) (firsts (verticesAt query rules old n) names)
+pub record VerticesAdded (query rules : Bytes) (vs : List WovenVertex) (count : ℕ) (old new : List ℕ) (n : ℕ) (out : Numbers) : Type 0 where
+  pub all : length vs ≡ count
+  pub passed : 24 < out .count → 24 < length (firstVertices (verticesAt query rules old n) vs)
+  pub vertices : out .count ≤ 24 → verticesAt query rules new (out .count) ≡ firstVertices (verticesAt query rules old n) vs
+  pub numbers : out .count ≤ 24 → (i : ℕ) → i < length vs → getD (out .numbers) i 0 ≡ placeVertex (getD vs i noVertex) (firstVertices (verticesAt query rules old n) vs)
   pub kept : KeptOutside 0 24 old new
 
 -- an edge with new numbers for its vertices

@@ -8,7 +8,8 @@ use Rattle.model.specs.Choice.{pick, Maybe, nothing, just}
 use Rattle.model.specs.Values.{Value, int, str, bool}
 use Rattle.model.specs.Book.{Book, attrNames}
 use Rattle.model.specs.QueryText.{Relation, eq, ne, lt, le, gt, ge}
-use Rattle.model.specs.Pattern.{Pattern, Edge, Clause, excluded, vertexHas, edgeHas}
+use Rattle.model.specs.Pattern.{Edge, Clause, excluded, vertexHas, edgeHas}
+use Rattle.model.specs.Weave.{WovenVertex, actor, own, WovenPattern}
 use Rattle.model.specs.Answers.{partOf}
 use Rattle.tables.specs.Listed.{listed}
 use Rattle.tables.specs.View.{nameIn}
@@ -50,9 +51,9 @@ textOf query rules k = pick (eqb k 0) query rules
 unfoldable pub nameOf : Bytes → Bytes → ℕ → Bytes
 nameOf query rules w = partOf (textOf query rules (w / 2097152)) (w / 32 % 65536) (w % 32)
 
--- a vertex word is twice a name word, and one more for an actor vertex; the woven name of a vertex that is no actor has 256 + k before it
-unfoldable pub vertexName : Bytes → Bytes → ℕ → Bytes
-vertexName query rules w = pick (eqb (w % 2) 1) (nameOf query rules (w / 2)) ((256 + w / 2 / 2097152) ∷ nameOf query rules (w / 2))
+-- a vertex word is twice a name word, and one more for an actor vertex; another is an own vertex of the text that its name stands in
+unfoldable pub vertexOfWord : Bytes → Bytes → ℕ → WovenVertex
+vertexOfWord query rules w = pick (eqb (w % 2) 1) (actor (nameOf query rules (w / 2))) (own (w / 2 / 2097152) (nameOf query rules (w / 2)))
 
 -- an edge word is label * 65536 + from * 256 + to, and beside it stands the word of its name
 unfoldable pub edgeAt : Book → Bytes → Bytes → ℕ → ℕ → Edge
@@ -77,9 +78,9 @@ clauseAt b query rules w high low =
     (pick (eqb (w % 4) 1) (vertexHas owner (getD (attrNames (b .vattrs)) attribute []) relation value)
     (edgeHas owner (getD (attrNames (b .eattrs)) attribute []) relation value))
 
--- the woven vertices, by their woven names
-unfoldable pub verticesAt : Bytes → Bytes → List ℕ → ℕ → List Bytes
-verticesAt query rules words n = listed (λ i. vertexName query rules (getD words i 0)) n
+-- the woven vertices
+unfoldable pub verticesAt : Bytes → Bytes → List ℕ → ℕ → List WovenVertex
+verticesAt query rules words n = listed (λ i. vertexOfWord query rules (getD words i 0)) n
 
 -- the woven edges
 unfoldable pub edgesAt : Book → Bytes → Bytes → List ℕ → ℕ → List Edge
@@ -94,7 +95,7 @@ unfoldable pub returnsAt : List ℕ → ℕ → List ℕ
 returnsAt words n = listed (λ i. getD words (returnTable + i) 0) n
 
 -- the woven pattern that words hold
-unfoldable pub wovenAt : Book → Bytes → Bytes → List ℕ → WovenCounts → Pattern
+unfoldable pub wovenAt : Book → Bytes → Bytes → List ℕ → WovenCounts → WovenPattern
 wovenAt b query rules words c = record {
   vertices = verticesAt query rules words (c .vertices);
   edges = edgesAt b query rules words (c .edges);

@@ -4,10 +4,10 @@ ghost use Prim.Native.Nat.{_+_, _*_, _<_, _≤_};
 ghost use lib.ListN.{length};
 ghost use Rattle.model.specs.Bytes.{same};
 ghost use Rattle.model.specs.Choice.{pick};
-ghost use Rattle.model.specs.Names.{mem, place};
-ghost use Rattle.model.specs.Weave.{wovenName};
+ghost use Rattle.model.specs.Names.{mem};
+ghost use Rattle.model.specs.Weave.{sameVertex, placeVertex, weaveVertex};
 ghost use Rattle.model.specs.Answers.{partOf};
-ghost use Rattle.woven.specs.Tables.{textOf, nameOf, vertexName, actorsAt, verticesAt};
+ghost use Rattle.woven.specs.Tables.{textOf, nameOf, vertexOfWord, actorsAt, verticesAt};
 
 // A name word is (text's number * NAME_STARTS + start) * NAME_LENGTHS + length.
 const NAME_LENGTHS: usize = 32;
@@ -83,9 +83,9 @@ fn say_the_same(query: &[u8], rules: &[u8], a: u32, b: u32) -> bool
     says(query, rules, a, part(rules, start, length))
 }
 
-// Two vertices have one woven name: both are actors, or both of one text and no actors, and their names are the same.
+// Two woven vertices are the same: both are actor vertices, or both own vertices of one text, and their names are the same.
 fn same_vertex(query: &[u8], rules: &[u8], a: u32, b: u32) -> bool
-    ensures { λ r. ⌜ r ≡ same (vertexName (now (query .entry)) (now (rules .entry)) a) (vertexName (now (query .entry)) (now (rules .entry)) b) ⌝ }
+    ensures { λ r. ⌜ r ≡ sameVertex (vertexOfWord (now (query .entry)) (now (rules .entry)) a) (vertexOfWord (now (query .entry)) (now (rules .entry)) b) ⌝ }
 {
     let name_a = a / VERTEX_KINDS;
     let name_b = b / VERTEX_KINDS;
@@ -132,16 +132,16 @@ pub fn vertex_of(
     length: usize,
 ) -> u32
     requires { ⌜ (count ≤ lib.ListN.length (now actors)) × (k < 32) × (start < 65536) × (length < 32) ⌝ }
-    ensures { λ r. ⌜ vertexName (now (query .entry)) (now (rules .entry)) r ≡ wovenName k (actorsAt (now (rules .entry)) (now (actors .entry)) count) (partOf (textOf (now (query .entry)) (now (rules .entry)) k) start length) ⌝ }
+    ensures { λ r. ⌜ vertexOfWord (now (query .entry)) (now (rules .entry)) r ≡ weaveVertex k (actorsAt (now (rules .entry)) (now (actors .entry)) count) (partOf (textOf (now (query .entry)) (now (rules .entry)) k) start length) ⌝ }
 {
     let name = name_word(k, start, length);
     vertex_word(name, is_actor(query, rules, actors, count, name))
 }
 
-// The number of the woven vertex that has a vertex's woven name, or how many there are where none has.
+// The number of a vertex among the woven ones, or how many there are where it is none of them.
 pub fn find_vertex(query: &[u8], rules: &[u8], words: &[u32], count: usize, word: u32) -> usize
     requires { ⌜ count ≤ length (now words) ⌝ }
-    ensures { λ r. ⌜ r ≡ place (vertexName (now (query .entry)) (now (rules .entry)) word) (verticesAt (now (query .entry)) (now (rules .entry)) (now (words .entry)) count) ⌝ }
+    ensures { λ r. ⌜ r ≡ placeVertex (vertexOfWord (now (query .entry)) (now (rules .entry)) word) (verticesAt (now (query .entry)) (now (rules .entry)) (now (words .entry)) count) ⌝ }
 {
     let mut i = 0;
     while i < count {

@@ -2,7 +2,7 @@
 ghost use Prim.Native.Nat.{_<_, _≤_};
 ghost use lib.ListN.{length, drop};
 ghost use Rattle.woven.specs.Tables.{textOf, actorsAt};
-ghost use Rattle.woven.specs.Steps.{VertexPlaced, VerticesReady, VerticesAdded, ownNames};
+ghost use Rattle.woven.specs.Steps.{VertexPlaced, VerticesReady, VerticesAdded, textVertices};
 use crate::MAX_WOVEN_VERTICES;
 use crate::names;
 use model::MAX_VERTICES;
@@ -51,7 +51,7 @@ pub fn add_vertices(
 ) -> Numbers
     requires { ⌜ VerticesReady base k parts count × («actor_count» ≤ length (now actors)) × (woven ≤ 24) × (512 ≤ length (now words)) ⌝ }
     ensures { λ r. ⌜ VerticesAdded (now (query .entry)) (now (rules .entry))
-        (ownNames (drop base (textOf (now (query .entry)) (now (rules .entry)) k)) k (actorsAt (now (rules .entry)) (now (actors .entry)) «actor_count») parts count) count
+        (textVertices (drop base (textOf (now (query .entry)) (now (rules .entry)) k)) k (actorsAt (now (rules .entry)) (now (actors .entry)) «actor_count») parts count) count
         (now (words .entry)) (now (words .exit)) woven r ⌝ }
 {
     let mut numbers = [0usize; MAX_VERTICES];

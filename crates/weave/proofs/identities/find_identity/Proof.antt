@@ -1,10 +1,10 @@
 -- `find_identity` meets its contract. The loop's invariant: none of the first i identities is the vertex's. Assumes nothing.
-use Rattle.weave.proofs.IdentityLaws.{compared, found-in, none-in, other-has-none, node-said}
+use Rattle.weave.proofs.IdentityLaws.{compared, found-in, none-in, own-has-none, node-said}
 use Rattle.weave.specs.Identities.{noIdentity}
-use Rattle.woven.specs.Tables.{vertexName, nodeIn}
+use Rattle.woven.specs.Tables.{vertexOfWord, nodeIn}
 use Rattle.facts.specs.Tests.{either, equal-or-not}
-use Rattle.model.specs.Answers.{nameAt}
-use Rattle.model.specs.Bytes.{same}
+use Rattle.model.specs.Answers.{identityIn}
+use Rattle.model.specs.Weave.{identifiedBy}
 use lib.ListN.{length, getD}
 use native.Mathlib.Omega.{arith}
 use mathlib.Core.Bool.{false}
@@ -15,7 +15,7 @@ use Rattle.weave.proofs.identities.find_identity.Statement.{statement}
 use Rattle.weave.proofs.identities.find_identity.Tie as tie
 
 abbrev Inv-loop : tie.InvT-loop
-Inv-loop query rules request count word identities i₀ i = (i ≤ count) × ((j : ℕ) → j < i → same (vertexName query rules word) (nameAt request (getD identities j noIdentity .actor)) ≡ false)
+Inv-loop query rules request count word identities i₀ i = (i ≤ count) × ((j : ℕ) → j < i → identifiedBy (vertexOfWord query rules word) (identityIn request (getD identities j noIdentity)) ≡ false)
 
 abbrev μ-loop : tie.MeasureT-loop
 μ-loop query rules request count word identities i₀ i = count - i
@@ -43,8 +43,8 @@ returns c =
     let a = c .before .before .before .before .before .before .before .before .before .before .before .before .args in
     let all : length (a .t4) ≡ 8 = search needs in
     let few = c .before .before .before .before .before .before .before .before .before .before .before .before .pre .few in
-    node-said _ (c .before .before .before .before .before .before .before .before .before .before .before .before .pre .nodes (c .before .before .before .before .before .before .before .loop .i) (omega arith)) ∙ sym (found-in (a .request .now) (a .t4) (a .count) (omega arith) (vertexName (a .query .now) (a .rules .now) (a .word)) (c .before .before .before .before .before .before .before .loop .i) (c .before .before .before .before .before .before .loop-test .taken) (c .before .before .before .before .before .before .before .loop .inv .1)
-    (compared (a .query .now) (a .rules .now) (a .request .now) (a .word) (getD (a .t4) (c .before .before .before .before .before .before .before .loop .i) noIdentity .actor) (c .before .before .before .part .result .now) (c .before .before .says .result) (c .before .before .before .before .before .before .before .before .if1 .taken) (c .before .before .before .part .ensures) (c .before .before .says .ensures) ∙ c .before .if2 .taken))
+    node-said _ (c .before .before .before .before .before .before .before .before .before .before .before .before .pre .nodes (c .before .before .before .before .before .before .before .loop .i) (omega arith)) ∙ sym (found-in (a .request .now) (a .t4) (a .count) (omega arith) (vertexOfWord (a .query .now) (a .rules .now) (a .word)) (c .before .before .before .before .before .before .before .loop .i) (c .before .before .before .before .before .before .loop-test .taken) (c .before .before .before .before .before .before .before .loop .inv .1)
+    (compared (a .query .now) (a .rules .now) (a .request .now) (a .word) (getD (a .t4) (c .before .before .before .before .before .before .before .loop .i) noIdentity) (c .before .before .before .part .result .now) (c .before .before .says .result) (c .before .before .before .before .before .before .before .before .if1 .taken) (c .before .before .before .part .ensures) (c .before .before .says .ensures) ∙ c .before .if2 .taken))
 
 add-i : tie.Need-add-i Inv-loop μ-loop
 add-i c = search needs
@@ -55,11 +55,11 @@ loop-less c = search needs
 loop-again : tie.Need-loop-again Inv-loop μ-loop
 loop-again c =
     let a = c .before .before .before .before .before .before .before .before .before .before .before .args in
-    let own : same (vertexName (a .query .now) (a .rules .now) (a .word)) (nameAt (a .request .now) (getD (a .t4) (c .before .before .before .before .before .before .loop .i) noIdentity .actor)) ≡ false =
-    compared (a .query .now) (a .rules .now) (a .request .now) (a .word) (getD (a .t4) (c .before .before .before .before .before .before .loop .i) noIdentity .actor) (c .before .before .part .result .now) (c .before .says .result) (c .before .before .before .before .before .before .before .if1 .taken) (c .before .before .part .ensures) (c .before .says .ensures) ∙ c .if2 .left in (
+    let own : identifiedBy (vertexOfWord (a .query .now) (a .rules .now) (a .word)) (identityIn (a .request .now) (getD (a .t4) (c .before .before .before .before .before .before .loop .i) noIdentity)) ≡ false =
+    compared (a .query .now) (a .rules .now) (a .request .now) (a .word) (getD (a .t4) (c .before .before .before .before .before .before .loop .i) noIdentity) (c .before .before .part .result .now) (c .before .says .result) (c .before .before .before .before .before .before .before .if1 .taken) (c .before .before .part .ensures) (c .before .says .ensures) ∙ c .if2 .left in (
       omega arith,
       λ j h. either (equal-or-not j (c .before .before .before .before .before .before .loop .i))
-          (λ e. subst (λ z. same (vertexName (a .query .now) (a .rules .now) (a .word)) (nameAt (a .request .now) (getD (a .t4) z noIdentity .actor)) ≡ false) (sym e) own)
+          (λ e. subst (λ z. identifiedBy (vertexOfWord (a .query .now) (a .rules .now) (a .word)) (identityIn (a .request .now) (getD (a .t4) z noIdentity)) ≡ false) (sym e) own)
           (λ e. let d = e .1 in c .before .before .before .before .before .before .loop .inv .1 j (omega arith)),
     )
 
@@ -69,7 +69,7 @@ returns-2 c =
     let a = c .before .before .before .before .before .before .args in
     let all : length (a .t4) ≡ 8 = search needs in
     let few = c .before .before .before .before .before .before .pre .few in
-    sym (none-in (a .request .now) (a .t4) (a .count) (omega arith) (vertexName (a .query .now) (a .rules .now) (a .word)) (λ j h. c .before .loop .inv .1 j (omega arith)))
+    sym (none-in (a .request .now) (a .t4) (a .count) (omega arith) (vertexOfWord (a .query .now) (a .rules .now) (a .word)) (λ j h. c .before .loop .inv .1 j (omega arith)))
 
 returns-3 : tie.Need-returns-3 Inv-loop μ-loop
 unfolding nodeIn
@@ -77,7 +77,7 @@ returns-3 c =
     let a = c .before .before .before .before .args in
     let all : length (a .t4) ≡ 8 = search needs in
     let few = c .before .before .before .before .pre .few in
-    sym (other-has-none (a .request .now) (a .t4) (a .count) (omega arith) (a .query .now) (a .rules .now) (a .word) (λ i. omega (arith, c .before .shared-slice-known3 .given i)) (c .if1 .left))
+    sym (own-has-none (a .request .now) (a .t4) (a .count) (omega arith) (a .query .now) (a .rules .now) (a .word) (c .if1 .left))
 
 pub find-identity-spec : {M : Type 1} → statement M
 find-identity-spec =

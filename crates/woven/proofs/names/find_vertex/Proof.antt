@@ -1,10 +1,9 @@
--- `find_vertex` meets its contract: none of the vertices passed has the name. Assumes nothing.
-use Rattle.woven.specs.Tables.{vertexName, verticesAt}
+-- `find_vertex` meets its contract: none of the vertices passed is the same. Assumes nothing.
+use Rattle.woven.specs.Tables.{vertexOfWord, verticesAt}
 use Rattle.tables.proofs.ListedLaws.{scan-none, scan-on, scan-place, scan-absent}
 use Rattle.tables.specs.Listed.{listed}
-use Rattle.model.specs.Names.{place}
 use Rattle.model.specs.Lists.{any}
-use Rattle.model.specs.Bytes.{same}
+use Rattle.model.specs.Weave.{sameVertex, placeVertex}
 use lib.ListN.{getD}
 use native.Mathlib.Omega.{arith}
 use Prim.Native.Nat.{_-_, _≤_}
@@ -15,13 +14,13 @@ use Rattle.woven.proofs.names.find_vertex.Statement.{statement}
 use Rattle.woven.proofs.names.find_vertex.Tie as tie
 
 abbrev Inv-loop : tie.InvT-loop
-Inv-loop query rules words count word i₀ i = (i ≤ count) × (any (same (vertexName query rules word)) (listed (λ j. vertexName query rules (getD words j 0)) i) ≡ false)
+Inv-loop query rules words count word i₀ i = (i ≤ count) × (any (sameVertex (vertexOfWord query rules word)) (listed (λ j. vertexOfWord query rules (getD words j 0)) i) ≡ false)
 
 abbrev μ-loop : tie.MeasureT-loop
 μ-loop query rules words count word i₀ i = count - i
 
 loop-holds : tie.Need-loop-holds Inv-loop μ-loop
-loop-holds c = (omega arith, scan-none _ (λ j. vertexName (c .before .before .before .args .query .now) (c .before .before .before .args .rules .now) (getD (c .before .before .before .args .words .now) j 0)))
+loop-holds c = (omega arith, scan-none _ (λ j. vertexOfWord (c .before .before .before .args .query .now) (c .before .before .before .args .rules .now) (getD (c .before .before .before .args .words .now) j 0)))
 
 mul-same-vertex : tie.Need-mul-same-vertex Inv-loop μ-loop
 mul-same-vertex c = search needs
@@ -33,8 +32,8 @@ same-vertex-requires : tie.Need-same-vertex-requires Inv-loop μ-loop
 same-vertex-requires c κs = search needs
 
 returns : tie.Need-returns Inv-loop μ-loop
-unfolding place verticesAt
-returns c = sym (scan-place (same (vertexName (c .before .before .before .before .before .before .before .before .args .query .now) (c .before .before .before .before .before .before .before .before .args .rules .now) (c .before .before .before .before .before .before .before .before .args .word))) (λ j. vertexName (c .before .before .before .before .before .before .before .before .args .query .now) (c .before .before .before .before .before .before .before .before .args .rules .now) (getD (c .before .before .before .before .before .before .before .before .args .words .now) j 0)) (c .before .before .before .before .before .before .before .before .args .count) (c .before .before .before .before .loop .i) (c .before .before .before .loop-test .taken) (c .before .before .before .before .loop .inv .1) (sym (c .before .same-vertex .ensures) ∙ c .if1 .taken))
+unfolding placeVertex verticesAt
+returns c = sym (scan-place (sameVertex (vertexOfWord (c .before .before .before .before .before .before .before .before .args .query .now) (c .before .before .before .before .before .before .before .before .args .rules .now) (c .before .before .before .before .before .before .before .before .args .word))) (λ j. vertexOfWord (c .before .before .before .before .before .before .before .before .args .query .now) (c .before .before .before .before .before .before .before .before .args .rules .now) (getD (c .before .before .before .before .before .before .before .before .args .words .now) j 0)) (c .before .before .before .before .before .before .before .before .args .count) (c .before .before .before .before .loop .i) (c .before .before .before .loop-test .taken) (c .before .before .before .before .loop .inv .1) (sym (c .before .same-vertex .ensures) ∙ c .if1 .taken))
 
 add-i : tie.Need-add-i Inv-loop μ-loop
 add-i c = search needs
@@ -43,11 +42,11 @@ loop-less : tie.Need-loop-less Inv-loop μ-loop
 loop-less c = search needs
 
 loop-again : tie.Need-loop-again Inv-loop μ-loop
-loop-again c = (omega arith, scan-on (same (vertexName (c .before .before .before .before .before .before .before .before .args .query .now) (c .before .before .before .before .before .before .before .before .args .rules .now) (c .before .before .before .before .before .before .before .before .args .word))) (λ j. vertexName (c .before .before .before .before .before .before .before .before .args .query .now) (c .before .before .before .before .before .before .before .before .args .rules .now) (getD (c .before .before .before .before .before .before .before .before .args .words .now) j 0)) (c .before .before .before .before .loop .i) (c .before .before .before .before .loop .inv .1) (sym (c .before .same-vertex .ensures) ∙ c .if1 .left))
+loop-again c = (omega arith, scan-on (sameVertex (vertexOfWord (c .before .before .before .before .before .before .before .before .args .query .now) (c .before .before .before .before .before .before .before .before .args .rules .now) (c .before .before .before .before .before .before .before .before .args .word))) (λ j. vertexOfWord (c .before .before .before .before .before .before .before .before .args .query .now) (c .before .before .before .before .before .before .before .before .args .rules .now) (getD (c .before .before .before .before .before .before .before .before .args .words .now) j 0)) (c .before .before .before .before .loop .i) (c .before .before .before .before .loop .inv .1) (sym (c .before .same-vertex .ensures) ∙ c .if1 .left))
 
 returns-2 : tie.Need-returns-2 Inv-loop μ-loop
-unfolding place verticesAt
-returns-2 c = let e : c .before .loop .i ≡ c .before .before .before .before .before .args .count = omega arith in sym (scan-absent (same (vertexName (c .before .before .before .before .before .args .query .now) (c .before .before .before .before .before .args .rules .now) (c .before .before .before .before .before .args .word))) (λ j. vertexName (c .before .before .before .before .before .args .query .now) (c .before .before .before .before .before .args .rules .now) (getD (c .before .before .before .before .before .args .words .now) j 0)) (c .before .before .before .before .before .args .count) (ap (λ n. any (same (vertexName (c .before .before .before .before .before .args .query .now) (c .before .before .before .before .before .args .rules .now) (c .before .before .before .before .before .args .word))) (listed (λ j. vertexName (c .before .before .before .before .before .args .query .now) (c .before .before .before .before .before .args .rules .now) (getD (c .before .before .before .before .before .args .words .now) j 0)) n)) (sym e) ∙ c .before .loop .inv .1))
+unfolding placeVertex verticesAt
+returns-2 c = let e : c .before .loop .i ≡ c .before .before .before .before .before .args .count = omega arith in sym (scan-absent (sameVertex (vertexOfWord (c .before .before .before .before .before .args .query .now) (c .before .before .before .before .before .args .rules .now) (c .before .before .before .before .before .args .word))) (λ j. vertexOfWord (c .before .before .before .before .before .args .query .now) (c .before .before .before .before .before .args .rules .now) (getD (c .before .before .before .before .before .args .words .now) j 0)) (c .before .before .before .before .before .args .count) (ap (λ n. any (sameVertex (vertexOfWord (c .before .before .before .before .before .args .query .now) (c .before .before .before .before .before .args .rules .now) (c .before .before .before .before .before .args .word))) (listed (λ j. vertexOfWord (c .before .before .before .before .before .args .query .now) (c .before .before .before .before .before .args .rules .now) (getD (c .before .before .before .before .before .args .words .now) j 0)) n)) (sym e) ∙ c .before .loop .inv .1))
 
 pub find-vertex-spec : {M : Type 1} → statement M
 find-vertex-spec =

@@ -1,7 +1,7 @@
 -- `add_vertices` meets its contract. The loop's invariant: the first i vertices are woven, and their numbers known. Assumes nothing.
 use Rattle.woven.proofs.VertexLaws.{length-names, own-says, VerticesSoFar, vertices-start, vertices-more, vertices-passed, vertices-end}
 -- `add_vertices` meets its contract. The loop's invariant: the first i vertices are woven, and their numbers known. Assumes nothing.
-use Rattle.woven.specs.Steps.{ownNames}
+use Rattle.woven.specs.Steps.{textVertices}
 use Rattle.woven.specs.Tables.{textOf, actorsAt}
 use lib.ListN.{length, drop}
 use native.Mathlib.Omega.{arith}
@@ -12,7 +12,7 @@ use Rattle.woven.proofs.vertices.add_vertices.Statement.{statement}
 use Rattle.woven.proofs.vertices.add_vertices.Tie as tie
 
 abbrev Inv-loop : tie.InvT-loop
-Inv-loop query rules actors actor-count k base count words₀ woven parts numbers₀ n₀ i₀ words numbers n i = (i ≤ count) × VerticesSoFar query rules (ownNames (drop base (textOf query rules k)) k (actorsAt rules actors actor-count) parts count) words₀ words woven n i numbers
+Inv-loop query rules actors actor-count k base count words₀ woven parts numbers₀ n₀ i₀ words numbers n i = (i ≤ count) × VerticesSoFar query rules (textVertices (drop base (textOf query rules k)) k (actorsAt rules actors actor-count) parts count) words₀ words woven n i numbers
 
 abbrev μ-loop : tie.MeasureT-loop
 μ-loop query rules actors actor-count k base count words₀ woven parts numbers₀ n₀ i₀ words numbers n i = count - i
@@ -46,7 +46,7 @@ returns c =
     let size : length (a .t7) ≡ 8 = search needs in
     let few : a .count ≤ length (a .t7) = omega (arith, c .before .before .before .before .before .before .before .before .before .before .before .before .before .before .pre .0 .few) in
     let all = length-names (drop (a .base) text) (a .k) actors (a .t7) (a .count) few in
-    vertices-passed (a .query .now) (a .rules .now) (ownNames (drop (a .base) text) (a .k) actors (a .t7) (a .count)) (a .words .now) (c .before .before .before .before .before .before .before .before .before .loop .words) (a .woven) (c .before .before .before .before .before .before .before .before .before .loop .n) (c .before .before .before .before .before .before .before .before .before .loop .i) (c .before .before .before .before .before .before .before .before .before .loop .numbers) (c .before .before .before .before .before .before .before .before .before .loop .inv .1) (omega arith)
+    vertices-passed (a .query .now) (a .rules .now) (textVertices (drop (a .base) text) (a .k) actors (a .t7) (a .count)) (a .words .now) (c .before .before .before .before .before .before .before .before .before .loop .words) (a .woven) (c .before .before .before .before .before .before .before .before .before .loop .n) (c .before .before .before .before .before .before .before .before .before .loop .i) (c .before .before .before .before .before .before .before .before .before .loop .numbers) (c .before .before .before .before .before .before .before .before .before .loop .inv .1) (omega arith)
     (c .before .before .before .place-vertex .last .1 .1 .0) (c .before .before .before .before .before .vertex-of .result) (c .before .before .before .place-vertex .result) (c .before .before .before .place-vertex .ensures) (c .before .before .before .before .before .vertex-of .ensures ∙ own-says text (a .base) (a .k) actors (a .t7) (a .count) few (c .before .before .before .before .before .before .before .before .before .loop .i) (c .before .before .before .before .before .before .before .before .loop-test .taken)) (a .count) all (c .if1 .taken)
 
 mul-numbers : tie.Need-mul-numbers Inv-loop μ-loop
@@ -70,7 +70,7 @@ loop-again c =
     let few : a .count ≤ length (a .t7) = omega (arith, c .before .before .before .before .before .before .before .before .before .before .before .before .before .before .pre .0 .few) in
     let all = length-names (drop (a .base) text) (a .k) actors (a .t7) (a .count) few in (
       omega arith,
-      vertices-more (a .query .now) (a .rules .now) (ownNames (drop (a .base) text) (a .k) actors (a .t7) (a .count)) (a .words .now) (c .before .before .before .before .before .before .before .before .before .loop .words) (a .woven) (c .before .before .before .before .before .before .before .before .before .loop .n) (c .before .before .before .before .before .before .before .before .before .loop .i) (c .before .before .before .before .before .before .before .before .before .loop .numbers) (c .before .before .before .before .before .before .before .before .before .loop .inv .1) (omega arith)
+      vertices-more (a .query .now) (a .rules .now) (textVertices (drop (a .base) text) (a .k) actors (a .t7) (a .count)) (a .words .now) (c .before .before .before .before .before .before .before .before .before .loop .words) (a .woven) (c .before .before .before .before .before .before .before .before .before .loop .n) (c .before .before .before .before .before .before .before .before .before .loop .i) (c .before .before .before .before .before .before .before .before .before .loop .numbers) (c .before .before .before .before .before .before .before .before .before .loop .inv .1) (omega arith)
           (c .before .before .before .place-vertex .last .1 .1 .0) (c .before .before .before .before .before .vertex-of .result) (c .before .before .before .place-vertex .result) (c .before .before .before .place-vertex .ensures) (c .before .before .before .before .before .vertex-of .ensures ∙ own-says text (a .base) (a .k) actors (a .t7) (a .count) few (c .before .before .before .before .before .before .before .before .before .loop .i) (c .before .before .before .before .before .before .before .before .loop-test .taken))
           (c .if1 .left) (c .before .before .before .place-vertex .kept .1 .1 .0) (omega (arith, c .before .before .before .before .before .before .before .before .before .before .before .before .before .before .pre .0 .few)),
     )
@@ -86,7 +86,7 @@ returns-2 c =
     let size : length (a .t7) ≡ 8 = search needs in
     let few : a .count ≤ length (a .t7) = omega (arith, c .before .before .before .before .before .before .pre .0 .few) in
     let all = length-names (drop (a .base) text) (a .k) actors (a .t7) (a .count) few in
-    vertices-end (a .query .now) (a .rules .now) (ownNames (drop (a .base) text) (a .k) actors (a .t7) (a .count)) (a .words .now) (c .before .loop .words) (a .woven) (c .before .loop .n) (c .before .loop .i) (c .before .loop .numbers) (c .before .loop .inv .1) (a .count) all (omega arith)
+    vertices-end (a .query .now) (a .rules .now) (textVertices (drop (a .base) text) (a .k) actors (a .t7) (a .count)) (a .words .now) (c .before .loop .words) (a .woven) (c .before .loop .n) (c .before .loop .i) (c .before .loop .numbers) (c .before .loop .inv .1) (a .count) all (omega arith)
 
 pub add-vertices-spec : {M : Type 1} → statement M
 add-vertices-spec =
