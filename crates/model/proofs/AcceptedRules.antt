@@ -1,9 +1,9 @@
--- What accepted rules hold: every policy text is an accepted query, and every actor's name begins with a byte.
+-- What accepted rules hold: every policy text is an accepted query.
 use Prim.Native.Nat.{ℕ, _≤_}
 use mathlib.Core.Path.{_≡_, refl, sym, subst, _∙_}
 use mathlib.Core.Logic.{⊎-elim}
 use mathlib.Core.List.{List, [], _∷_, List·Memᴰ·append-cases as append-cases, List·Memᴰ·eq-of-singleton as eq-of-singleton}
-use mathlib.Core.Bool.{Bool, true, false, not, _&&_, _||_}
+use mathlib.Core.Bool.{not, _&&_, _||_}
 use lib.ListN.{length}
 use lib.Dec.{ltb, nltb→le, not-T}
 use Rattle.model.specs.Bytes.{Bytes, bytesOf, same}
@@ -21,19 +21,18 @@ use Rattle.model.specs.ReadQuery.{hasUndeclared, hasTwice, tooMany, quer
 use Rattle.model.specs.Rules.{Category, Policy, Rules, categoryNames, actorsOf, downFrom, enforced}
 use Rattle.model.specs.ReadRules.{RulesLine, category, policy, namesAfter, categoryLine, policyLine, rulesLine, hasPolicy, policyFaults, rulesFault, addRule, rulesStep, covered, readRules}
 use Rattle.model.specs.Request.{Request}
-use Rattle.model.specs.Graph.{Each}
 use Rattle.model.specs.Weave.{Asked, askedPolicies}
 use Rattle.model.proofs.Decides.{or-l, or-r}
-use Rattle.model.proofs.Members.{_∈_, each-e, keep-e, map-e, joined-e}
+use Rattle.model.proofs.Members.{_∈_, keep-e, map-e, joined-e}
 use Rattle.model.proofs.ByNodes.{Named}
 use Rattle.model.proofs.Outcomes.{no-just, then-e, pick-e, else-e, bytes-accepted, accept-e, no-fault, form-e, fault-e, lines-keep}
-use Rattle.model.proofs.AllowedBytes.{Allowed, allowed-line, line-allowed, lines-allowed, BeginsWithByte}
-use Rattle.model.proofs.LineItems.{FitAll, policy-text-allowed, form-fits, first-e, after-begin}
+use Rattle.model.proofs.AllowedBytes.{Allowed, allowed-line, line-allowed, lines-allowed}
+use Rattle.model.proofs.LineItems.{FitAll, policy-text-allowed, form-fits, first-e}
 use Rattle.model.proofs.AcceptedQuery.{ClearNames, query-clear, accept-query}
 
--- a line of the rules as it was read: its actors begin with a byte; its policy is the text of so many allowed bytes
+-- a line of the rules as it was read: its policy is the text of so many allowed bytes
 abbrev RuleFits : RulesLine → Type 0
-RuleFits (category n actors over) = Each BeginsWithByte actors
+RuleFits (category n actors over) = Unit {0}
 RuleFits (policy c k q) = (t : Bytes) × Allowed t × (length t ≡ k) × (queryText t ≡ just q)
 
 at-end-e : {A : Type 0} (is : List Item) (a y : A) → atEnd is a ≡ just y → a ≡ y
@@ -47,7 +46,7 @@ category-fits is x h e =
     let n = first-e asName is _ x h e in
     let a = first-e (namesAfter (bytesOf "actors")) (n .1) _ x (n .4) (n .6) in
     let o = first-e (namesAfter (bytesOf "over")) (a .1) _ x (a .4) (a .6) in
-    subst RuleFits (at-end-e (o .1) (category (n .2) (a .2) (o .2)) x (o .6)) (after-begin (bytesOf "actors") (a .0) (a .2) (a .3) (a .5))
+    subst RuleFits (at-end-e (o .1) (category (n .2) (a .2) (o .2)) x (o .6)) tt
 
 policy-fits : (is : List Item) (x : RulesLine) → FitAll is → policyLine is ≡ just x → RuleFits x
 unfolding policyLine
@@ -72,7 +71,6 @@ rule-fits l x a e =
 -- what the rules hold after each line
 pub record RulesHold (b : Book) (r : Rules) : Type 0 where
   pub policies : (p : Policy) → p ∈ r .policies → (t : Bytes) × (readQuery b t ≡ accepted (p .text))
-  pub actors : (c : Category) → c ∈ r .categories → (v : Bytes) → v ∈ c .actors → BeginsWithByte v
 
 -- a policy without a fault is a query without a fault, in at most 2,048 bytes
 policy-accepted : (b : Book) (r : Rules) (c : Bytes) (k : ℕ) (q : QueryText) → RuleFits (policy c k q) → rulesFault b r (policy c k q) ≡ nothing → (t : Bytes) × (readQuery b t ≡ accepted q)
@@ -95,13 +93,9 @@ unfolding addRule
 rules-step b r x y l e h = go x l (fault-e (rulesFault b r x) (addRule r x) y e)
   where
     go : (x : RulesLine) → RuleFits x → (rulesFault b r x ≡ nothing) × (addRule r x ≡ y) → RulesHold b y
-    go (category n actors over) l (f, d) = subst (RulesHold b) d (record {
-      policies = h .policies;
-      actors = λ c k. ⊎-elim (h .actors c) (λ j. subst (λ (z : Category). (v : Bytes) → v ∈ z .actors → BeginsWithByte v) (sym (eq-of-singleton j)) (λ v i. each-e BeginsWithByte actors l v i)) (append-cases (r .categories) k);
-    })
+    go (category n actors over) l (f, d) = subst (RulesHold b) d (record { policies = h .policies })
     go (policy c k q) l (f, d) = subst (RulesHold b) d (record {
       policies = λ p i. ⊎-elim (h .policies p) (λ j. subst (λ (z : Policy). (t : Bytes) × (readQuery b t ≡ accepted (z .text))) (sym (eq-of-singleton j)) (policy-accepted b r c k q l f)) (append-cases (r .policies) i);
-      actors = h .actors;
     })
 
 -- accepted rules hold this
@@ -116,7 +110,7 @@ rules-hold b s r e =
     (λ x l y q d h. let f = form-e (andThen (formOf l) rulesLine) (λ z. faultOr (rulesFault b x z) (addRule x z)) y d in rules-step b x (f .0) y (rule-fits l (f .0) q (f .1)) (f .2) h)
     1 start (linesOf s) r (lines-allowed s (line-allowed 1 s (h .allowed)))
     (a .1 ∙ else-e (any (λ (c : Category). isNil (c .over) && not (hasPolicy (a .0) (c .name))) (a .0 .categories)) (record { number = 10; text = 2; line = 0 }) (accepted (a .0)) r (a .2) .1)
-    (record { policies = λ p k. elim k [ ]; actors = λ c k. elim k [ ] })
+    (record { policies = λ p k. elim k [ ] })
 
 -- the text of every policy of accepted rules is an accepted query
 pub policy-is-query : (b : Book) (s : Bytes) (r : Rules) → readRules b s ≡ accepted r → (p : Policy) → p ∈ r .policies → (t : Bytes) × (readQuery b t ≡ accepted (p .text))
@@ -129,17 +123,6 @@ policy-clear b s r e p k = let t = policy-is-query b s r e p k in query-clear b 
 -- and it names in its conditions and in Return what stands in its chains
 pub rules-named : (b : Book) (s : Bytes) (r : Rules) → readRules b s ≡ accepted r → (p : Policy) → p ∈ r .policies → Named (p .text)
 rules-named b s r e p k = policy-clear b s r e p k .declared
-
--- every actor of accepted rules begins with a byte
-pub actors-begin : (b : Book) (s : Bytes) (r : Rules) → readRules b s ≡ accepted r → (c v : Bytes) → v ∈ actorsOf r c → BeginsWithByte v
-unfolding actorsOf
-actors-begin b s r e c v i =
-    let j = joined-e (λ (x : Category). pick (same (x .name) c) (x .actors) []) (r .categories) v i in
-    rules-hold b s r e .actors (j .0) (j .1) v (some (same (j .0 .name) c) (j .2))
-  where
-    some : {l : List Bytes} (t : Bool) → v ∈ pick t l [] → v ∈ l
-    some true k = k
-    some false k = elim k [ ]
 
 -- an enforced policy is a policy of the rules, with the actors of its own category
 pub asked-policy : (r : Rules) (x : Request) (a : Asked) → a ∈ askedPolicies r x → (p : Policy) × (p ∈ r .policies) × (a ≡ record { text = p .text; actors = actorsOf r (p .category) })

@@ -1,16 +1,16 @@
 -- Texts of allowed bytes, and their parts.
-use Prim.Native.Nat.{ℕ, zero, suc, _+_, _<_, _≤_}
+use Prim.Native.Nat.{ℕ, zero, suc, _+_, _≤_}
 use mathlib.Core.Path.{_≡_, refl, subst}
 use mathlib.Core.Logic.{⊎-elim}
 use mathlib.Core.List.{List, [], _∷_, _++_}
 use mathlib.Core.Bool.{Bool, true, _&&_, _||_, false}
 use native.Mathlib.Omega.{arith}
-use lib.ListN.{drop, getD}
+use lib.ListN.{drop}
 use lib.Dec.{T, leb, eqb, leb→le, le→leb, eqb→eq}
 use Rattle.model.specs.Bytes.{Bytes}
 use Rattle.model.specs.Choice.{pick, Maybe, nothing, just}
 use Rattle.model.specs.Lists.{all}
-use Rattle.model.specs.Words.{between, isLetter, isDigit, isWordByte, run, before}
+use Rattle.model.specs.Words.{between, isLetter, isDigit, isWordByte, before}
 use Rattle.model.specs.Lines.{isAllowed, badLine, Line, addByte, linesOf}
 use Rattle.model.specs.Graph.{Each}
 use Rattle.model.proofs.Decides.{and-iff, pick-iff, or-l, or-cases}
@@ -100,21 +100,6 @@ unfolding isWordByte
 word-byte-allowed b t = ⊎-elim
     (λ u. ⊎-elim (λ w. let r = letter-e b w in allowed-i b (omega arith) (omega arith)) (λ w. let r = digit-e b w in allowed-i b (omega arith) (omega arith)) (or-cases (isLetter b) (isDigit b) u))
     (λ u. let r = eqb→eq b 95 u in allowed-i b (omega arith) (omega arith)) (or-cases (isLetter b || isDigit b) (eqb b 95) t)
-
--- an allowed byte is a byte
-allowed-byte : (b : ℕ) → T (isAllowed b) → b < 256
-unfolding isAllowed
-allowed-byte b t = ⊎-elim (λ u. let r = leb→le b 126 (and-iff (leb 32 b) (leb b 126) .1 u .1) in omega arith) (λ u. let r = eqb→eq b 10 u in omega arith) (or-cases (leb 32 b && leb b 126) (eqb b 10) t)
-
--- a name that begins with a byte
-abbrev pub BeginsWithByte : Bytes → Type 0
-BeginsWithByte v = getD v 0 0 < 256
-
--- a word that is read begins with a byte
-pub word-begins-with-byte : (s : Bytes) → BeginsWithByte (run isWordByte s)
-unfolding run
-word-begins-with-byte [] = omega arith
-word-begins-with-byte (x ∷ s) = ⊎-elim (λ t. rw (is-true (isWordByte x) t) (allowed-byte x (word-byte-allowed x t))) (λ t. rw (is-false (isWordByte x) t) (omega arith)) (test (isWordByte x))
 
 -- the lines of a text of allowed bytes are of allowed bytes
 pub lines-allowed : (s : Bytes) → Allowed s → Each (λ l. Allowed (l .bytes)) (linesOf s)

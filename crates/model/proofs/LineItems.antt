@@ -1,29 +1,27 @@
--- What the items of a line of allowed bytes hold: words that begin with a byte, and policy texts of allowed bytes.
+-- What the items of a line of allowed bytes hold: policy texts of allowed bytes.
 use Prim.Native.Nat.{ℕ, zero, suc, _+_, _-_}
 use mathlib.Core.Path.{_≡_, refl, sym, ap, subst}
 use mathlib.Core.Logic.{⊎-elim}
 use mathlib.Core.List.{List, [], _∷_}
 use mathlib.Core.Bool.{Bool, true, _||_}
 use lib.ListN.{length, drop}
-use lib.Dec.{leb, eqb}
-use Rattle.model.specs.Bytes.{Bytes, same}
+use lib.Dec.{eqb}
+use Rattle.model.specs.Bytes.{Bytes}
 use Rattle.model.specs.Choice.{pick, Maybe, nothing, just, andThen}
-use Rattle.model.specs.Lists.{all, each}
-use Rattle.model.specs.Names.{mem}
+use Rattle.model.specs.Lists.{all}
 use Rattle.model.specs.Items.{Item, word, whole, text, quoted, list, Items, none, more, plainAt, isList, onward, onwardWith, listAt, asList, opens, itemAt, itemList, itemsOf, lineItems}
-use Rattle.model.specs.Words.{Got, isLetter, isDigit, isWordByte, run, wordAt, wholeAt, textAt, quotedAt, readAs, before}
+use Rattle.model.specs.Words.{Got, isLetter, isDigit, run, wordAt, wholeAt, textAt, quotedAt, readAs, before}
 use Rattle.model.specs.Lines.{Line, isAllowed}
-use Rattle.model.specs.Forms.{asWord, nameOf, neverNames, asName, asQuoted, first, formOf}
-use Rattle.model.specs.ReadRules.{namesAfter}
+use Rattle.model.specs.Forms.{asQuoted, first, formOf}
 use Rattle.model.specs.Graph.{Each}
 use Rattle.model.proofs.Decides.{pick-iff}
 use Rattle.model.proofs.Outcomes.{no-just, then-e, pick-e}
-use Rattle.model.proofs.AllowedBytes.{Allowed, BeginsWithByte, word-begins-with-byte, all-before, all-drop}
+use Rattle.model.proofs.AllowedBytes.{Allowed, all-before, all-drop}
 
--- every word of an item begins with a byte, and every policy text is of allowed bytes
+-- every policy text of an item is of allowed bytes
 mutual
   pub FitItem : Item → Type 0
-  FitItem (word w) = BeginsWithByte w
+  FitItem (word w) = Unit {0}
   FitItem (whole n) = Unit {0}
   FitItem (text t) = Unit {0}
   FitItem (quoted t) = Allowed t
@@ -41,13 +39,6 @@ unfolding readAs
 read-e f nothing g e = no-just g e
 read-e f (just a) g e = let d : record { got = f (a .got); size = a .size } ≡ g = cc in (a, refl, sym (ap (λ z. z .got) d))
 
-word-begins : (s : Bytes) (g : Got Bytes) → wordAt s ≡ just g → BeginsWithByte (g .got)
-unfolding wordAt
-word-begins s g e =
-    let w = run isWordByte s in
-    ⊎-elim (λ h. let d : _≡_ {A = Got Bytes} (record { got = w; size = length w }) g = cc in subst (λ (z : Got Bytes). BeginsWithByte (z .got)) d (word-begins-with-byte s)) (λ h. no-just g h)
-    (pick-e (leb (length w) 24) (just (record { got = w; size = length w })) nothing g e)
-
 quoted-allowed : (s : Bytes) (g : Got Bytes) → Allowed s → quotedAt s ≡ just g → Allowed (g .got)
 unfolding quotedAt
 quoted-allowed s g h e =
@@ -63,7 +54,7 @@ plain-fits (b ∷ s) g a e =
     let q = pick (eqb b 34) (readAs quoted (quotedAt s)) nothing in
     let t = pick (eqb b 39) (readAs text (textAt s)) q in
     let n = pick (isDigit b || eqb b 45) (readAs whole (wholeAt (b ∷ s))) t in
-    ⊎-elim (λ h. let r = read-e word (wordAt (b ∷ s)) g h in subst FitItem (sym (r .2)) (word-begins (b ∷ s) (r .0) (r .1)))
+    ⊎-elim (λ h. let r = read-e word (wordAt (b ∷ s)) g h in subst FitItem (sym (r .2)) tt)
     (λ h. ⊎-elim (λ k. let r = read-e whole (wholeAt (b ∷ s)) g k in subst FitItem (sym (r .2)) tt)
     (λ k. ⊎-elim (λ u. let r = read-e text (textAt s) g u in subst FitItem (sym (r .2)) tt)
     (λ u. ⊎-elim (λ v. let r = read-e quoted (quotedAt s) g v in subst FitItem (sym (r .2)) (quoted-allowed s (r .0) (pick-iff (isAllowed b) (all isAllowed s) .1 a .1) (r .1))) (λ v. no-just g v)
@@ -142,39 +133,12 @@ pub form-fits : (l : Line) (is : List Item) → Allowed (l .bytes) → formOf l 
 unfolding formOf
 form-fits l is a e = ⊎-elim (line-fits (l .bytes) is a) (λ h. no-just is h) (pick-e (l .ended) (lineItems (l .bytes)) nothing is e)
 
--- names
-name-begins : (i : Item) (w : Bytes) → FitItem i → asName i ≡ just w → BeginsWithByte w
-unfolding asName asWord nameOf andThen FitItem
-name-begins (word v) w h e = ⊎-elim (λ d. no-just w d) (λ d. let c : v ≡ w = cc in subst BeginsWithByte c h) (pick-e (mem v neverNames) nothing (just v) w e)
-name-begins (whole n) w h e = no-just w e
-name-begins (text t) w h e = no-just w e
-name-begins (quoted t) w h e = no-just w e
-name-begins (list is) w h e = no-just w e
-
-names-begin : (is : List Item) (ws : List Bytes) → FitAll is → each asName is ≡ just ws → Each BeginsWithByte ws
-unfolding each
-names-begin [] ws h e = let d : _≡_ {A = List Bytes} [] ws = cc in subst (Each BeginsWithByte) d tt
-names-begin (i ∷ is) ws h e =
-    let r = then-e (asName i) (λ y. andThen (each asName is) (λ ys. just (y ∷ ys))) ws e in
-    let q = then-e (each asName is) (λ ys. just (r .0 ∷ ys)) ws (r .2) in
-    let z : _≡_ {A = Maybe (List Bytes)} (just (r .0 ∷ q .0)) (just ws) = q .2 in
-    let d : _≡_ {A = List Bytes} (r .0 ∷ q .0) ws = cc in
-    subst (Each BeginsWithByte) d (name-begins i (r .0) (h .0) (r .1), names-begin is (q .0) (h .1) (q .1))
-
 -- the first item that was read, and the rest
 pub first-e : {A B : Type 0} (read : Item → Maybe A) (is : List Item) (f : A → List Item → Maybe B) (y : B) → FitAll is → first read is f ≡ just y
     → (i : Item) × (js : List Item) × (a : A) × FitItem i × FitAll js × (read i ≡ just a) × (f a js ≡ just y)
 unfolding first
 first-e read [] f y h e = no-just y e
 first-e read (i ∷ is) f y h e = let r = then-e (read i) (λ a. f a is) y e in (i, is, r .0, h .0, h .1, r .1, r .2)
-
--- the names of a list (HEAD NAME...) begin with a byte
-pub after-begin : (head : Bytes) (i : Item) (ws : List Bytes) → FitItem i → namesAfter head i ≡ just ws → Each BeginsWithByte ws
-unfolding namesAfter
-after-begin head i ws h e =
-    let r = then-e (itemsOf i) _ ws e in
-    let q = first-e asWord (r .0) _ ws (itemsOf-fits i (r .0) h (r .1)) (r .2) in
-    ⊎-elim (λ d. names-begin (q .1) ws (q .4) d) (λ d. no-just ws d) (pick-e (same (q .2) head) (each asName (q .1)) nothing ws (q .6))
 
 -- the bytes of a policy text are allowed
 pub policy-text-allowed : (i : Item) (t : Bytes) → FitItem i → asQuoted i ≡ just t → Allowed t
