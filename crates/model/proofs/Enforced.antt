@@ -10,6 +10,7 @@ use Rattle.model.specs.Bytes.{Bytes, same}
 use Rattle.model.specs.Choice.{pick, nothing, andThen}
 use Rattle.model.specs.Lists.{isNil, any, all, keep}
 use Rattle.model.specs.Names.{mem}
+pub use Rattle.model.specs.Rules.{Reaches, itself, over}
 use Rattle.model.specs.Rules.{Category, Policy, Rules, categoryNames, stepDown, stepsDown, downFrom, enforced}
 use Rattle.model.specs.Refusal.{accepted, refusal, onAccept}
 use Rattle.model.specs.Lines.{Line, linesOf, Step, known, readLines}
@@ -23,11 +24,6 @@ use Rattle.model.proofs.Members.{_∈_, test, is-true, is-false, each-e
 use Rattle.model.proofs.Faults.{step-known}
 use Rattle.model.proofs.Closures.{Within, step, steps, holds-after, steps-keep, closed}
 use Rattle.model.proofs.Outcomes.{never, bytes-e, accept-e, lowest-e, lines-inv}
-
--- a category reaches itself, and each declared category that one it reaches is over
-pub data Reaches (r : Rules) (c : Bytes) : Bytes → Type 0 where
-  itself : Reaches r c c
-  over : {d : Category} {e : Bytes} → Reaches r c (d .name) → d ∈ r .categories → e ∈ d .over → e ∈ categoryNames r → Reaches r c e
 
 -- elements kept by what f gives of them
 map-keep : {A B : Type 0} (f : A → B) (p : B → Bool) (l : List A) → map f (keep (λ x. p (f x)) l) ≡ keep p (map f l)

@@ -10,13 +10,10 @@ use Rattle.model.specs.Choice.{pick, Maybe, nothing, just}
 use Rattle.model.specs.Refusal.{Refusal, Outcome, accepted, refused, onAccept, refusal, refusedIf, Row, lowest}
 use Rattle.model.specs.Lines.{Line, Step, fault, known, stepThen, readLines, faultOr, formStep}
 use Rattle.model.specs.Graph.{Each}
+pub use Rattle.model.specs.Refused.{returned}
 use Rattle.model.proofs.Members.{test, is-true, is-false, each-e, each-i}
 use Rattle.model.proofs.Pairwise.{Pairwise}
 use Rattle.model.proofs.Outcomes.{never}
-
--- returned (number, text, line)
-abbrev pub returned : ℕ → ℕ → ℕ → Refusal
-returned n t l = record { number = n; text = t; line = l }
 
 refused-is : {A : Type 0} (f g : Refusal) → (_≡_ {A = Outcome A} (refused g) (refused f)) ↔ (f ≡ g)
 refused-is f g = (λ e. cc, λ e. ap refused (sym e))

@@ -15,14 +15,15 @@ use Rattle.model.specs.Book.{Book}
 use Rattle.model.specs.QueryText.{QueryText}
 use Rattle.model.specs.Rules.{Rules}
 use Rattle.model.specs.Request.{Identity, Request}
-use Rattle.model.specs.Weave.{wovenTooMany, tied, wovenFault, askedQuery, askedPolicies, weave, WovenPattern}
+use Rattle.model.specs.Weave.{wovenTooMany, tied, wovenFault, WovenPattern}
 use Rattle.model.specs.Service.{listFound}
 use Rattle.model.proofs.Decides.{pick-iff}
 use Rattle.model.proofs.Members.{_∈_, test, below-i, below-e}
-use Rattle.model.proofs.Faults.{returned}
 use Rattle.model.proofs.TextRefusals.{book-is-text-1, rules-are-text-2, query-is-text-3, request-is-text-4}
-use Rattle.model.proofs.Refusals.{Exactly, memory-short, in-book, book-first, in-rules, AllRead, ListTable, rules-first, in-query, in-request, in-woven, no-room, wovenNumber, rowsFor, found-table}
-use Rattle.model.proofs.Tied.{IsVertex, TiedTo, tied-by-path, memℕ-e, memℕ-i}
+use Rattle.model.proofs.Refusals.{found-table}
+use Rattle.model.proofs.Tied.{tied-by-path, memℕ-e, memℕ-i}
+use Rattle.model.specs.Tied.{IsVertex, TiedTo, Untied}
+use Rattle.model.specs.Refused.{returned, Exactly, memory-short, in-book, book-first, in-rules, AllRead, ListTable, rules-first, in-query, in-request, in-woven, no-room, woven, wovenNumber, rowsFor}
 
 -- a test that does not hold everywhere fails somewhere
 fails-somewhere : {A : Type 0} (p : A → Bool) (l : List A) → (T (all p l) → ⊥) → (x : A) × (x ∈ l) × (T (p x) → ⊥)
@@ -36,10 +37,6 @@ fails-not-all : {A : Type 0} (p : A → Bool) (l : List A) (x : A) → x ∈ l �
 unfolding all
 fails-not-all p [] x m h t = elim m [ ]
 fails-not-all p (y ∷ l) x m h t = let u = pick-iff (p y) (all p l) .1 t in ⊎-elim (λ e. h (subst (λ z. T (p z)) (sym e) (u .0))) (λ n. fails-not-all p l x n h (u .1)) (mathlib.Core.List.List·Memᴰ·cases-cons m)
-
--- a vertex that is not tied to an identity
-abbrev pub Untied : WovenPattern → List Identity → Type 0
-Untied p ids = (v : ℕ) × IsVertex p v × (TiedTo p ids v → ⊥)
 
 -- the number given where limits are passed or not, and every vertex is tied or not
 abbrev number : Bool → Bool → Maybe ℕ
@@ -86,10 +83,6 @@ module _ (p : WovenPattern) (ids : List Identity) where
       go true c e = inl (cc)
       go false true e = let z : _≡_ {A = ℕ} 0 1 = cc in absurd (omega arith)
       go false false e = inr (cc)
-
--- the pattern woven for a query and a request
-abbrev pub woven : Rules → QueryText → Request → WovenPattern
-woven r q x = weave (askedQuery r x q ∷ askedPolicies r x)
 
 module _ (work words : ℕ) (book rules query request : Bytes) where
   -- all four texts are read, and this holds of what they say

@@ -2,7 +2,7 @@
 use Prim.Native.Nat.{ℕ, zero, suc, _<_}
 use mathlib.Core.Path.{_≡_, refl, sym, ap, subst}
 use mathlib.Core.Logic.{_⊎_, inl, inr, ⊎-elim, _≢_}
-use mathlib.Core.List.{List, [], _∷_, map, List·Memᴰ, List·Memᴰ·head, List·Memᴰ·tail, List·Memᴰ·cases-cons as cases-cons, List·Memᴰ·append-cases as append-cases, Memᴰ·append-left, Memᴰ·append-right}
+use mathlib.Core.List.{List, [], _∷_, map, List·Memᴰ·head, List·Memᴰ·tail, List·Memᴰ·cases-cons as cases-cons, List·Memᴰ·append-cases as append-cases, Memᴰ·append-left, Memᴰ·append-right}
 use mathlib.Core.Bool.{Bool, true, false}
 use native.Mathlib.Omega.{arith}
 use lib.ListN.{getD}
@@ -12,11 +12,7 @@ use Rattle.model.specs.Lists.{any, all, keep, joined, upTo, below, place
 use Rattle.model.specs.Names.{mem, place, firsts}
 use Rattle.model.specs.Graph.{Each}
 use Rattle.model.proofs.Decides.{each-all, same→eq, same-refl}
-
--- an element of a list
-infix 40 _∈_
-abbrev pub _∈_ : {A : Type 0} → A → List A → Type 0
-a ∈ l = List·Memᴰ a l
+pub use Rattle.model.specs.Lists.{_∈_}
 
 -- a test with its answer
 pub test : (b : Bool) → T b ⊎ (T b → ⊥)

@@ -7,12 +7,8 @@ use mathlib.Core.Bool.{Bool}
 use native.Mathlib.Omega.{arith}
 use Rattle.model.specs.Lists.{keep, joined, upTo, below}
 use Rattle.model.specs.Graph.{Each}
+pub use Rattle.model.specs.RowOrder.{Pairwise}
 use Rattle.model.proofs.Members.{_∈_, test, is-true, is-false, each-e, each-i, keep-e, map-e, joined-e}
-
--- a relation holds between each element of a list and every later one
-abbrev pub Pairwise : {A : Type 0} → (A → A → Type 0) → List A → Type 0
-Pairwise R [] = Unit {0}
-Pairwise R (x ∷ xs) = Each (R x) xs × Pairwise R xs
 
 module _ {A : Type 0} (R : A → A → Type 0) where
   pairwise-append : (l k : List A) → Pairwise R l → Pairwise R k → ((x y : A) → x ∈ l → y ∈ k → R x y) → Pairwise R (l ++ k)

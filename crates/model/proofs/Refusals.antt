@@ -21,16 +21,11 @@ use Rattle.model.specs.Request.{Request, readRequest}
 use Rattle.model.specs.Weave.{askedQuery, askedPolicies, weave, wovenFault}
 use Rattle.model.specs.Rows.{rowsOf}
 use Rattle.model.specs.Service.{withWork, bookService, rulesService, queryService, requestService, writerText, writerService, FoundRows, listFound, listRows, listService}
+use Rattle.model.specs.Refused.{returned, Exactly, BookTable, memory-short, in-book, BookRead, RulesTable, book-first, in-rules, RulesRead, QueryTable, in-query, RequestTable, rules-first, in-request, WriterTable, no-room, AllRead, wovenNumber, rowsFor, foundFor, ListTable, in-woven}
 use Rattle.model.proofs.Members.{test, is-true, is-false}
-use Rattle.model.proofs.Faults.{returned, over-refused, number-refused, need-refused}
+use Rattle.model.proofs.Faults.{over-refused, number-refused, need-refused}
 use Rattle.model.proofs.Outcomes.{never, accept-e, if-e}
 use Rattle.model.proofs.Decides.{or-l, or-r, or-cases}
-
--- an answer is refused exactly by a table, accepted exactly if the table gives no refusal, and the table never gives two
-pub record Exactly {A : Type 0} (answer : Outcome A) (Table : Refusal → Type 0) : Type 0 where
-  pub refused-if : (f : Refusal) → (answer ≡ refused f) ↔ Table f
-  pub accepted-if : ((a : A) × (answer ≡ accepted a)) ↔ ((f : Refusal) → Table f → ⊥)
-  pub one-refusal : (f g : Refusal) → Table f → Table g → f ≡ g
 
 exactly : {A : Type 0} (answer : Outcome A) (Table : Refusal → Type 0) → ((f : Refusal) → (answer ≡ refused f) ↔ Table f) → Exactly answer Table
 exactly {A} answer Table h = record {
@@ -42,67 +37,6 @@ exactly {A} answer Table h = record {
     other : (o : Outcome A) → answer ≡ o → ((f : Refusal) → Table f → ⊥) → (a : A) × (answer ≡ accepted a)
     other (accepted a) e n = (a, e)
     other (refused f) e n = absurd (n f (h f .0 e))
-
--- the book reader: 15, then the book's own
-pub data BookTable (work : ℕ) (book : Bytes) (f : Refusal) : Type 0 where
-  memory-short : work < 16384 → f ≡ returned 15 0 0 → BookTable work book f
-  in-book : 16384 ≤ work → readBook book ≡ refused f → BookTable work book f
-
--- memory is whole and the book is read
-pub record BookRead (work : ℕ) (book : Bytes) (b : Book) : Type 0 where
-  pub memory-whole : 16384 ≤ work
-  pub book-read : readBook book ≡ accepted b
-
--- the rules reader: what the book reader refuses, then the rules' own
-pub data RulesTable (work : ℕ) (book rules : Bytes) (f : Refusal) : Type 0 where
-  book-first : BookTable work book f → RulesTable work book rules f
-  in-rules : {b : Book} → BookRead work book b → readRules b rules ≡ refused f → RulesTable work book rules f
-
--- the book and the rules are read
-pub record RulesRead (work : ℕ) (book rules : Bytes) (b : Book) (r : Rules) : Type 0 where
-  pub book-before : BookRead work book b
-  pub rules-read : readRules b rules ≡ accepted r
-
--- the query reader: what the book reader refuses, then the query's own
-pub data QueryTable (work : ℕ) (book query : Bytes) (f : Refusal) : Type 0 where
-  book-first : BookTable work book f → QueryTable work book query f
-  in-query : {b : Book} → BookRead work book b → readQuery b query ≡ refused f → QueryTable work book query f
-
--- the request reader: what the rules reader refuses, then the request's own
-pub data RequestTable (work : ℕ) (book rules request : Bytes) (f : Refusal) : Type 0 where
-  rules-first : RulesTable work book rules f → RequestTable work book rules request f
-  in-request : {b : Book} {r : Rules} → RulesRead work book rules b r → readRequest b r request ≡ refused f → RequestTable work book rules request f
-
--- the query writer: what the rules reader refuses, then the query's own, then 14 for a text over its buffer or 2,048 bytes
-pub data WriterTable (work room : ℕ) (book rules query : Bytes) (f : Refusal) : Type 0 where
-  rules-first : RulesTable work book rules f → WriterTable work room book rules query f
-  in-query : {b : Book} {r : Rules} → RulesRead work book rules b r → readQuery b query ≡ refused f → WriterTable work room book rules query f
-  no-room : {b : Book} {r : Rules} {q : QueryText} → RulesRead work book rules b r → readQuery b query ≡ accepted q
-      → (room < length (writtenQuery (patternOf q))) ⊎ (2048 < length (writtenQuery (patternOf q))) → f ≡ returned 14 3 1 → WriterTable work room book rules query f
-
--- all four texts are read
-pub record AllRead (work : ℕ) (book rules query request : Bytes) (b : Book) (r : Rules) (q : QueryText) (x : Request) : Type 0 where
-  pub rules-before : RulesRead work book rules b r
-  pub query-read : readQuery b query ≡ accepted q
-  pub request-read : readRequest b r request ≡ accepted x
-
--- the fault of the woven pattern, 12 or 13
-abbrev pub wovenNumber : Rules → QueryText → Request → Maybe ℕ
-wovenNumber r q x = wovenFault (weave (askedQuery r x q ∷ askedPolicies r x)) (x .identities)
-
--- the rows that may be had
-abbrev pub rowsFor : Book → Rules → QueryText → Request → List (List ℕ)
-rowsFor b r q x = rowsOf b (x .identities) (askedQuery r x q) (askedPolicies r x)
-
--- the list: what the rules reader refuses, then the query's own, the request's own, 12 or 13, and 14 if rows times Return names exceed the words
-pub data ListTable (work words : ℕ) (book rules query request : Bytes) (f : Refusal) : Type 0 where
-  rules-first : RulesTable work book rules f → ListTable work words book rules query request f
-  in-query : {b : Book} {r : Rules} → RulesRead work book rules b r → readQuery b query ≡ refused f → ListTable work words book rules query request f
-  in-request : {b : Book} {r : Rules} {q : QueryText} → RulesRead work book rules b r → readQuery b query ≡ accepted q → readRequest b r request ≡ refused f → ListTable work words book rules query request f
-  in-woven : {b : Book} {r : Rules} {q : QueryText} {x : Request} {n : ℕ} → AllRead work book rules query request b r q x → wovenNumber r q x ≡ just n → f ≡ returned n 5 0
-      → ListTable work words book rules query request f
-  no-room : {b : Book} {r : Rules} {q : QueryText} {x : Request} → AllRead work book rules query request b r q x → wovenNumber r q x ≡ nothing
-      → words < length (rowsFor b r q x) * length (q .returns) → f ≡ returned 14 5 0 → ListTable work words book rules query request f
 
 -- what a service gives behind the book
 after-book : {A : Type 0} (work : ℕ) (book : Bytes) (g : Book → Outcome A) (f : Refusal)
@@ -197,10 +131,6 @@ writer-table work room book rules query = exactly _ (WriterTable work room book 
       need-refused (readQuery b query) _ f .1
           (inr (q, e, either-refused room 2048 (length (writtenQuery (patternOf q))) (returned 14 3 1) (writtenQuery (patternOf q)) f .1 (l, d))),
     ))
-
--- the rows found for four texts that are read
-abbrev pub foundFor : Book → Rules → QueryText → Request → FoundRows
-foundFor b r q x = record { rows = rowsFor b r q x; width = length (q .returns) }
 
 -- behind the four texts the list gives this refusal
 abbrev Behind : ℕ → Book → Rules → QueryText → Request → Refusal → Type 0

@@ -23,9 +23,10 @@ use Rattle.model.specs.Rules.{Category, Rules}
 use Rattle.model.specs.ReadRules.{RulesLine, rulesLine, hasPolicy, rulesFault, addRule, rulesStep, covered, readRules}
 use Rattle.model.specs.Request.{Request, RequestLine, requestLine, requestFault, requestOf, requestStep, oneLine, readRequest}
 use Rattle.model.specs.Graph.{Each}
+use Rattle.model.specs.Refused.{returned}
 use Rattle.model.proofs.Decides.{and-iff}
 use Rattle.model.proofs.Members.{_∈_, test, is-true, is-false, any-e, any-i}
-use Rattle.model.proofs.Faults.{returned, over-refused, number-refused, need-refused, step-fault, AtLine, first-line}
+use Rattle.model.proofs.Faults.{over-refused, number-refused, need-refused, step-fault, AtLine, first-line}
 
 -- a number of line feeds
 abbrev pub lineFeeds : Bytes → ℕ

@@ -1,5 +1,5 @@
 -- The vertices tied to an identity are exactly those from which a path of edges, either way along each, leads to a vertex that has one.
-use Prim.Native.Nat.{ℕ, zero, suc, _+_, _<_}
+use Prim.Native.Nat.{ℕ, zero, suc, _+_}
 use mathlib.Core.Path.{_≡_, refl, sym, subst, _∙_}
 use mathlib.Core.Logic.{_⊎_, inl, inr, ⊎-elim, _↔_}
 use mathlib.Core.List.{List, [], _∷_}
@@ -15,27 +15,7 @@ use Rattle.model.proofs.Decides.{and-iff, or-l, or-r, or-cases}
 use Rattle.model.proofs.Members.{_∈_, any-e, any-i, keep-e, keep-i, below-i, below-e}
 use Rattle.model.proofs.WovenVertices.{identified-exactly}
 use Rattle.model.proofs.Closures.{Within, steps, holds-after, steps-keep, closed}
-
--- a number is the number of a vertex
-abbrev pub IsVertex : WovenPattern → ℕ → Type 0
-IsVertex p v = v < length (p .vertices)
-
--- an edge joins two vertices, whichever way it runs
-abbrev pub Joins : Edge → ℕ → ℕ → Type 0
-Joins e v u = ((v ≡ e .from) × (u ≡ e .to)) ⊎ ((v ≡ e .to) × (u ≡ e .from))
-
--- a path of edges from a vertex to another, either way along each
-pub data Path (p : WovenPattern) : ℕ → ℕ → Type 0 where
-  here : {v : ℕ} → IsVertex p v → Path p v v
-  along : {v u w : ℕ} {e : Edge} → IsVertex p v → e ∈ p .edges → Joins e v u → Path p u w → Path p v w
-
--- a vertex has an identity: it is the actor vertex of the name of one
-abbrev pub HasIdentity : WovenPattern → List Identity → ℕ → Type 0
-HasIdentity p ids v = IsVertex p v × ((i : Identity) × (i ∈ ids) × (getD (p .vertices) v noVertex ≡ actor (i .actor)))
-
--- a vertex is tied to an identity: a path leads to a vertex that has one
-abbrev pub TiedTo : WovenPattern → List Identity → ℕ → Type 0
-TiedTo p ids v = (w : ℕ) × HasIdentity p ids w × Path p v w
+use Rattle.model.specs.Tied.{IsVertex, Joins, Path, here, along, HasIdentity, TiedTo}
 
 -- the test of membership says that a number is one of a list
 pub memℕ-e : (n : ℕ) (ns : List ℕ) → T (memℕ n ns) → n ∈ ns

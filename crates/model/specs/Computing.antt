@@ -1,4 +1,5 @@
 -- What unfolds where a closed text is computed: to unfold `computing` is to unfold every definition of the model.
+-- Nothing to believe: this file defines nothing of the paper.
 use Prim.Native.Nat.{ℕ}
 use Rattle.model.specs.Choice.{andThen}
 use Rattle.model.specs.Bytes.{same}

@@ -26,9 +26,12 @@ pub mod Graph
 pub mod Models
 pub mod Satisfies
 pub mod Weave
+pub mod Tied
 pub mod MayHave
 pub mod Rows
+pub mod RowOrder
 pub mod Service
+pub mod Refused
 pub mod Printed
 pub mod Answers
 pub mod PlainData
@@ -36,4 +39,5 @@ pub mod RequestPlaces
 pub mod RequestAnswer
 pub mod Places
 pub mod WholeAnswers
+pub mod Demands
 pub mod Computing

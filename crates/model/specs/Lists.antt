@@ -1,9 +1,14 @@
 -- Lists: tests over them, what passes a test, numbers below a bound, first appearances.
 use Prim.Native.Nat.{ℕ, zero, suc, _+_}
-use mathlib.Core.List.{List, [], _∷_, _++_}
+use mathlib.Core.List.{List, [], _∷_, _++_, List·Memᴰ}
 use mathlib.Core.Bool.{Bool, true, false}
 use lib.Dec.{eqb}
 use Rattle.model.specs.Choice.{pick, Maybe, just, andThen}
+
+-- an element of a list
+infix 40 _∈_
+abbrev pub _∈_ : {A : Type 0} → A → List A → Type 0
+a ∈ l = List·Memᴰ a l
 
 -- a list has no element
 unfoldable pub isNil : {A : Type 0} → List A → Bool

@@ -5,7 +5,7 @@ use mathlib.Core.Bool.{_&&_, _||_}
 use lib.ListN.{length}
 use Rattle.model.specs.Bytes.{same}
 use Rattle.model.specs.Choice.{pick}
-use Rattle.model.specs.Lists.{any, keep, joined}
+use Rattle.model.specs.Lists.{any, keep, joined, _∈_}
 use Rattle.model.specs.Names.{Name, mem}
 use Rattle.model.specs.QueryText.{QueryText}
 
@@ -33,6 +33,13 @@ categoryNames r = map (λ c. c .name) (r .categories)
 unfoldable pub actorsOf : Rules → Name → List Name
 actorsOf r c = joined (λ x. pick (same (x .name) c) (x .actors) []) (r .categories)
 
+-- a category reaches itself, and each declared category that one it reaches is over
+pub data Reaches (r : Rules) (c : Name) : Name → Type 0 where
+  itself : Reaches r c c
+  over : {d : Category} {e : Name} → Reaches r c (d .name) → d ∈ r .categories → e ∈ d .over → e ∈ categoryNames r → Reaches r c e
+
+-- Nothing to believe: the next three count the categories that one reaches, and are proved to give exactly those
+
 -- one step down from some categories: these and those they are over, in rules order
 unfoldable pub stepDown : Rules → List Name → List Name
 stepDown r cs = map (λ c. c .name) (keep (λ c. mem (c .name) cs || any (λ d. mem (d .name) cs && mem (c .name) (d .over)) (r .categories)) (r .categories))
@@ -42,7 +49,7 @@ unfoldable pub stepsDown : ℕ → Rules → List Name → List Name
 stepsDown zero r cs = cs
 stepsDown (suc k) r cs = stepsDown k r (stepDown r cs)
 
--- a category and all it is over, directly or through others, in rules order
+-- a category and all it is over, directly or through others, in rules order: those that it reaches
 unfoldable pub downFrom : Rules → Name → List Name
 downFrom r c = stepsDown (length (r .categories)) r (c ∷ [])
 

@@ -114,6 +114,8 @@ unfoldable pub identifiedBy : WovenVertex → Identity → Bool
 identifiedBy (actor v) i = same v (i .actor)
 identifiedBy (own k v) i = false
 
+-- Nothing to believe: the next four count the vertices that are tied to an identity, and are proved to give exactly those of TiedTo
+
 -- the vertices that have an identity
 unfoldable pub withIdentity : WovenPattern → List Identity → List ℕ
 withIdentity p ids = keep (λ v. any (identifiedBy (getD (p .vertices) v noVertex)) ids) (below (length (p .vertices)))

@@ -1,5 +1,5 @@
--- Demand 3, from the contract of `list` alone: the row words hold every row that may be had, each once, ascending, and no other row, then all ones;
--- the answer is their number; and 14 is answered exactly if they do not fit and every other premise holds.
+-- Demand 3, from the contract of `list` alone, the record ListCalled: the row words hold every row that may be had, each once, ascending,
+-- and no other row, then all ones; the answer is their number and their width; 14 is answered exactly if they do not fit and every other premise holds.
 use Prim.Native.Nat.{ℕ, _-_, _*_, _<_, _≤_}
 use mathlib.Core.Path.{_≡_, refl, sym, ap, ap₂, subst, _∙_}
 use mathlib.Core.Logic.{_↔_, ⊎-elim}
@@ -17,48 +17,23 @@ use Rattle.model.specs.QueryText.{QueryText}
 use Rattle.model.specs.Rules.{Rules}
 use Rattle.model.specs.Request.{Request}
 use Rattle.model.specs.Service.{ones, FoundRows, ListAnswer, rowWords, listFound, listService}
+use Rattle.model.specs.Refused.{returned, rowsFor}
 use Rattle.model.specs.Answers.{listAnswer}
+use Rattle.model.specs.Demands.{ListCalled, Premises, HadRows, RowsDue, wordsNeeded, RowsGiven, DoNotFit}
 use Rattle.model.specs.Computing.{computing}
 use Rattle.model.specs.declared.RowsListed.{RowsListed}
-use Rattle.model.proofs.Faults.{returned, need-refused}
+use Rattle.model.proofs.Faults.{need-refused}
 use Rattle.model.proofs.Outcomes.{never, accept-e}
-use Rattle.model.proofs.Refusals.{rowsFor, list-given}
+use Rattle.model.proofs.Refusals.{list-given}
 use Rattle.model.proofs.ListRefusals.{found-14}
 use Rattle.model.proofs.Example as example
-use Rattle.service.proofs.PremiseLaws.{Premises, HadRows, premises-of, had-rows, only-list, rows-given}
+use Rattle.service.proofs.PremiseLaws.{premises-of, had-rows, only-list, rows-given}
 
--- what the contract of `list` says of a call: rows and work are the lent words before it, rows′ and work′ after it
-pub record Called (book rules query request : Bytes) (rows work rows′ work′ : List ℕ) (r : RowsListed) : Type 0 where
-  pub answer : listAnswer r ≡ listService (length work) (length rows) book rules query request .answer
-  pub rows-left : rows′ ≡ listService (length work) (length rows) book rules query request .rows
-  pub cleared : work′ ≡ ones (length work)
-
--- the rows stand in the words, one after another, then all ones; the answer is their number and their width
-pub record Listed (list : List (List ℕ)) (width words : ℕ) (rows′ : List ℕ) (r : RowsListed) : Type 0 where
-  pub their-number : listAnswer r ≡ accepted (record { rows = length list; width = width })
-  pub rows-then-ones : rows′ ≡ joined (λ row. row) list ++ ones (words - length (joined (λ row. row) list))
-
--- 14, and every row word is all ones
-pub record DoNotFit (words : ℕ) (rows′ : List ℕ) (r : RowsListed) : Type 0 where
-  pub fourteen : listAnswer r ≡ refused (returned 14 5 0)
-  pub all-ones : rows′ ≡ ones words
-
--- all premises hold, and list is the list of the rows that may be had
-pub record RowsDue (work : ℕ) (book rules query request : Bytes) (list : List (List ℕ)) : Type 0 where
-  pub b : Book
-  pub r : Rules
-  pub q : QueryText
-  pub x : Request
-  pub premises : Premises work book rules query request b r q x
-  pub had : HadRows b r q x list
-
-module _ (book rules query request : Bytes) (rows work rows′ work′ : List ℕ) (res : RowsListed) (call : Called book rules query request rows work rows′ work′ res) where
-  -- such a list for this call, and how many row words it asks for: rows times Return names
+module _ (book rules query request : Bytes) (rows work rows′ work′ : List ℕ) (res : RowsListed)
+    (call : ListCalled book rules query request rows work rows′ work′ res) where
+  -- the rows that are due to this call
   abbrev pub Due : List (List ℕ) → Type 0
   Due list = RowsDue (length work) book rules query request list
-
-  abbrev pub needed : (list : List (List ℕ)) → Due list → ℕ
-  needed list a = length list * length (a .q .returns)
 
   abbrev found : Outcome FoundRows
   found = listFound (length work) (length rows) book rules query request
@@ -67,30 +42,31 @@ module _ (book rules query request : Bytes) (rows work rows′ work′ : List �
   answerOf f = accepted (record { rows = length (f .rows); width = f .width })
 
   -- where the premises hold there is such a list
-  pub rows-that-may-be-had : (b : Book) (r : Rules) (q : QueryText) (x : Request) → Premises (length work) book rules query request b r q x → (list : List (List ℕ)) × HadRows b r q x list
+  pub rows-that-may-be-had : (b : Book) (r : Rules) (q : QueryText) (x : Request) → Premises (length work) book rules query request b r q x
+      → (list : List (List ℕ)) × HadRows b r q x list
   rows-that-may-be-had b r q x h = (rowsFor b r q x, had-rows (length work) book rules query request b r q x h)
 
-  given : (list : List (List ℕ)) (a : Due list) → found ≡ pick (ltb (length rows) (needed list a)) (refusal 14 5 0) (accepted (record { rows = list; width = length (a .q .returns) }))
+  given : (list : List (List ℕ)) (a : Due list) → found ≡ pick (ltb (length rows) (wordsNeeded a)) (refusal 14 5 0) (accepted (record { rows = list; width = length (a .q .returns) }))
   given list a =
       let e = only-list (length work) book rules query request (a .b) (a .r) (a .q) (a .x) (a .premises) list (a .had) in
       rows-given (length work) book rules query request (a .b) (a .r) (a .q) (a .x) (a .premises) (length rows)
       ∙ ap (λ (l : List (List ℕ)). pick (ltb (length rows) (length l * length (a .q .returns))) (refusal 14 5 0) (accepted (record { rows = l; width = length (a .q .returns) }))) (sym e)
 
   -- the theorem: the rows that may be had are listed if they fit, and 14 is answered if they do not
-  pub listed-if-they-fit : (list : List (List ℕ)) (a : Due list) → needed list a ≤ length rows → Listed list (length (a .q .returns)) (length rows) rows′ res
+  pub listed-if-they-fit : (list : List (List ℕ)) (a : Due list) → wordsNeeded a ≤ length rows → RowsGiven list (length (a .q .returns)) (length rows) rows′ res
   unfolding listService onAccept rowWords
   listed-if-they-fit list a l =
-      let e : found ≡ accepted (record { rows = list; width = length (a .q .returns) }) = given list a ∙ rw (le-ltb (length rows) (needed list a) l) in
-      record { their-number = call .answer ∙ rw e; rows-then-ones = call .rows-left ∙ rw e }
+      let e : found ≡ accepted (record { rows = list; width = length (a .q .returns) }) = given list a ∙ rw (le-ltb (length rows) (wordsNeeded a) l) in
+      record { number-and-width = call .answer ∙ rw e; rows-then-ones = call .rows-left ∙ rw e }
 
-  pub fourteen-if-they-do-not : (list : List (List ℕ)) (a : Due list) → length rows < needed list a → DoNotFit (length rows) rows′ res
+  pub fourteen-if-they-do-not : (list : List (List ℕ)) (a : Due list) → length rows < wordsNeeded a → DoNotFit (length rows) rows′ res
   unfolding listService onAccept rowWords refusal
   fourteen-if-they-do-not list a l =
-      let e : found ≡ refused (returned 14 5 0) = given list a ∙ rw (lt-ltb (length rows) (needed list a) l) in
+      let e : found ≡ refused (returned 14 5 0) = given list a ∙ rw (lt-ltb (length rows) (wordsNeeded a) l) in
       record { fourteen = call .answer ∙ rw e; all-ones = call .rows-left ∙ rw e }
 
   -- 14 exactly if they do not fit and every other premise holds
-  pub fourteen-exactly : (listAnswer res ≡ refused (returned 14 5 0)) ↔ ((list : List (List ℕ)) × (a : Due list) × (length rows < needed list a))
+  pub fourteen-exactly : (listAnswer res ≡ refused (returned 14 5 0)) ↔ ((list : List (List ℕ)) × (a : Due list) × (length rows < wordsNeeded a))
   unfolding listService
   fourteen-exactly = (
     λ e. let n = need-refused found answerOf (returned 14 5 0) .0 (sym (call .answer) ∙ e) in
@@ -103,7 +79,8 @@ module _ (book rules query request : Bytes) (rows work rows′ work′ : List �
 
   -- so many rows, so wide, exactly if they fit and every premise holds: as many as may be had, with a node's number for each Return name
   pub counted-exactly : (n w : ℕ)
-      → (listAnswer res ≡ accepted (record { rows = n; width = w })) ↔ ((list : List (List ℕ)) × (a : Due list) × (needed list a ≤ length rows) × (length list ≡ n) × (length (a .q .returns) ≡ w))
+      → (listAnswer res ≡ accepted (record { rows = n; width = w }))
+      ↔ ((list : List (List ℕ)) × (a : Due list) × (wordsNeeded a ≤ length rows) × (length list ≡ n) × (length (a .q .returns) ≡ w))
   unfolding listService
   counted-exactly n w = (
     λ e. let (f, d, m) = accept-e found answerOf (record { rows = n; width = w }) (sym (call .answer) ∙ e) in
@@ -119,7 +96,7 @@ module _ (book rules query request : Bytes) (rows work rows′ work′ : List �
         } in
         let same : _≡_ {A = ListAnswer} (record { rows = length (f .rows); width = f .width }) (record { rows = n; width = w }) = cc in
         (f .rows, a, g .fits, ap (λ (z : ListAnswer). z .rows) same, sym (ap (λ (z : FoundRows). z .width) (g .found-is)) ∙ ap (λ (z : ListAnswer). z .width) same),
-    λ (list, a, l, m, v). listed-if-they-fit list a l .their-number ∙ ap₂ (λ (i j : ℕ). accepted (record { rows = i; width = j })) m v,
+    λ (list, a, l, m, v). listed-if-they-fit list a l .number-and-width ∙ ap₂ (λ (i j : ℕ). accepted (record { rows = i; width = j })) m v,
   )
 
 -- Not vacuous: the paper's texts meet the premises,
@@ -134,7 +111,7 @@ premises-example = premises-of 16384 (bytesOf example.book) (bytesOf example.rul
 
 -- and a call on them, with two row words lent, answers one row of one name: that of S5, then all ones
 row-example : (rows work rows′ work′ : List ℕ) (res : RowsListed) → length rows ≡ 2 → length work ≡ 16384
-    → Called (bytesOf example.book) (bytesOf example.rules) (bytesOf example.query) (bytesOf example.request) rows work rows′ work′ res → (listAnswer res ≡ accepted (record { rows = 1; width = 1 })) × (rows′ ≡ 2 ∷ 4294967295 ∷ [])
+    → ListCalled (bytesOf example.book) (bytesOf example.rules) (bytesOf example.query) (bytesOf example.request) rows work rows′ work′ res → (listAnswer res ≡ accepted (record { rows = 1; width = 1 })) × (rows′ ≡ 2 ∷ 4294967295 ∷ [])
 unfolding computing
 row-example rows work rows′ work′ res m n call = (
   call .answer ∙ ap₂ (λ (i j : ℕ). listService i j (bytesOf example.book) (bytesOf example.rules) (bytesOf example.query) (bytesOf example.request) .answer) n m,

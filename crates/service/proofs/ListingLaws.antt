@@ -17,6 +17,7 @@ use Rattle.model.specs.ReadBook.{readBook}
 use Rattle.model.specs.Request.{Identity}
 use Rattle.model.specs.Service.{ones, FoundRows, ListAnswer, rowWords, listFound, listService}
 use Rattle.model.specs.Answers.{refusalOf, listAnswer}
+use Rattle.model.specs.Demands.{ListCalled}
 use Rattle.model.specs.declared.Refusal.{Refusal as RefusalData}
 use Rattle.model.specs.declared.RowsListed.{RowsListed}
 use Rattle.model.specs.declared.RowsListed.the-variants as answer
@@ -104,7 +105,8 @@ module _ (work words : ℕ) (book rules query request : Bytes) where
   unfolding listFound rowsFrom rowsOfRules rowsOfQuery rowsOfTexts
   list-enough h = enough work _ h
 
-  pub list-says : (after : List ℕ) (r : RowsListed) → Lists (listFound work words book rules query request) words after r
-      → (listAnswer r ≡ listService work words book rules query request .answer) × (after ≡ listService work words book rules query request .rows)
-  unfolding listService
-  list-says after r h = (h .answer, h .rows)
+-- what the call of the list promises
+pub list-called : (book rules query request : Bytes) (rows work rows′ work′ : List ℕ) (r : RowsListed)
+    → Lists (listFound (length work) (length rows) book rules query request) (length rows) rows′ r → work′ ≡ ones (length work) → ListCalled book rules query request rows work rows′ work′ r
+unfolding listService
+list-called book rules query request rows work rows′ work′ r h c = record { answer = h .answer; rows-left = h .rows; cleared = c }

@@ -1,4 +1,4 @@
--- The premises of a list: memory whole, four texts accepted, no woven limit passed, every woven vertex tied to an identity; and what the list then gives.
+-- What a list gives where its premises hold: exactly the rows that may be had, or 14 where they do not fit.
 use Prim.Native.Nat.{ℕ, _*_}
 use mathlib.Core.Path.{_≡_, refl}
 use mathlib.Core.Logic.{_↔_}
@@ -17,18 +17,18 @@ use Rattle.model.specs.QueryText.{QueryText}
 use Rattle.model.specs.Rules.{Rules}
 use Rattle.model.specs.Request.{Identity, Request}
 use Rattle.model.specs.Weave.{WovenPattern, askedQuery, askedPolicies, tied, wovenTooMany, wovenFault}
-use Rattle.model.specs.MayHave.{MayHave}
 use Rattle.model.specs.Service.{withWork, listFound}
-use Rattle.model.proofs.Members.{_∈_, all-e, all-i, below-i, below-e}
-use Rattle.model.proofs.Tied.{IsVertex, TiedTo, tied-by-path, memℕ-e, memℕ-i}
+use Rattle.model.proofs.Members.{all-e, all-i, below-i, below-e}
+use Rattle.model.proofs.Tied.{tied-by-path, memℕ-e, memℕ-i}
 use Rattle.model.proofs.AcceptedQuery.{query-named}
 use Rattle.model.proofs.Accepted.{policies-named}
 use Rattle.model.proofs.RowsHad.{rows-may-be-had}
-use Rattle.model.proofs.Ascending.{Ascending, NoneTwice, rows-ascend, ascending-none-twice}
-use Rattle.model.proofs.Refusals.{AllRead, wovenNumber, rowsFor, foundFor}
-use Rattle.model.proofs.ListRefusals.{woven}
+use Rattle.model.proofs.Ascending.{rows-ascend, ascending-none-twice}
 use Rattle.rows.specs.SortedLaws.{same-list}
 use Rattle.service.proofs.AskedLaws.{ascending-sorted}
+use Rattle.model.specs.Tied.{IsVertex, TiedTo}
+use Rattle.model.specs.Refused.{AllRead, woven, wovenNumber, rowsFor, foundFor}
+use Rattle.model.specs.Demands.{Premises, HadRows}
 
 -- a woven pattern has no fault exactly if it passes no limit and each of its vertices is tied to an identity
 pub woven-clear : (p : WovenPattern) (ids : List Identity) → (wovenFault p ids ≡ nothing) ↔ ((T (wovenTooMany p) → ⊥) × ((v : ℕ) → IsVertex p v → TiedTo p ids v))
@@ -48,21 +48,6 @@ woven-clear p ids = (λ e. let u = go (wovenTooMany p) every .0 e in (u .0, each
     go true c = (λ e. let z : _≡_ {A = ℕ} 0 1 = cc in absurd (omega arith), λ u. absurd (u .0 tt))
     go false true = (λ e. (λ t. t, tt), λ u. refl)
     go false false = (λ e. let z : _≡_ {A = ℕ} 0 1 = cc in absurd (omega arith), λ u. absurd (u .1))
-
--- the premises of a list, its row words aside
-pub record Premises (work : ℕ) (book rules query request : Bytes) (b : Book) (r : Rules) (q : QueryText) (x : Request) : Type 0 where
-  -- working memory is whole, and the four texts are accepted as these
-  pub read : AllRead work book rules query request b r q x
-  -- no woven limit is passed
-  pub within-limits : T (wovenTooMany (woven r q x)) → ⊥
-  -- each woven vertex is tied to an identity
-  pub all-tied : (v : ℕ) → IsVertex (woven r q x) v → TiedTo (woven r q x) (x .identities) v
-
--- every row that may be had and no other row, ascending, each once
-pub record HadRows (b : Book) (r : Rules) (q : QueryText) (x : Request) (list : List (List ℕ)) : Type 0 where
-  pub every-row-and-no-other : (row : List ℕ) → (row ∈ list) ↔ MayHave b (x .identities) (askedQuery r x q) (askedPolicies r x) row
-  pub ascending : Ascending list
-  pub each-once : NoneTwice list
 
 module _ (work : ℕ) (book rules query request : Bytes) (b : Book) (r : Rules) (q : QueryText) (x : Request) where
   -- the premises are that the texts are read and that the woven pattern has no fault

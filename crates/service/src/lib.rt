@@ -2,17 +2,10 @@
 ghost use mathlib.Core.Path.{_≡_};
 ghost use lib.ListN.{length};
 ghost use Rattle.model.specs.ReadBook.{readBook};
-ghost use Rattle.model.specs.Service.{ones, rulesService, queryService, requestService, writerService, listService};
-ghost use Rattle.model.specs.Answers.{bookOf, rulesAnswer, queryAnswer, requestAnswer, writerAnswer, listAnswer};
+ghost use Rattle.model.specs.Service.{ones, rulesService, queryService, requestService, writerService};
+ghost use Rattle.model.specs.Answers.{bookOf, rulesAnswer, queryAnswer, requestAnswer, writerAnswer};
 ghost use Rattle.model.specs.RequestAnswer.{requestRead};
 ghost use Rattle.service.specs.Beside.{EmptyBeside};
-
-mod listing; // listing.rt: the rows that may be had, text by text
-mod query_reader; // query_reader.rt: a query behind its book
-mod query_writer; // query_writer.rt: a written query behind its texts
-mod request_reader; // request_reader.rt: a request behind its book and its rules
-mod rules_reader; // rules_reader.rt: rules behind their book
-
 use book::TOO_LITTLE;
 use book::WORK_WORDS;
 use model::QueryRead;
@@ -21,6 +14,14 @@ use model::Refusal;
 use model::RequestRead;
 use model::RowsListed;
 use model::RulesRead;
+ghost use Rattle.model.specs.Demands.{ListCalled};
+
+mod listing; // listing.rt: the rows that may be had, text by text
+mod query_reader; // query_reader.rt: a query behind its book
+mod query_writer; // query_writer.rt: a written query behind its texts
+mod request_reader; // request_reader.rt: a request behind its book and its rules
+mod rules_reader; // rules_reader.rt: rules behind their book
+
 
 // Refusals in the paper's numbers: "rows times Return names exceed the row buffer's words", "written query longer than its buffer or than 2,048 bytes".
 pub const NO_ROOM: u32 = 14;
@@ -117,9 +118,7 @@ pub fn list(
     rows: &mut [u32],
     work: &mut [u32],
 ) -> RowsListed
-    ensures answer { λ r. ⌜ listAnswer r ≡ listService (length (now (work .entry))) (length (now (rows .entry))) (now (book .entry)) (now (rules .entry)) (now (query .entry)) (now (request .entry)) .answer ⌝ }
-    ensures rows { λ _. ⌜ now (rows .exit) ≡ listService (length (now (work .entry))) (length (now (rows .entry))) (now (book .entry)) (now (rules .entry)) (now (query .entry)) (now (request .entry)) .rows ⌝ }
-    ensures cleared { λ _. ⌜ now (work .exit) ≡ ones (length (now (work .entry))) ⌝ }
+    ensures { λ r. ⌜ ListCalled (now (book .entry)) (now (rules .entry)) (now (query .entry)) (now (request .entry)) (now (rows .entry)) (now (work .entry)) (now (rows .exit)) (now (work .exit)) r ⌝ }
 {
     if work.len() < WORK_WORDS {
         words::fill(work, 0);

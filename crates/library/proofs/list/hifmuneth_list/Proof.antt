@@ -24,7 +24,7 @@ same-length-2 c = search needs
 
 -- src/list.rt:34:13
 returns : tie.Need-returns
-returns c = (listed-accepted _ _ (c .before .before .before .before .before .before .before .list .ensures .0) (c .before .n .given .1), c .before .before .before .before .before .before .before .list .ensures .1)
+returns c = (listed-accepted _ _ (c .before .before .before .before .before .before .before .list .ensures .answer) (c .before .n .given .1), (c .before .before .before .before .before .before .before .list .ensures .rows-left, c .before .before .before .before .before .before .before .list .ensures .cleared))
 
 -- src/list.rt:36:29
 enum-known-refusal : tie.Need-enum-known-refusal
@@ -40,7 +40,7 @@ same-length-4 c = search needs
 
 -- src/list.rt:41:13
 returns-2 : tie.Need-returns-2
-returns-2 c = (listed-refused _ _ (c .before .before .before .before .before .before .before .list .ensures .0) (c .before .refusal .given .1), c .before .before .before .before .before .before .before .list .ensures .1)
+returns-2 c = (listed-refused _ _ (c .before .before .before .before .before .before .before .list .ensures .answer) (c .before .refusal .given .1), (c .before .before .before .before .before .before .before .list .ensures .rows-left, c .before .before .before .before .before .before .before .list .ensures .cleared))
 
 pub hifmuneth-list-spec : {M : Type 1} → statement M
 hifmuneth-list-spec =
