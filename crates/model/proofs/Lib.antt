@@ -65,6 +65,7 @@ pub mod LowestFaults
 pub mod TextRefusals
 pub mod Refusals
 pub mod ListRefusals
+pub mod TableRows
 -- computed: two faults at once, the limits of a full book, the traps, whole answers of the request reader
 pub mod RefusalCases
 pub mod Traps

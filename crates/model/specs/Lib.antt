@@ -31,6 +31,7 @@ pub mod MayHave
 pub mod Rows
 pub mod RowOrder
 pub mod Service
+pub mod RefusalTable
 pub mod Refused
 pub mod Printed
 pub mod Answers
