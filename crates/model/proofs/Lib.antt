@@ -66,7 +66,8 @@ pub mod TextRefusals
 pub mod Refusals
 pub mod ListRefusals
 pub mod TableRows
--- computed: two faults at once, the limits of a full book, the traps, whole answers of the request reader
+-- computed: two faults at once, the limits of a full book, whole answers of queries, the traps, whole answers of the request reader
 pub mod RefusalCases
+pub mod WholeCases
 pub mod Traps
 pub mod RequestAnswerCases

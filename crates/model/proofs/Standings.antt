@@ -1,6 +1,6 @@
 -- Laws of signs at their places: they are the signs of the text, and what stands there lies within it.
 use Prim.Native.Nat.{ℕ, zero, suc, _+_, _-_, _<_, _≤_}
-use mathlib.Core.Path.{_≡_, refl, sym, ap, _∙_, subst}
+use mathlib.Core.Path.{_≡_, refl, ap, _∙_, subst}
 use mathlib.Core.List.{List, [], _∷_, _++_, map}
 use mathlib.Core.Bool.{Bool, true, false, _&&_, _||_}
 use native.Mathlib.Omega.{arith}
@@ -12,7 +12,6 @@ use Rattle.model.specs.Words.{Got, isLetter, isDigit, isWordByte, run, b
 use Rattle.model.specs.Signs.{Sign, word, whole, text, mark, broken, marks, begins, markAt, orBroken, digitNext, signAt, wordy, chainBehind, signs}
 use Rattle.model.specs.Graph.{Each}
 use Rattle.model.specs.Places.{Placed, placed, Bracket, none, round, square, bracketOf, Standing, vertex, edge, value, variableAt, standingAt, standings}
-use Rattle.model.specs.declared.Part.{Part}
 
 -- a sign at a place
 abbrev here : Sign → ℕ → Placed

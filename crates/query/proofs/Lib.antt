@@ -1,4 +1,5 @@
-pub mod PartLaws
+pub mod ArrayLaws
+pub mod StandingLaws
 pub mod VertexLaws
 pub mod EdgeLaws
 pub mod ReturnLaws

@@ -1,6 +1,6 @@
 -- The vertices, edges, conditions and returned names of a text without a fault are its pattern.
 use Prim.Native.Nat.{ℕ, _+_, _≤_, _<_}
-use mathlib.Core.Path.{_≡_, sym, ap, subst, _∙_}
+use mathlib.Core.Path.{_≡_, sym, ap, ap₂, subst, _∙_}
 use mathlib.Core.List.{List, [], _∷_, map}
 use native.Mathlib.Omega.{arith}
 use lib.ListN.{length, take, drop, getD, length-take, length-drop}
@@ -8,11 +8,14 @@ use lib.Seq.{getD-take, length-take-le}
 use Rattle.model.specs.Bytes.{Bytes}
 use Rattle.model.specs.Lists.{joined}
 use Rattle.model.specs.Book.{Book}
-use Rattle.model.specs.Grammar.{Piece}
 use Rattle.model.specs.Query.{ChainEdge, vertexNames, edgesOf, edgeNames, conditionsOf}
 use Rattle.model.specs.Pattern.{Edge, edgeOf, clauseOf, patternOf}
 use Rattle.model.specs.Answers.{nameAt, partOf, valueOf, edgeIn, clauseIn, patternIn}
+use Rattle.model.specs.Graph.{Each}
+use Rattle.model.specs.Places.{valuePart, vertexParts, edgeParts, valueParts}
+use Rattle.model.specs.WholeAnswers.{padded, edgesData, clausesData, queryData}
 use Rattle.model.specs.declared.Part.{Part}
+use Rattle.model.specs.declared.Edge.{Edge as EdgeData}
 use Rattle.model.specs.declared.Value.{Value}
 use Rattle.model.specs.declared.Value.the-variants.{Number, Text, Truth}
 use Rattle.model.specs.declared.Condition.{Condition}
@@ -23,11 +26,11 @@ use Rattle.model.proofs.Members.{_∈_, map-i, map-e}
 use Rattle.model.proofs.Places.{getD-in, length-map}
 use Rattle.tables.specs.declared.BookCounts.{BookCounts}
 use Rattle.tables.specs.View.{bookAt}
-use Rattle.pieces.specs.Named.{edgesIn, returnsIn, linksFrom}
+use Rattle.pieces.specs.Named.{edgesIn, linksFrom}
 use Rattle.pieces.proofs.Trees.{tree-names, returns-same, link-names}
 use Rattle.pieces.proofs.Tests.{vertex-names, edge-names}
-use Rattle.faults.specs.Names.{textStart, textPieces}
-use Rattle.faults.proofs.ScanLaws.{found-bound}
+use Rattle.faults.specs.Names.{textPieces}
+use Rattle.signs.specs.Expected.{valueStanding}
 use Rattle.faults.proofs.FaultLaws.{queryOf, text-ordered}
 use Rattle.writer.specs.Writable.{Limits, countLimits, ConditionFits}
 use Rattle.model.specs.PlainData.{noPart, noEdge, noClause, NameFits, ValueFits, ConditionFits as WordsHold, PatternFits as WordsFit, ValueWithin, ConditionWithin}
@@ -35,12 +38,15 @@ use Rattle.query.specs.declared.vertices.Vertices.{Vertices}
 use Rattle.query.specs.declared.edges.Edges.{Edges}
 use Rattle.query.specs.declared.clauses.Clauses.{Clauses}
 use Rattle.query.specs.declared.returns.Returns.{Returns}
-use Rattle.query.specs.Parts.{Inside, ValueBegins}
-use Rattle.query.specs.Vertices.{vertexNamesIn, Found}
+use Rattle.query.specs.Parts.{Inside}
+use Rattle.query.specs.Vertices.{vertexNamesIn, partsOf, Found, VerticesRead}
 use Rattle.query.specs.Edges.{EdgesAsked, EdgesRead}
 use Rattle.query.specs.Returns.{ReturnsAsked, ReturnsRead}
-use Rattle.query.specs.Clauses.{textEdges, textLimits, ConditionBegins, ClausesAsked, ClausesRead, textClauses}
+use Rattle.query.specs.Clauses.{textEdges, textLimits, conditionParts, ClausesAsked, ClausesRead, textClauses, TextClausesRead}
 use Rattle.query.specs.PatternRead.{PatternAsked, PatternRead}
+use Rattle.query.proofs.ArrayLaws.{length-taken, blank-padded}
+use Rattle.query.proofs.ClauseLaws.{clauses-data}
+use Rattle.query.proofs.StandingLaws.{Ends, EndsBefore, part-inside, each-at, each-joined, vertices-end, edges-end, values-end}
 use Rattle.query.proofs.ClearLaws.{Clear, clear-pieces, clear-tree, clear-known, Few, few-pieces, some-return, Short, ShortValue, ShortClause, vertex-short, edge-short, clause-short}
 
 -- what was found, as one pattern
@@ -57,29 +63,41 @@ made v e k r = record {
 taken-in : {A B : Type 0} (f : A → B) (l : List A) (n i : ℕ) (d : A) → n ≤ length l → i < n → f (getD l i d) ∈ map f (take n l)
 taken-in f l n i d h k = subst (λ x. f x ∈ map f (take n l)) (getD-take n l i d k) (map-i f (take n l) (getD (take n l) i d) (getD-in (take n l) i d (omega (arith, length-take-le n l h))))
 
--- pieces that return something are some
-some-pieces : (ps : List Piece) → 0 < length (returnsIn ps) → 0 < length ps
-unfolding joined
-some-pieces [] h = h
-some-pieces (p ∷ ps) h = omega arith
+-- what holds of f of each element holds so of each
+each-of : {A B : Type 0} (P : B → Type 0) (f : A → B) (l : List A) → Each P (map f l) → Each (λ x. P (f x)) l
+each-of P f [] h = tt
+each-of P f (x ∷ l) h = (h .0, each-of P f l (h .1))
 
 -- a name, a value, a condition fits its words
 module _ (s : Bytes) (base : ℕ) (fit : base + length s ≤ 65536) where
   name-fits : (x : Part) → Inside s x → Short (nameAt s x) → NameFits base x
   name-fits x h k = (omega (arith, h .ends, h .long, k .some), omega (arith, h .long, k .few))
 
-  value-fits : (x : Value) → 0 < length s → ValueWithin (length s) x → ValueBegins (length s) x → ShortValue (valueOf s x) → ValueFits base x
-  unfolding valueOf partOf
-  value-fits (Number n) l h k m = tt
-  value-fits (Text start size) l h k m = (omega (arith, k l), omega (arith, m, length-take size (drop start s), length-drop start s))
-  value-fits (Truth t) l h k m = tt
+  value-fits : (x : Value) → Each (EndsBefore s) (joined valuePart (valueStanding x)) → ShortValue (valueOf s x) → ValueFits base x
+  unfolding valueOf partOf joined valuePart valueStanding
+  value-fits (Number n) h m = tt
+  value-fits (Text start size) h m = (omega (arith, h .0), omega (arith, m, length-take size (drop start s), length-drop start s))
+  value-fits (Truth t) h m = tt
 
-  condition-fits : (b : Book) (m : Limits) (k : Condition) → 0 < length s → m .vattrs ≤ 32 → m .eattrs ≤ 32 → ConditionFits m k → ConditionWithin (length s) k → ConditionBegins (length s) k → ShortClause (clauseIn b s k)
+  condition-fits : (b : Book) (m : Limits) (k : Condition) → m .vattrs ≤ 32 → m .eattrs ≤ 32 → ConditionFits m k → Each (EndsBefore s) (conditionParts k) → ShortClause (clauseIn b s k)
       → WordsHold base (m .vertices) (m .edges) k
-  unfolding clauseIn
-  condition-fits b m (Excluded u v) l va ea f w g h = f
-  condition-fits b m (OfVertex v x) l va ea f w g h = (f .0, record { attribute = omega (arith, f .1); value = value-fits (x .value) l w g h })
-  condition-fits b m (OfEdge e x) l va ea f w g h = (f .0, record { attribute = omega (arith, f .1); value = value-fits (x .value) l w g h })
+  unfolding clauseIn conditionParts
+  condition-fits b m (Excluded u v) va ea f w h = f
+  condition-fits b m (OfVertex v x) va ea f w h = (f .0, record { attribute = omega (arith, f .1); value = value-fits (x .value) w h })
+  condition-fits b m (OfEdge e x) va ea f w h = (f .0, record { attribute = omega (arith, f .1); value = value-fits (x .value) w h })
+
+-- a condition whose text value ends before the text's end lies within it
+value-within : (s : Bytes) (x : Value) → Each (EndsBefore s) (joined valuePart (valueStanding x)) → ValueWithin (length s) x
+unfolding joined valuePart valueStanding
+value-within s (Number n) h = tt
+value-within s (Text start size) h = omega (arith, h .0)
+value-within s (Truth t) h = tt
+
+condition-within : (s : Bytes) (k : Condition) → Each (EndsBefore s) (conditionParts k) → ConditionWithin (length s) k
+unfolding conditionParts
+condition-within s (Excluded u v) h = tt
+condition-within s (OfVertex v x) h = value-within s (x .value) h
+condition-within s (OfEdge e x) h = value-within s (x .value) h
 
 module _ (book : Bytes) (words : List ℕ) (c : BookCounts) (s : Bytes) (asked : PatternAsked book words c s) where
   abbrev b : Book
@@ -95,7 +113,10 @@ module _ (book : Bytes) (words : List ℕ) (c : BookCounts) (s : Bytes) (asked :
   pub vertices-asked : length (vertexNamesIn s) ≤ 8
   vertices-asked = few .vertices
 
-  module _ (v : Vertices) (found : Found s v (vertexNamesIn s)) where
+  module _ (v : Vertices) (vertices : VerticesRead s v) where
+    found : Found s v (vertexNamesIn s)
+    found = vertices .found
+
     pub edges-asked : EdgesAsked book words c s v
     edges-asked = record { fits = asked .fits; found = found; few = omega (arith, few .links); declared = clear .declared }
 
@@ -105,8 +126,11 @@ module _ (book : Bytes) (words : List ℕ) (c : BookCounts) (s : Bytes) (asked :
     pub returns-asked : ReturnsAsked s v
     returns-asked = record { found = found; few = omega (arith, few .returns); book = b; declared = clear .declared }
 
-    module _ (e : Edges) (k : Clauses) (r : Returns) (links : EdgesRead b c s v e) (conditions : ClausesRead b (textLimits c v s) s (textClauses s) k) (returned : ReturnsRead s v r)
+    module _ (e : Edges) (k : Clauses) (r : Returns) (links : EdgesRead b c s v e) (clauses : TextClausesRead b (textLimits c v s) s k) (returned : ReturnsRead s v r)
         (parts-size : length (v .parts) ≡ 8) (edges-size : length (e .edges) ≡ 16) where
+      conditions : ClausesRead b (textLimits c v s) s (textClauses s) k
+      conditions = clauses .read
+
       -- the model's pattern of the text's query
       same-pattern : patternIn b s (made v e k r) ≡ patternOf (queryOf s)
       unfolding patternIn patternOf
@@ -146,8 +170,58 @@ module _ (book : Bytes) (words : List ℕ) (c : BookCounts) (s : Bytes) (asked :
       clause-named : (i : ℕ) → i < k .count → ShortClause (clauseIn b s (getD (k .clauses) i noClause .condition))
       clause-named i l = clause-short b s clear (asked .allowed) (vertexNamesIn s) (textEdges s) _ (subst (λ x. clauseIn b s (getD (k .clauses) i noClause .condition) ∈ x) (conditions .is) (taken-in (λ (x : Clause). clauseIn b s (x .condition)) (k .clauses) (k .count) i noClause (omega (arith, conditions .few, conditions .sized)) l))
 
-      some-bytes : 0 < length s
-      some-bytes = omega (arith, some-pieces (textPieces s) (some-return b s clear), found-bound s textStart)
+      -- names and text values stand inside the text
+      vertex-inside : (i : ℕ) → i < v .count → Inside s (getD (v .parts) i noPart)
+      vertex-inside i l =
+          let in-taken : i < length (partsOf v) = omega (arith, length-take-le (v .count) (v .parts) (omega (arith, found .within))) in
+          part-inside s (getD (v .parts) i noPart) (subst (Ends s) (getD-take (v .count) (v .parts) i noPart l)
+          (each-at (Ends s) noPart (partsOf v) (subst (Each (Ends s)) (sym (vertices .parts (clear .whole))) (vertices-end s)) i in-taken))
+
+      edge-inside : (i : ℕ) → i < e .count → Inside s (getD (e .edges) i noEdge .name)
+      edge-inside i l =
+          let in-taken : i < length (take (e .count) (e .edges)) = omega (arith, length-take-le (e .count) (e .edges) (omega (arith, links .few))) in
+          let ends = each-of (Ends s) (λ (x : EdgeData). x .name) (take (e .count) (e .edges)) (subst (Each (Ends s)) (sym (links .parts (clear .whole))) (edges-end s)) in
+          part-inside s (getD (e .edges) i noEdge .name) (subst (λ (x : EdgeData). Ends s (x .name)) (getD-take (e .count) (e .edges) i noEdge l)
+          (each-at (λ (x : EdgeData). Ends s (x .name)) noEdge (take (e .count) (e .edges)) ends i in-taken))
+
+      clause-ends : (i : ℕ) → i < k .count → Each (EndsBefore s) (conditionParts (getD (k .clauses) i noClause .condition))
+      clause-ends i l =
+          let in-taken : i < length (take (k .count) (k .clauses)) = omega (arith, length-take-le (k .count) (k .clauses) (omega (arith, conditions .few, conditions .sized))) in
+          let ends = each-joined (EndsBefore s) (λ (x : Clause). conditionParts (x .condition)) (take (k .count) (k .clauses)) (subst (Each (EndsBefore s)) (sym (clauses .parts (clear .whole))) (values-end s)) in
+          subst (λ (x : Clause). Each (EndsBefore s) (conditionParts (x .condition))) (getD-take (k .count) (k .clauses) i noClause l)
+          (each-at (λ (x : Clause). Each (EndsBefore s) (conditionParts (x .condition))) noClause (take (k .count) (k .clauses)) ends i in-taken)
+
+      -- every slot is the model's
+      whole-pattern : made v e k r ≡ queryData b s (patternIn b s (made v e k r))
+      unfolding queryData patternIn
+      whole-pattern = λ i. record {
+        vertices = all-vertices i;
+        edges = all-edges i;
+        clauses = all-clauses i;
+        returns = blank-padded 4 0 (r .numbers) (r .count) (omega (arith, returned .few, returned .room)) (returned .blank) i;
+        counts = all-counts i;
+      }
+        where
+          all-vertices : v .parts ≡ padded 8 noPart (vertexParts s)
+          all-vertices = blank-padded 8 noPart (v .parts) (v .count) (omega (arith, found .within)) (found .blank) ∙ ap (padded 8 noPart) (vertices .parts (clear .whole))
+
+          all-edges : e .edges ≡ padded 16 noEdge (edgesData b (edgeParts s) (map (edgeIn b s) (take (e .count) (e .edges))))
+          all-edges =
+              blank-padded 16 noEdge (e .edges) (e .count) (omega (arith, links .few)) (links .stored .blank)
+              ∙ ap (padded 16 noEdge) (sym (links .told) ∙ ap₂ (edgesData b) (links .parts (clear .whole)) (sym (links .is)))
+
+          all-clauses : k .clauses ≡ padded 32 noClause (clausesData b (valueParts s) (map (λ c. clauseIn b s (c .condition)) (take (k .count) (k .clauses))))
+          all-clauses =
+              blank-padded 32 noClause (k .clauses) (k .count) (omega (arith, conditions .few, conditions .sized)) (conditions .blank)
+              ∙ ap (padded 32 noClause) (sym (clauses-data b (textClauses s) (take (k .count) (k .clauses)) (conditions .told)) ∙ ap₂ (clausesData b) (clauses .parts (clear .whole)) (sym (conditions .is)))
+
+          all-counts : made v e k r .counts ≡ queryData b s (patternIn b s (made v e k r)) .counts
+          all-counts = λ i. record {
+            vertices = sym (length-taken (nameAt s) (v .parts) (v .count) (omega (arith, found .within))) i;
+            edges = sym (length-taken (edgeIn b s) (e .edges) (e .count) (omega (arith, links .few))) i;
+            clauses = sym (length-taken (λ c. clauseIn b s (c .condition)) (k .clauses) (k .count) (omega (arith, conditions .few, conditions .sized))) i;
+            returns = sym (length-take-le (r .count) (r .numbers) (omega (arith, returned .few, returned .room))) i;
+          }
 
       words-fit : (base : ℕ) → base + length s ≤ 65536 → WordsFit base (made v e k r)
       words-fit base fit = record {
@@ -155,20 +229,21 @@ module _ (book : Bytes) (words : List ℕ) (c : BookCounts) (s : Bytes) (asked :
         few-edges = links .few;
         few-clauses = conditions .few;
         few-returns = returned .few;
-        vertices = λ i l. name-fits s base fit (getD (v .parts) i noPart) (found .inside i l) (vertex-named i l);
+        vertices = λ i l. name-fits s base fit (getD (v .parts) i noPart) (vertex-inside i l) (vertex-named i l);
         edges = λ i l. let x = links .each i l in record {
-          name = name-fits s base fit (getD (e .edges) i noEdge .name) (x .name) (edge-named i l);
+          name = name-fits s base fit (getD (e .edges) i noEdge .name) (edge-inside i l) (edge-named i l);
           label = omega (arith, x .label, asked .fits .within .labels);
           from = x .from;
           to = x .to;
         };
-        clauses = λ i l. condition-fits s base fit b (countLimits c (made v e k r)) (getD (k .clauses) i noClause .condition) some-bytes (asked .fits .within .vattrs) (asked .fits .within .eattrs) (clause-fits i l) (conditions .within i l) (conditions .begins i l) (clause-named i l);
+        clauses = λ i l. condition-fits s base fit b (countLimits c (made v e k r)) (getD (k .clauses) i noClause .condition) (asked .fits .within .vattrs) (asked .fits .within .eattrs) (clause-fits i l) (clause-ends i l) (clause-named i l);
         returns = returned .each;
       }
 
       pub pattern-read : PatternRead b c s (made v e k r)
       pattern-read = record {
         is = λ tree q. subst (λ t. patternIn b s (made v e k r) ≡ patternOf t) (sym (clear-tree b s clear tree q)) same-pattern;
+        whole = λ tree q. whole-pattern ∙ ap (queryData b s) (subst (λ t. patternIn b s (made v e k r) ≡ patternOf t) (sym (clear-tree b s clear tree q)) same-pattern);
         fits = record {
           vertices = found .within;
           edges = record { few = links .few; each = λ i l. let x = links .each i l in record { label = x .label; from = x .from; to = x .to } };
@@ -176,9 +251,9 @@ module _ (book : Bytes) (words : List ℕ) (c : BookCounts) (s : Bytes) (asked :
           returns = record { few = returned .few; each = returned .each };
         };
         parts = record {
-          vertices = λ i l. found .inside i l .ends;
-          edges = λ i l. links .each i l .name .ends;
-          clauses = conditions .within;
+          vertices = λ i l. vertex-inside i l .ends;
+          edges = λ i l. edge-inside i l .ends;
+          clauses = λ i l. condition-within s (getD (k .clauses) i noClause .condition) (clause-ends i l);
         };
         words = words-fit;
         some-return = omega (arith, returned .counted, some-return b s clear);

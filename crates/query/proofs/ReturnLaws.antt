@@ -1,11 +1,11 @@
 -- Laws of the returned vertices found so far.
 use Prim.Native.Nat.{ℕ, _+_, _<_, _≤_}
-use mathlib.Core.Path.{_≡_, sym, ap, _∙_}
+use mathlib.Core.Path.{_≡_, refl, sym, ap, subst, _∙_}
 use mathlib.Core.List.{List, [], _∷_, _++_, append-nil, append-assoc}
 use mathlib.Core.Bool.{Bool}
 use native.Mathlib.Numerals.{add-one}
 use native.Mathlib.Omega.{arith}
-use lib.ListN.{length, getD, take, set, length-append, length-set, length-map}
+use lib.ListN.{length, getD, set, length-append, length-set, length-map}
 use lib.Seq.{getD-take, length-take-le, take-suc-set}
 use Rattle.model.specs.Bytes.{Bytes}
 use Rattle.model.specs.Lists.{joined}
@@ -27,9 +27,10 @@ use Rattle.faults.proofs.ScanLaws.{step-list, step-none}
 use Rattle.faults.proofs.FaultLaws.{text-ordered}
 use Rattle.query.specs.declared.vertices.Vertices.{Vertices}
 use Rattle.query.specs.declared.returns.Returns.{Returns}
+use Rattle.query.specs.Parts.{Blank}
 use Rattle.query.specs.Vertices.{vertexNamesIn, namesOf}
-use Rattle.query.specs.Returns.{numbersOf, numbersIn, MoreReturns, ReturnsAsked, ReturnsRead}
-use Rattle.query.proofs.PartLaws.{return-declared}
+use Rattle.query.specs.Returns.{noReturns, numbersOf, numbersIn, MoreReturns, ReturnsAsked, ReturnsRead}
+use Rattle.query.proofs.ArrayLaws.{blank-more, return-declared}
 use Rattle.query.proofs.VertexLaws.{found-counted}
 
 -- the returned name of a piece
@@ -43,7 +44,7 @@ module _ (s : Bytes) (p : Piece) (r : NameOf) (h : asList s r ≡ returnIn (piec
   return-none e = rw (← h, e)
 
 -- one returned vertex more, or none
-module _ (returns : Returns) (room : length (returns .numbers) ≡ 4) (vs names : List Bytes) (few : returns .count + length names ≤ 4) where
+module _ (returns : Returns) (room : length (returns .numbers) ≡ 4) (vs names : List Bytes) (few : (returns .count + length names ≤ 4) × Blank 4 0 (returns .count) (returns .numbers)) where
   pub return-room : (w : Bytes) → names ≡ w ∷ [] → returns .count < 4
   return-room w e = omega (arith, ap length e)
 
@@ -55,23 +56,24 @@ module _ (returns : Returns) (room : length (returns .numbers) ≡ 4) (vs names 
         room = length-set (returns .numbers) (returns .count) n ∙ room;
         few = omega arith;
         is = rw (add-one, take-suc-set (returns .numbers) (returns .count) n m) (ap (λ x. numbersIn returns ++ (x ∷ [])) f ∙ ap (λ l. numbersIn returns ++ numbersOf vs l) (sym e));
+        blank = blank-more 4 0 (returns .numbers) (returns .count) n l (few .1);
       }
 
   pub no-return-more : names ≡ [] → MoreReturns returns (numbersOf vs names) returns
-  no-return-more e = record { room = room; few = omega arith; is = sym (ap (λ l. numbersIn returns ++ numbersOf vs l) e ∙ append-nil (numbersIn returns)) }
+  no-return-more e = record { room = room; few = omega arith; is = sym (ap (λ l. numbersIn returns ++ numbersOf vs l) e ∙ append-nil (numbersIn returns)); blank = few .1 }
 
 -- the returned vertices found from the text's start to a place, and those of the pieces behind it
 pub record ReturnsSoFar (s : Bytes) (vs : List Bytes) (from : Place) (returns : Returns) : Type 0 where
   pub room : length (returns .numbers) ≡ 4
   pub few : returns .count ≤ 4
   pub rest : numbersIn returns ++ numbersOf vs (returnsIn (foundAt s from)) ≡ numbersOf vs (returnsIn (textPieces s))
+  pub blank : Blank 4 0 (returns .count) (returns .numbers)
 
-pub returns-start : (s : Bytes) (vs : List Bytes) (from : Place) (returns : Returns) → from ≡ textStart → (returns .count ≡ 0) × (length (returns .numbers) ≡ 4) → ReturnsSoFar s vs from returns
-returns-start s vs from returns e f = record {
-  room = f .1;
-  few = omega arith;
-  rest = ap (λ n. take n (returns .numbers) ++ numbersOf vs (returnsIn (foundAt s from))) (f .0) ∙ ap (λ (q : Place). numbersOf vs (returnsIn (foundAt s q))) e;
-}
+pub returns-start : (s : Bytes) (vs : List Bytes) (from : Place) (returns : Returns) → from ≡ textStart → returns ≡ noReturns → ReturnsSoFar s vs from returns
+returns-start s vs from returns e f = subst (λ (p : Place). ReturnsSoFar s vs p returns) (sym e) (subst (λ (r : Returns). ReturnsSoFar s vs textStart r) (sym f) none-yet)
+  where
+    none-yet : ReturnsSoFar s vs textStart noReturns
+    none-yet = record { room = refl; few = omega arith; rest = refl; blank = refl }
 
 module _ (s : Bytes) (vs : List Bytes) (from : Place) (returns : Returns) (so : ReturnsSoFar s vs from returns) (r : PieceRead) (h : StepAt s from r) where
   numbers-counted : length (numbersIn returns) ≡ returns .count
@@ -96,14 +98,14 @@ module _ (s : Bytes) (vs : List Bytes) (from : Place) (returns : Returns) (so : 
         omega (arith, numbers-counted, length-map names (λ v. place v vs), length-map (returnsIn (textPieces s)) (λ v. place v vs))
 
     pub returns-on : (more : Returns) → MoreReturns returns (numbersOf vs names) more → ReturnsSoFar s vs (x .next) more
-    returns-on more m = record { room = m .room; few = m .few; rest = ap (λ l. l ++ numbersOf vs (returnsIn (foundAt s (x .next)))) (m .is) ∙ ahead }
+    returns-on more m = record { room = m .room; few = m .few; rest = ap (λ l. l ++ numbersOf vs (returnsIn (foundAt s (x .next)))) (m .is) ∙ ahead; blank = m .blank }
 
   pub returns-all : (w : Bool) → r ≡ read.None w → numbersIn returns ≡ numbersOf vs (returnsIn (textPieces s))
   unfolding joined
   returns-all w e = sym (append-nil (numbersIn returns)) ∙ ap (λ ps. numbersIn returns ++ numbersOf vs (returnsIn ps)) (sym (step-none s from r h w e)) ∙ so .rest
 
 -- the returned vertices found in a whole text are its own
-module _ (s : Bytes) (vertices : Vertices) (asked : ReturnsAsked s vertices) (size : length (vertices .parts) ≡ 8) (returns : Returns) (room : length (returns .numbers) ≡ 4) (few : returns .count ≤ 4) (all : numbersIn returns ≡ numbersOf (namesOf s vertices) (returnsIn (textPieces s))) where
+module _ (s : Bytes) (vertices : Vertices) (asked : ReturnsAsked s vertices) (size : length (vertices .parts) ≡ 8) (returns : Returns) (room : length (returns .numbers) ≡ 4) (few : returns .count ≤ 4) (blank : Blank 4 0 (returns .count) (returns .numbers)) (all : numbersIn returns ≡ numbersOf (namesOf s vertices) (returnsIn (textPieces s))) where
   abbrev vs : List Bytes
   vs = vertexNamesIn s
 
@@ -127,4 +129,4 @@ module _ (s : Bytes) (vertices : Vertices) (asked : ReturnsAsked s vertices) (si
       omega (arith, found-counted s vertices vs size (asked .found))
 
   pub returns-are : ReturnsRead s vertices returns
-  returns-are = record { is = all-numbered; few = few; counted = returns-counted; each = return-stands }
+  returns-are = record { is = all-numbered; few = few; counted = returns-counted; each = return-stands; room = room; blank = blank }

@@ -1,10 +1,10 @@
 -- Laws of the vertices found so far.
 use Prim.Native.Nat.{ℕ, _+_, _<_, _≤_}
-use mathlib.Core.Path.{_≡_, refl, sym, ap, _∙_}
+use mathlib.Core.Path.{_≡_, refl, sym, ap, _∙_, subst}
 use mathlib.Core.List.{List, [], _∷_, _++_, map}
 use mathlib.Core.Bool.{Bool, true, false}
 use native.Mathlib.Omega.{arith}
-use lib.ListN.{length, getD, take, set, length-append}
+use lib.ListN.{length, getD, set, length-append}
 use borrow.Author.Tests.{lt-ltb, le-ltb}
 use Rattle.model.specs.Bytes.{Bytes, same}
 use Rattle.model.specs.Lists.{any, joined, addNewBy, firstsBy}
@@ -13,24 +13,31 @@ use Rattle.model.specs.Answers.{nameAt}
 use Rattle.model.specs.declared.Part.{Part}
 use Rattle.model.proofs.FirstNames.{firsts-append, firsts-grow}
 use Rattle.pieces.specs.Named.{vertexIn, verticesIn}
-use Rattle.pieces.specs.Steps.{pieceOf, StepAt}
+use Rattle.pieces.specs.Steps.{pieceOf, StepAt, pieceStanding, walkAt, standingsAt}
 use Rattle.pieces.specs.declared.Place.{Place}
 use Rattle.pieces.specs.declared.Piece.{Piece}
 use Rattle.pieces.specs.declared.Step.{Step}
 use Rattle.pieces.specs.declared.PieceRead.{PieceRead}
 use Rattle.pieces.specs.declared.PieceRead.the-variants as read
-use Rattle.faults.specs.declared.NameOf.{NameOf}
-use Rattle.faults.specs.declared.NameOf.the-variants.{Is, None}
-use Rattle.faults.specs.Names.{asList, textStart, foundAt}
-use Rattle.faults.proofs.ScanLaws.{step-list, step-none}
+use Rattle.faults.specs.Names.{textStart, foundAt}
+use Rattle.faults.proofs.ScanLaws.{step-list, step-none, step-whole}
 use Rattle.tables.specs.Listed.{listed}
 use Rattle.tables.proofs.ListedLaws.{scan-none, scan-on, scan-place, scan-absent}
 use Rattle.tables.proofs.NameLaws.{mem-place}
 use Rattle.model.specs.PlainData.{noPart}
 use Rattle.query.specs.declared.vertices.Vertices.{Vertices}
-use Rattle.query.specs.Parts.{Inside, Cut}
-use Rattle.query.specs.Vertices.{vertexNamesIn, namesOf, Found}
-use Rattle.query.proofs.PartLaws.{taken-listed, length-taken, taken-more, each-more}
+use Rattle.query.specs.Vertices.{vertexNamesIn, namesOf, Found, partsOf, noVertices, MoreVertices, VerticesRead}
+use native.Mathlib.Numerals.{add-one}
+use lib.Seq.{take-suc-set}
+use Rattle.model.specs.Places.{vertexPart, addPart, firstParts, vertexParts}
+use Rattle.model.specs.declared.Value.{Value}
+use Rattle.model.specs.declared.Value.the-variants.{Number, Text, Truth}
+use Rattle.signs.specs.Expected.{valueStanding}
+use Rattle.pieces.specs.declared.Link.{Link}
+use Rattle.pieces.specs.declared.Demand.{Demand}
+use Rattle.pieces.specs.declared.Piece.the-variants as piece
+use Rattle.query.proofs.ArrayLaws.{taken-listed, length-taken, taken-more, blank-more}
+use Rattle.query.proofs.StandingLaws.{text-standing, parts-found, parts-none}
 
 -- none of the first vertices has a name
 abbrev pub NoneNamed : Bytes → Vertices → Bytes → ℕ → Type 0
@@ -80,9 +87,9 @@ module _ (s : Bytes) (v : Vertices) (size : length (v .parts) ≡ 8) (h : Found 
   counted : length ws ≡ v .count
   counted = names-counted s v size (h .within)
 
-  pub vertex-known : n < v .count → Found s v (addNew ws w)
-  unfolding addNewBy mem
-  vertex-known l = let t = place-known w ws (omega (arith, counted)) in record { within = h .within; named = rw t; inside = h .inside }
+  pub vertex-known : n < v .count → MoreVertices s v (name ∷ []) (addNew ws w) v
+  unfolding addNewBy mem addPart firstParts
+  vertex-known l = let t = place-known w ws (omega (arith, counted)) in record { found = record { within = h .within; named = rw t; blank = h .blank }; parts = rw t }
 
   module _ (l : v .count ≤ n) where
     grown : addNew ws w ≡ ws ++ (w ∷ [])
@@ -92,35 +99,93 @@ module _ (s : Bytes) (v : Vertices) (size : length (v .parts) ≡ 8) (h : Found 
     pub vertex-room : length (addNew ws w) ≤ 8 → v .count < 8
     vertex-room few = let a = ap length grown in let b = length-append ws (w ∷ []) in omega (arith, counted)
 
-    pub vertex-new : length (addNew ws w) ≤ 8 → (p : Part) → Cut s name p → Found s (record { parts = set (v .parts) (v .count) p; count = v .count + 1 }) (addNew ws w)
-    vertex-new few p cut =
+    added : addPart s (partsOf v) name ≡ partsOf v ++ (name ∷ [])
+    unfolding addPart
+    added = rw (place-new w ws (omega (arith, counted)))
+
+    pub vertex-new : length (addNew ws w) ≤ 8 → MoreVertices s v (name ∷ []) (addNew ws w) (record { parts = set (v .parts) (v .count) name; count = v .count + 1 })
+    unfolding firstParts
+    vertex-new few =
         let room = vertex-room few in
+        let inside : v .count < length (v .parts) = omega arith in
         record {
-          within = omega arith;
-          named = taken-more (nameAt s) (v .parts) (v .count) p (omega arith) ∙ ap (λ z. ws ++ (z ∷ [])) (cut .same) ∙ sym grown;
-          inside = each-more (Inside s) noPart (v .parts) (v .count) p (omega arith) (h .inside) (cut .inside);
+          found = record {
+            within = omega arith;
+            named = taken-more (nameAt s) (v .parts) (v .count) name inside ∙ sym grown;
+            blank = blank-more 8 noPart (v .parts) (v .count) name room (h .blank);
+          };
+          parts = rw (add-one, take-suc-set (v .parts) (v .count) name inside) (sym added);
         }
 
--- the vertices with that of a piece
-module _ (s : Bytes) (v : Vertices) (p : Piece) (r : NameOf) (h : asList s r ≡ vertexIn (pieceOf s p)) where
-  pub piece-adds : (name : Part) → r ≡ Is name → firsts (namesOf s v) (vertexIn (pieceOf s p)) ≡ addNew (namesOf s v) (nameAt s name)
-  unfolding asList firstsBy
-  piece-adds name e = rw (← h, e)
+-- the vertices with those of a piece that has one, or none
+module _ (s : Bytes) (v : Vertices) (p : Piece) where
+  -- the names and the parts of a piece's vertex
+  abbrev pub VertexIs : List Part → Type 0
+  VertexIs ps = (vertexIn (pieceOf s p) ≡ map (nameAt s) ps) × (joined vertexPart (pieceStanding p) ≡ ps)
 
-  pub piece-keeps : r ≡ None → firsts (namesOf s v) (vertexIn (pieceOf s p)) ≡ namesOf s v
-  unfolding asList firstsBy
-  piece-keeps e = rw (← h, e)
+  pub start-vertex : (name : Part) → p ≡ piece.Start name → VertexIs (name ∷ [])
+  unfolding vertexIn pieceOf pieceStanding vertexPart joined
+  start-vertex name e = (rw e, rw e)
+
+  pub goes-vertex : (link : Link) → p ≡ piece.Goes link → VertexIs (link .vertex ∷ [])
+  unfolding vertexIn pieceOf pieceStanding vertexPart joined
+  goes-vertex link e = (rw e, rw e)
+
+  pub comes-vertex : (link : Link) → p ≡ piece.Comes link → VertexIs (link .vertex ∷ [])
+  unfolding vertexIn pieceOf pieceStanding vertexPart joined
+  comes-vertex link e = (rw e, rw e)
+
+  pub differ-vertex : (a b : Part) → p ≡ piece.Differ a b → VertexIs []
+  unfolding vertexIn pieceOf pieceStanding vertexPart joined
+  differ-vertex a b e = (rw e, rw e)
+
+  pub asks-vertex : (d : Demand) → p ≡ piece.Asks d → VertexIs []
+  unfolding vertexIn pieceOf pieceStanding vertexPart joined valueStanding
+  asks-vertex d e = (rw e, rw e (no-vertex (d .value)))
+    where
+      no-vertex : (v : Value) → joined vertexPart (valueStanding v) ≡ []
+      no-vertex (Number n) = refl
+      no-vertex (Text start length) = refl
+      no-vertex (Truth t) = refl
+
+  pub returns-vertex : (name : Part) → p ≡ piece.Returns name → VertexIs []
+  unfolding vertexIn pieceOf pieceStanding vertexPart joined
+  returns-vertex name e = (rw e, rw e)
+
+  pub piece-adds : (name : Part) → VertexIs (name ∷ []) → firsts (namesOf s v) (vertexIn (pieceOf s p)) ≡ addNew (namesOf s v) (nameAt s name)
+  unfolding firstsBy
+  piece-adds name e = rw (e .0)
+
+  pub piece-more : (name : Part) (r : Vertices) → VertexIs (name ∷ []) → MoreVertices s v (name ∷ []) (addNew (namesOf s v) (nameAt s name)) r
+      → MoreVertices s v (joined vertexPart (pieceStanding p)) (firsts (namesOf s v) (vertexIn (pieceOf s p))) r
+  piece-more name r e h = rw (piece-adds name e, e .1) h
+
+  pub piece-keeps : VertexIs [] → Found s v (namesOf s v) → MoreVertices s v (joined vertexPart (pieceStanding p)) (firsts (namesOf s v) (vertexIn (pieceOf s p))) v
+  unfolding firstsBy firstParts
+  piece-keeps e h = rw (e .0, e .1) (record { found = h; parts = refl })
 
 -- the vertices found from the text's start to a place, and those of the pieces behind it
 pub record VerticesSoFar (s : Bytes) (from : Place) (v : Vertices) : Type 0 where
   pub stored : Found s v (namesOf s v)
   pub rest : firsts (namesOf s v) (verticesIn (foundAt s from)) ≡ vertexNamesIn s
+  pub parts : firstParts s (partsOf v) (joined vertexPart (standingsAt s from)) ≡ vertexParts s
+  pub whole : walkAt s textStart .whole ≡ walkAt s from .whole
 
-pub vertices-start : (s : Bytes) (from : Place) (v : Vertices) → from ≡ textStart → v .count ≡ 0 → VerticesSoFar s from v
-vertices-start s from v e f = record {
-  stored = record { within = omega arith; named = refl; inside = λ i l. absurd (omega arith) };
-  rest = ap (λ n. firsts (map (nameAt s) (take n (v .parts))) (verticesIn (foundAt s from))) f ∙ ap (λ (q : Place). firsts [] (verticesIn (foundAt s q))) e;
-}
+pub vertices-start : (s : Bytes) (from : Place) (v : Vertices) → from ≡ textStart → v ≡ noVertices → VerticesSoFar s from v
+vertices-start s from v e f = subst (λ (p : Place). VerticesSoFar s p v) (sym e) (subst (λ (u : Vertices). VerticesSoFar s textStart u) (sym f) none-yet)
+  where
+    none-yet : VerticesSoFar s textStart noVertices
+    none-yet = record {
+      stored = record { within = omega arith; named = refl; blank = refl };
+      rest = refl;
+      parts = unfold vertexParts in ap (λ l. firstParts s [] (joined vertexPart l)) (text-standing s);
+      whole = refl;
+    }
+
+firstParts-append : (s : Bytes) (seen a b : List Part) → firstParts s seen (a ++ b) ≡ firstParts s (firstParts s seen a) b
+unfolding firstParts
+firstParts-append s seen [] b = refl
+firstParts-append s seen (p ∷ a) b = firstParts-append s (addPart s seen p) a b
 
 module _ (s : Bytes) (from : Place) (v : Vertices) (so : VerticesSoFar s from v) (r : PieceRead) (h : StepAt s from r) where
   module _ (x : Step) (e : r ≡ read.Found x) where
@@ -128,19 +193,29 @@ module _ (s : Bytes) (from : Place) (v : Vertices) (so : VerticesSoFar s from v)
     unfolding joined
     ahead = sym (firsts-append (namesOf s v) (vertexIn (pieceOf s (x .piece))) (verticesIn (foundAt s (x .next)))) ∙ ap (λ ps. firsts (namesOf s v) (verticesIn ps)) (sym (step-list s from r h x e)) ∙ so .rest
 
+    parts-ahead : firstParts s (firstParts s (partsOf v) (joined vertexPart (pieceStanding (x .piece)))) (joined vertexPart (standingsAt s (x .next))) ≡ vertexParts s
+    parts-ahead =
+        sym (firstParts-append s (partsOf v) (joined vertexPart (pieceStanding (x .piece))) (joined vertexPart (standingsAt s (x .next))))
+        ∙ ap (firstParts s (partsOf v)) (sym (parts-found s from r h vertexPart x e)) ∙ so .parts
+
     pub vertices-room : length (vertexNamesIn s) ≤ 8 → length (firsts (namesOf s v) (vertexIn (pieceOf s (x .piece)))) ≤ 8
     vertices-room few = let a = ap length ahead in omega (arith, firsts-grow (firsts (namesOf s v) (vertexIn (pieceOf s (x .piece)))) (verticesIn (foundAt s (x .next))))
 
-    pub vertices-on : (u : Vertices) → Found s u (firsts (namesOf s v) (vertexIn (pieceOf s (x .piece)))) → VerticesSoFar s (x .next) u
+    pub vertices-on : (u : Vertices) → MoreVertices s v (joined vertexPart (pieceStanding (x .piece))) (firsts (namesOf s v) (vertexIn (pieceOf s (x .piece)))) u → VerticesSoFar s (x .next) u
     vertices-on u f = record {
-      stored = record { within = f .within; named = refl; inside = f .inside };
-      rest = ap (λ l. firsts l (verticesIn (foundAt s (x .next)))) (f .named) ∙ ahead;
+      stored = record { within = f .found .within; named = refl; blank = f .found .blank };
+      rest = ap (λ l. firsts l (verticesIn (foundAt s (x .next)))) (f .found .named) ∙ ahead;
+      parts = ap (λ l. firstParts s l (joined vertexPart (standingsAt s (x .next)))) (f .parts) ∙ parts-ahead;
+      whole = so .whole ∙ step-whole s from r h x e;
     }
 
-  pub vertices-end : (w : Bool) → r ≡ read.None w → Found s v (vertexNamesIn s)
-  unfolding joined firstsBy
+  pub vertices-end : (w : Bool) → r ≡ read.None w → VerticesRead s v
+  unfolding joined firstsBy firstParts
   vertices-end w e = record {
-    within = so .stored .within;
-    named = sym (ap (λ ps. firsts (namesOf s v) (verticesIn ps)) (step-none s from r h w e)) ∙ so .rest;
-    inside = so .stored .inside;
+    found = record {
+      within = so .stored .within;
+      named = sym (ap (λ ps. firsts (namesOf s v) (verticesIn ps)) (step-none s from r h w e)) ∙ so .rest;
+      blank = so .stored .blank;
+    };
+    parts = λ k. sym (ap (firstParts s (partsOf v)) (parts-none s from r h vertexPart w e (sym (so .whole) ∙ k))) ∙ so .parts;
   }

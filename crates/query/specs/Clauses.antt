@@ -1,33 +1,38 @@
 -- The conditions of a text by the numbers of what they name.
 use Prim.Native.Nat.{ℕ, _+_, _<_, _≤_}
 use mathlib.Core.Path.{_≡_}
-use mathlib.Core.List.{List, _++_, map}
+use mathlib.Core.List.{List, [], _∷_, _++_, map}
 use mathlib.Core.Bool.{Bool, true, _&&_}
-use lib.ListN.{length, take, getD, set}
+use lib.ListN.{length, take, getD, set, replicate}
 use Rattle.model.specs.Bytes.{Bytes}
 use Rattle.model.specs.Choice.{pick}
-use Rattle.model.specs.Lists.{all}
+use Rattle.model.specs.Lists.{all, joined}
 use Rattle.model.specs.Names.{mem, place}
 use Rattle.model.specs.Book.{Book, attrNames}
 use Rattle.model.specs.QueryText.{Condition, differ, demand}
 use Rattle.model.specs.Pattern.{Clause, clauseOf}
 use Rattle.model.specs.Answers.{nameAt, relationOf, valueOf, clauseIn}
+use Rattle.model.specs.Places.{valuePart, valueParts}
+use Rattle.model.specs.WholeAnswers.{clauseData, behindClause}
+use Rattle.model.specs.declared.Part.{Part}
 use Rattle.model.specs.declared.Requirement.{Requirement}
 use Rattle.model.specs.declared.Condition.{Condition as ConditionData}
 use Rattle.model.specs.declared.Condition.the-variants.{Excluded, OfVertex, OfEdge}
+use Rattle.model.specs.declared.Clause.{Clause as ClauseData}
 use Rattle.tables.specs.declared.BookCounts.{BookCounts}
 use Rattle.tables.specs.View.{bookAt}
 use Rattle.tables.specs.Fits.{Fits}
 use Rattle.pieces.specs.declared.Demand.{Demand}
 use Rattle.pieces.specs.declared.Piece.{Piece as PieceData}
-use Rattle.pieces.specs.Steps.{pieceOf}
+use Rattle.signs.specs.Expected.{valueStanding}
+use Rattle.pieces.specs.Steps.{pieceOf, pieceStanding, walkAt}
 use Rattle.pieces.specs.Named.{conditionIn, edgesIn, conditionsIn}
-use Rattle.faults.specs.Names.{textPieces}
+use Rattle.faults.specs.Names.{textStart, textPieces}
 use Rattle.writer.specs.Writable.{Limits, ConditionFits}
-use Rattle.model.specs.PlainData.{noClause, ConditionWithin}
+use Rattle.model.specs.PlainData.{noClause}
 use Rattle.query.specs.declared.vertices.Vertices.{Vertices}
 use Rattle.query.specs.declared.clauses.Clauses.{Clauses}
-use Rattle.query.specs.Parts.{ValueCut, ValueBegins}
+use Rattle.query.specs.Parts.{Blank}
 use Rattle.query.specs.Vertices.{namesOf, Found, vertexNamesIn}
 
 -- a condition names what is there: two vertices; or a vertex or an edge with an attribute that is declared for it
@@ -47,24 +52,35 @@ demandOf s d = demand (nameAt s (d .subject)) (nameAt s (d .attribute)) (relatio
 pub record RequirementRead (names : List Bytes) (s : Bytes) (d : Demand) (r : Requirement) : Type 0 where
   pub attribute : r .attribute ≡ place (nameAt s (d .attribute)) names
   pub relation : r .relation ≡ d .relation
-  pub value : ValueCut s (d .value) (r .value)
+  pub value : r .value ≡ d .value
 
 -- how many there are of what a text's conditions name by number
 abbrev pub textLimits : BookCounts → Vertices → Bytes → Limits
 textLimits c v s = record { vertices = v .count; edges = length (textEdges s); labels = c .labels; vattrs = c .vattrs; eattrs = c .eattrs }
 
--- a condition's text begins within so many bytes, if there are any
-abbrev pub ConditionBegins : ℕ → ConditionData → Type 0
-ConditionBegins size (Excluded u v) = Unit {0}
-ConditionBegins size (OfVertex v x) = ValueBegins size (x .value)
-ConditionBegins size (OfEdge e x) = ValueBegins size (x .value)
+-- the part of a condition's text value
+unfoldable pub conditionParts : ConditionData → List Part
+conditionParts (Excluded u v) = []
+conditionParts (OfVertex v x) = joined valuePart (valueStanding (x .value))
+conditionParts (OfEdge e x) = joined valuePart (valueStanding (x .value))
 
--- r is a condition of a text, by numbers
-pub record ConditionRead (b : Book) (m : Limits) (s : Bytes) (vs es : List Bytes) (k : Condition) (r : ConditionData) : Type 0 where
+-- r is what a clause is as data, its text value at the first of some parts
+abbrev pub ToldAs : Book → Clause → ConditionData → Type 0
+ToldAs b c r = (ps : List Part) → (clauseData b (conditionParts r ++ ps) c ≡ r) × (behindClause (conditionParts r ++ ps) c ≡ ps)
+
+-- so each of a list
+unfoldable pub AllTold : Book → List Clause → List ClauseData → Type 0
+AllTold b [] [] = Unit {0}
+AllTold b [] (r ∷ rs) = ⊥
+AllTold b (c ∷ cs) [] = ⊥
+AllTold b (c ∷ cs) (r ∷ rs) = ToldAs b c (r .condition) × AllTold b cs rs
+
+-- r is a condition of a text, by numbers, its text value at these parts
+pub record ConditionRead (b : Book) (m : Limits) (s : Bytes) (vs es : List Bytes) (k : Condition) (ps : List Part) (r : ConditionData) : Type 0 where
   pub is : clauseIn b s r ≡ clauseOf vs es k
   pub fits : ConditionFits m r
-  pub within : ConditionWithin (length s) r
-  pub begins : ConditionBegins (length s) r
+  pub told : ToldAs b (clauseOf vs es k) r
+  pub parts : conditionParts r ≡ ps
 
 -- what is asked of a condition
 pub record ConditionAsked (book : Bytes) (words : List ℕ) (c : BookCounts) (s : Bytes) (v : Vertices) (k : Condition) : Type 0 where
@@ -83,8 +99,16 @@ pub record ClausesRead (b : Book) (m : Limits) (s : Bytes) (cs : List Clause) (r
   pub counted : r .count ≡ length cs
   pub is : clausesOf b s r ≡ cs
   pub each : (i : ℕ) → i < r .count → ConditionFits m (getD (r .clauses) i noClause .condition)
-  pub within : (i : ℕ) → i < r .count → ConditionWithin (length s) (getD (r .clauses) i noClause .condition)
-  pub begins : (i : ℕ) → i < r .count → ConditionBegins (length s) (getD (r .clauses) i noClause .condition)
+  pub told : AllTold b cs (take (r .count) (r .clauses))
+  pub blank : Blank 32 noClause (r .count) (r .clauses)
+
+-- no clause
+abbrev pub noClauses : Clauses
+noClauses = record { clauses = replicate 32 noClause; count = 0 }
+
+-- the parts of their text values
+abbrev pub valuePartsOf : Clauses → List Part
+valuePartsOf r = joined (λ c. conditionParts (c .condition)) (take (r .count) (r .clauses))
 
 -- r is one clause more
 pub record ClauseAdded (old : Clauses) (k : ConditionData) (r : Clauses) : Type 0 where
@@ -98,9 +122,10 @@ pub record PieceAsked (book : Bytes) (words : List ℕ) (c : BookCounts) (s : By
   pub room : old .count + length (conditionIn (pieceOf s p)) ≤ 32
   pub named : all (known (bookAt book words c) (namesOf s v) (textEdges s)) (conditionIn (pieceOf s p)) ≡ true
 
--- the clauses with those of a piece
-abbrev pub PieceAdded : Book → Limits → Bytes → List Bytes → List Bytes → Clauses → PieceData → Clauses → Type 0
-PieceAdded b m s vs es old p r = (cs : List Clause) → ClausesRead b m s cs old → ClausesRead b m s (cs ++ map (clauseOf vs es) (conditionIn (pieceOf s p))) r
+-- the clauses with those of a piece, and the parts with those of its text value
+pub record PieceAdded (b : Book) (m : Limits) (s : Bytes) (vs es : List Bytes) (old : Clauses) (p : PieceData) (r : Clauses) : Type 0 where
+  pub read : (cs : List Clause) → ClausesRead b m s cs old → ClausesRead b m s (cs ++ map (clauseOf vs es) (conditionIn (pieceOf s p))) r
+  pub parts : (cs : List Clause) → ClausesRead b m s cs old → valuePartsOf r ≡ valuePartsOf old ++ joined valuePart (pieceStanding p)
 
 -- what is asked of a text
 pub record ClausesAsked (book : Bytes) (words : List ℕ) (c : BookCounts) (s : Bytes) (v : Vertices) : Type 0 where
@@ -112,3 +137,8 @@ pub record ClausesAsked (book : Bytes) (words : List ℕ) (c : BookCounts) (s : 
 -- the clauses that a text's conditions are
 abbrev pub textClauses : Bytes → List Clause
 textClauses s = map (clauseOf (vertexNamesIn s) (textEdges s)) (conditionsIn (textPieces s))
+
+-- r are the clauses of a text; of a whole one, each text value stands at its place
+pub record TextClausesRead (b : Book) (m : Limits) (s : Bytes) (r : Clauses) : Type 0 where
+  pub read : ClausesRead b m s (textClauses s) r
+  pub parts : walkAt s textStart .whole ≡ true → valuePartsOf r ≡ valueParts s

@@ -13,6 +13,7 @@ use Rattle.model.specs.QueryText.{QueryText}
 use Rattle.model.specs.Grammar.{queryText}
 use Rattle.model.specs.Pattern.{patternOf}
 use Rattle.model.specs.Answers.{patternIn}
+use Rattle.model.specs.WholeAnswers.{queryData}
 use Rattle.model.specs.declared.Pattern.{Pattern}
 use Rattle.tables.specs.declared.BookCounts.{BookCounts}
 use Rattle.tables.specs.View.{bookAt}
@@ -27,9 +28,10 @@ pub record PatternAsked (book : Bytes) (words : List ℕ) (c : BookCounts) (s : 
   pub clear : textFault (bookAt book words c) s ≡ 0
   pub allowed : T (all isAllowed s)
 
--- p is the pattern of a text: its numbers are below the counts, its names stand inside the text and fit their words, and something is returned
+-- p is the pattern of a text, every slot of it: its numbers are below the counts, its names stand inside the text and fit their words, and something is returned
 pub record PatternRead (b : Book) (c : BookCounts) (s : Bytes) (p : Pattern) : Type 0 where
   pub is : (tree : QueryText) → queryText s ≡ just tree → patternIn b s p ≡ patternOf tree
+  pub whole : (tree : QueryText) → queryText s ≡ just tree → p ≡ queryData b s (patternOf tree)
   pub fits : PatternFits (countLimits c p) p
   pub parts : PartsWithin (length s) p
   pub words : (base : ℕ) → base + length s ≤ 65536 → WordsFit base p

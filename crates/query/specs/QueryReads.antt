@@ -2,7 +2,6 @@
 use Prim.Native.Nat.{ℕ}
 use mathlib.Core.Path.{_≡_}
 use mathlib.Core.List.{List}
-use lib.ListN.{replicate}
 use Rattle.model.specs.Bytes.{Bytes}
 use Rattle.model.specs.Refusal.{accepted, refused}
 use Rattle.model.specs.Book.{Book}
@@ -17,18 +16,8 @@ use Rattle.tables.specs.declared.BookCounts.{BookCounts}
 use Rattle.tables.specs.Fits.{Fits}
 use Rattle.text.specs.Lines.{bytesOf}
 use Rattle.text.specs.declared.BytesRead.the-variants.{Allowed}
-use Rattle.model.specs.PlainData.{noPart, noEdge, noClause}
+use Rattle.model.specs.PlainData.{noPattern}
 use Rattle.query.specs.PatternRead.{PatternRead}
-
--- the empty pattern
-abbrev pub noPattern : Pattern
-noPattern = record {
-  vertices = replicate 8 noPart;
-  edges = replicate 16 noEdge;
-  clauses = replicate 32 noClause;
-  returns = replicate 4 0;
-  counts = record { vertices = 0; edges = 0; clauses = 0; returns = 0 };
-}
 
 -- accepted: the text is read as a tree, and the pattern is the tree's; refused: so is the text, and the pattern is empty
 abbrev pub QueryGiven : Book → BookCounts → Bytes → Pattern → Verdict → Type 0

@@ -3,7 +3,7 @@ use Prim.Native.Nat.{ℕ, _≤_, _<_}
 use mathlib.Core.Path.{_≡_}
 use mathlib.Core.Bool.{false}
 use mathlib.Core.List.{List, [], _++_, map}
-use lib.ListN.{length, take, getD}
+use lib.ListN.{length, take, getD, replicate}
 use Rattle.model.specs.Bytes.{Bytes}
 use Rattle.model.specs.Names.{place}
 use Rattle.model.specs.Book.{Book}
@@ -12,6 +12,7 @@ use Rattle.pieces.specs.Faults.{someWhere, undeclaredAt}
 use Rattle.faults.specs.Names.{textPieces}
 use Rattle.query.specs.declared.vertices.Vertices.{Vertices}
 use Rattle.query.specs.declared.returns.Returns.{Returns}
+use Rattle.query.specs.Parts.{Blank}
 use Rattle.query.specs.Vertices.{Found, vertexNamesIn}
 
 -- the numbers of names among the vertices
@@ -22,11 +23,16 @@ numbersOf vs names = map (λ v. place v vs) names
 abbrev pub numbersIn : Returns → List ℕ
 numbersIn r = take (r .count) (r .numbers)
 
+-- no returned vertex
+abbrev pub noReturns : Returns
+noReturns = record { numbers = replicate 4 0; count = 0 }
+
 -- r are the returned vertices with more behind them
 pub record MoreReturns (returns : Returns) (more : List ℕ) (r : Returns) : Type 0 where
   pub room : length (r .numbers) ≡ 4
   pub few : r .count ≤ 4
   pub is : numbersIn r ≡ numbersIn returns ++ more
+  pub blank : Blank 4 0 (r .count) (r .numbers)
 
 -- what is asked of a text: its vertices are found, its returned names have room, and all that it names is declared in some book
 pub record ReturnsAsked (s : Bytes) (vertices : Vertices) : Type 0 where
@@ -41,3 +47,5 @@ pub record ReturnsRead (s : Bytes) (vertices : Vertices) (r : Returns) : Type 0 
   pub few : r .count ≤ 4
   pub counted : r .count ≡ length (returnsIn (textPieces s))
   pub each : (i : ℕ) → i < r .count → getD (r .numbers) i 0 < vertices .count
+  pub room : length (r .numbers) ≡ 4
+  pub blank : Blank 4 0 (r .count) (r .numbers)

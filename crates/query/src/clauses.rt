@@ -1,19 +1,22 @@
 // The conditions of a text in its order: exclusions, and requirements of vertices and of edges, each by number.
 ghost use mathlib.Core.Path.{_≡_};
+ghost use mathlib.Core.List.{[]};
 ghost use Prim.Native.Nat.{_<_};
 ghost use lib.ListN.{length};
 ghost use Rattle.model.specs.Bytes.{Bytes};
+ghost use Rattle.model.specs.Lists.{joined};
 ghost use Rattle.model.specs.Names.{place};
 ghost use Rattle.model.specs.Book.{attrNames};
 ghost use Rattle.model.specs.QueryText.{differ};
 ghost use Rattle.model.specs.Answers.{nameAt};
+ghost use Rattle.model.specs.Places.{valuePart};
+ghost use Rattle.signs.specs.Expected.{valueStanding};
 ghost use Rattle.tables.specs.View.{bookAt};
 ghost use Rattle.tables.specs.Fits.{Fits};
 ghost use Rattle.pieces.specs.Named.{edgeIn};
 ghost use Rattle.pieces.specs.Steps.{pieceOf};
 ghost use Rattle.query.specs.Vertices.{namesOf};
-ghost use Rattle.query.specs.Clauses.{textEdges, demandOf, RequirementRead, textLimits, ConditionRead, ConditionAsked, ClauseAdded, PieceAsked, PieceAdded, ClausesAsked, ClausesRead, textClauses};
-use crate::parts;
+ghost use Rattle.query.specs.Clauses.{textEdges, demandOf, RequirementRead, textLimits, ConditionRead, ConditionAsked, ClauseAdded, PieceAsked, PieceAdded, ClausesAsked, noClauses, TextClausesRead};
 use crate::vertices;
 use crate::vertices::Vertices;
 use faults::NameOf;
@@ -84,8 +87,7 @@ fn vertex_requirement(
     let length = a.length;
     let attribute = names::find_vattr(book, words, counts, expected::part(s, start, length));
     let relation = d.relation;
-    let v = d.value;
-    let value = parts::value_within(s, v);
+    let value = d.value;
     Requirement {
         attribute,
         relation,
@@ -109,8 +111,7 @@ fn edge_requirement(
     let length = a.length;
     let attribute = names::find_eattr(book, words, counts, expected::part(s, start, length));
     let relation = d.relation;
-    let v = d.value;
-    let value = parts::value_within(s, v);
+    let value = d.value;
     Requirement {
         attribute,
         relation,
@@ -129,7 +130,7 @@ fn requirement(
 ) -> Condition
     requires { ⌜ ConditionAsked (now book) (now words) counts (now s) found (demandOf (now s) d) ⌝ }
     ensures { λ r. ⌜ ConditionRead (bookAt (now (book .entry)) (now (words .entry)) counts) (textLimits counts found (now (s .entry))) (now (s .entry))
-        (namesOf (now (s .entry)) found) (textEdges (now (s .entry))) (demandOf (now (s .entry)) d) r ⌝ }
+        (namesOf (now (s .entry)) found) (textEdges (now (s .entry))) (demandOf (now (s .entry)) d) (joined valuePart (valueStanding (d .value))) r ⌝ }
 {
     let x = d.subject;
     let v = vertices::vertex_number(s, found, x);
@@ -154,7 +155,7 @@ fn exclusion(
 ) -> Condition
     requires { ⌜ ConditionAsked (now book) (now words) counts (now s) found (differ (nameAt (now s) v) (nameAt (now s) u)) ⌝ }
     ensures { λ r. ⌜ ConditionRead (bookAt (now (book .entry)) (now (words .entry)) counts) (textLimits counts found (now (s .entry))) (now (s .entry))
-        (namesOf (now (s .entry)) found) (textEdges (now (s .entry))) (differ (nameAt (now (s .entry)) v) (nameAt (now (s .entry)) u)) r ⌝ }
+        (namesOf (now (s .entry)) found) (textEdges (now (s .entry))) (differ (nameAt (now (s .entry)) v) (nameAt (now (s .entry)) u)) [] r ⌝ }
 {
     let from = vertices::vertex_number(s, found, v);
     let other = vertices::vertex_number(s, found, u);
@@ -202,7 +203,7 @@ fn with_piece(
 
 // No clause.
 fn no_clauses() -> Clauses
-    ensures { λ r. ⌜ (r .count ≡ 0) × (length (r .clauses) ≡ 32) ⌝ }
+    ensures { λ r. ⌜ r ≡ noClauses ⌝ }
 {
     let condition = Condition::Excluded(0, 0);
     let none = Clause { condition };
@@ -219,7 +220,7 @@ pub fn clauses_of(
     found: Vertices,
 ) -> Clauses
     requires { ⌜ ClausesAsked (now book) (now words) counts (now s) found ⌝ }
-    ensures { λ r. ⌜ ClausesRead (bookAt (now (book .entry)) (now (words .entry)) counts) (textLimits counts found (now (s .entry))) (now (s .entry)) (textClauses (now (s .entry))) r ⌝ }
+    ensures { λ r. ⌜ TextClausesRead (bookAt (now (book .entry)) (now (words .entry)) counts) (textLimits counts found (now (s .entry))) (now (s .entry)) r ⌝ }
 {
     let mut place = scan::text_start();
     let mut clauses = no_clauses();

@@ -3,14 +3,15 @@ ghost use mathlib.Core.Path.{_≡_};
 ghost use mathlib.Core.List.{[], _∷_};
 ghost use Prim.Native.Nat.{_+_, _<_, _≤_};
 ghost use lib.ListN.{length};
+ghost use Rattle.model.specs.Lists.{joined};
 ghost use Rattle.model.specs.Answers.{nameAt};
+ghost use Rattle.model.specs.Places.{edgePart};
 ghost use Rattle.pieces.specs.Named.{vertexIn};
-ghost use Rattle.pieces.specs.Steps.{pieceOf};
+ghost use Rattle.pieces.specs.Steps.{pieceOf, pieceStanding};
 ghost use Rattle.tables.specs.View.{bookAt};
 ghost use Rattle.tables.specs.Fits.{Fits};
 ghost use Rattle.query.specs.Vertices.{namesOf};
-ghost use Rattle.query.specs.Edges.{numbered, numberAfter, edgesBetween, Stored, MoreEdges, EdgesAsked, EdgesRead};
-use crate::parts;
+ghost use Rattle.query.specs.Edges.{numbered, numberAfter, edgesBetween, noEdges, Stored, MoreEdges, EdgesAsked, EdgesRead};
 use crate::vertices;
 use crate::vertices::Vertices;
 use faults::NameOf;
@@ -34,7 +35,7 @@ pub struct Edges {
 
 // No edge.
 fn no_edges() -> Edges
-    ensures { λ r. ⌜ (r .count ≡ 0) × (length (r .edges) ≡ 16) ⌝ }
+    ensures { λ r. ⌜ r ≡ noEdges ⌝ }
 {
     let name = Part {
         start: 0,
@@ -72,16 +73,15 @@ fn with_link(
     from: usize,
     to: usize,
 ) -> Edges
-    requires { ⌜ Fits (now book) (now words) counts × Stored (now s) edges × (edges .count < 16) ⌝ }
-    ensures { λ r. ⌜ MoreEdges (now (s .entry)) edges (numbered (bookAt (now (book .entry)) (now (words .entry)) counts) (nameAt (now (s .entry)) (link .edge)) (nameAt (now (s .entry)) (link .label)) from to ∷ []) r ⌝ }
+    requires { ⌜ Fits (now book) (now words) counts × Stored edges × (edges .count < 16) ⌝ }
+    ensures { λ r. ⌜ MoreEdges (now (s .entry)) edges (numbered (bookAt (now (book .entry)) (now (words .entry)) counts) (nameAt (now (s .entry)) (link .edge)) (nameAt (now (s .entry)) (link .label)) from to ∷ []) (link .edge ∷ []) r ⌝ }
 {
     let n = edges.count;
     let word = link.label;
     let start = word.start;
     let length = word.length;
     let label = names::find_label(book, words, counts, expected::part(s, start, length));
-    let variable = link.edge;
-    let name = parts::within(s, variable);
+    let name = link.edge;
     let mut more = edges;
     more.edges[n] = Edge {
         name,
@@ -104,8 +104,8 @@ fn with_piece(
     own: usize,
     p: Piece,
 ) -> Edges
-    requires { ⌜ Fits (now book) (now words) counts × Stored (now s) edges × (edges .count + length (edgesBetween (bookAt (now book) (now words) counts) last own (pieceOf (now s) p)) ≤ 16) ⌝ }
-    ensures { λ r. ⌜ MoreEdges (now (s .entry)) edges (edgesBetween (bookAt (now (book .entry)) (now (words .entry)) counts) last own (pieceOf (now (s .entry)) p)) r ⌝ }
+    requires { ⌜ Fits (now book) (now words) counts × Stored edges × (edges .count + length (edgesBetween (bookAt (now book) (now words) counts) last own (pieceOf (now s) p)) ≤ 16) ⌝ }
+    ensures { λ r. ⌜ MoreEdges (now (s .entry)) edges (edgesBetween (bookAt (now (book .entry)) (now (words .entry)) counts) last own (pieceOf (now (s .entry)) p)) (joined edgePart (pieceStanding p)) r ⌝ }
 {
     match p {
         Piece::Start(_) => edges,

@@ -2,7 +2,7 @@
 ghost use mathlib.Core.Path.{_≡_};
 ghost use Rattle.tables.specs.View.{bookAt};
 ghost use Rattle.query.specs.PatternRead.{PatternAsked, PatternRead};
-ghost use Rattle.query.specs.QueryReads.{noPattern};
+ghost use Rattle.model.specs.PlainData.{noPattern};
 use crate::clauses;
 use crate::edges;
 use crate::returns;

@@ -4,8 +4,9 @@ ghost use Prim.Native.Nat.{_+_, _≤_};
 ghost use lib.ListN.{length};
 ghost use Rattle.pieces.specs.Named.{returnIn};
 ghost use Rattle.pieces.specs.Steps.{pieceOf};
+ghost use Rattle.query.specs.Parts.{Blank};
 ghost use Rattle.query.specs.Vertices.{namesOf};
-ghost use Rattle.query.specs.Returns.{numbersOf, MoreReturns, ReturnsAsked, ReturnsRead};
+ghost use Rattle.query.specs.Returns.{noReturns, numbersOf, MoreReturns, ReturnsAsked, ReturnsRead};
 use crate::vertices;
 use crate::vertices::Vertices;
 use faults::NameOf;
@@ -23,7 +24,7 @@ pub struct Returns {
 
 // No returned vertex.
 fn no_returns() -> Returns
-    ensures { λ r. ⌜ (r .count ≡ 0) × (length (r .numbers) ≡ 4) ⌝ }
+    ensures { λ r. ⌜ r ≡ noReturns ⌝ }
 {
     let numbers = [0usize; MAX_RETURNS];
     Returns { numbers, count: 0 }
@@ -31,7 +32,7 @@ fn no_returns() -> Returns
 
 // The returned vertices with that of a piece.
 fn with_piece(s: &[u8], found: Vertices, returns: Returns, p: Piece) -> Returns
-    requires { ⌜ (found .count ≤ 8) × (returns .count + length (returnIn (pieceOf (now s) p)) ≤ 4) ⌝ }
+    requires { ⌜ (found .count ≤ 8) × (returns .count + length (returnIn (pieceOf (now s) p)) ≤ 4) × Blank 4 0 (returns .count) (returns .numbers) ⌝ }
     ensures { λ r. ⌜ MoreReturns returns (numbersOf (namesOf (now (s .entry)) found) (returnIn (pieceOf (now (s .entry)) p))) r ⌝ }
 {
     let n = returns.count;

@@ -1,14 +1,15 @@
 // The vertices of a text by first appearance.
 ghost use mathlib.Core.Path.{_≡_};
+ghost use mathlib.Core.List.{[], _∷_};
 ghost use Prim.Native.Nat.{_≤_};
 ghost use lib.ListN.{length};
+ghost use Rattle.model.specs.Lists.{joined};
 ghost use Rattle.model.specs.Names.{place, addNew, firsts};
 ghost use Rattle.model.specs.Answers.{nameAt};
+ghost use Rattle.model.specs.Places.{vertexPart};
 ghost use Rattle.pieces.specs.Named.{vertexIn};
-ghost use Rattle.pieces.specs.Steps.{pieceOf};
-ghost use Rattle.query.specs.Vertices.{namesOf, Found, vertexNamesIn};
-use crate::parts;
-use faults::NameOf;
+ghost use Rattle.pieces.specs.Steps.{pieceOf, pieceStanding};
+ghost use Rattle.query.specs.Vertices.{namesOf, noVertices, Found, MoreVertices, vertexNamesIn, VerticesRead};
 use faults::scan;
 use model::MAX_VERTICES;
 use model::Part;
@@ -24,7 +25,7 @@ pub struct Vertices {
 
 // No vertex.
 fn no_vertices() -> Vertices
-    ensures { λ r. ⌜ r .count ≡ 0 ⌝ }
+    ensures { λ r. ⌜ r ≡ noVertices ⌝ }
 {
     let none = Part {
         start: 0,
@@ -54,15 +55,14 @@ pub fn vertex_number(s: &[u8], vertices: Vertices, name: Part) -> usize
 // The vertices with one more, if it is none of them.
 fn with_vertex(s: &[u8], vertices: Vertices, name: Part) -> Vertices
     requires { ⌜ Found (now s) vertices (namesOf (now s) vertices) × (length (addNew (namesOf (now s) vertices) (nameAt (now s) name)) ≤ 8) ⌝ }
-    ensures { λ r. ⌜ Found (now (s .entry)) r (addNew (namesOf (now (s .entry)) vertices) (nameAt (now (s .entry)) name)) ⌝ }
+    ensures { λ r. ⌜ MoreVertices (now (s .entry)) vertices (name ∷ []) (addNew (namesOf (now (s .entry)) vertices) (nameAt (now (s .entry)) name)) r ⌝ }
 {
     let n = vertices.count;
     if vertex_number(s, vertices, name) < n {
         return vertices;
     }
-    let v = parts::within(s, name);
     let mut more = vertices;
-    more.parts[n] = v;
+    more.parts[n] = name;
     more.count = n + 1;
     more
 }
@@ -70,18 +70,28 @@ fn with_vertex(s: &[u8], vertices: Vertices, name: Part) -> Vertices
 // The vertices with that of a piece.
 fn with_piece(s: &[u8], vertices: Vertices, p: Piece) -> Vertices
     requires { ⌜ Found (now s) vertices (namesOf (now s) vertices) × (length (firsts (namesOf (now s) vertices) (vertexIn (pieceOf (now s) p))) ≤ 8) ⌝ }
-    ensures { λ r. ⌜ Found (now (s .entry)) r (firsts (namesOf (now (s .entry)) vertices) (vertexIn (pieceOf (now (s .entry)) p))) ⌝ }
+    ensures { λ r. ⌜ MoreVertices (now (s .entry)) vertices (joined vertexPart (pieceStanding p)) (firsts (namesOf (now (s .entry)) vertices) (vertexIn (pieceOf (now (s .entry)) p))) r ⌝ }
 {
-    match scan::vertex_of(p) {
-        NameOf::Is(v) => with_vertex(s, vertices, v),
-        NameOf::None => vertices,
+    match p {
+        Piece::Start(v) => with_vertex(s, vertices, v),
+        Piece::Goes(link) => {
+            let v = link.vertex;
+            with_vertex(s, vertices, v)
+        }
+        Piece::Comes(link) => {
+            let v = link.vertex;
+            with_vertex(s, vertices, v)
+        }
+        Piece::Differ(_, _) => vertices,
+        Piece::Asks(_) => vertices,
+        Piece::Returns(_) => vertices,
     }
 }
 
 // The vertices of a text.
 pub fn vertices_of(s: &[u8]) -> Vertices
     requires { ⌜ length (vertexNamesIn (now s)) ≤ 8 ⌝ }
-    ensures { λ r. ⌜ Found (now (s .entry)) r (vertexNamesIn (now (s .entry))) ⌝ }
+    ensures { λ r. ⌜ VerticesRead (now (s .entry)) r ⌝ }
 {
     let mut place = scan::text_start();
     let mut vertices = no_vertices();

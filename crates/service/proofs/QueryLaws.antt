@@ -10,7 +10,9 @@ use Rattle.model.specs.QueryText.{QueryText}
 use Rattle.model.specs.ReadQuery.{readQuery}
 use Rattle.model.specs.Pattern.{Pattern, patternOf}
 use Rattle.model.specs.Service.{queryService}
-use Rattle.model.specs.Answers.{refusalOf, bookOf, patternIn, verdictOf, queryAnswer}
+use Rattle.model.specs.Answers.{refusalOf, bookOf, patternIn, verdictOf, queryAnswer, refusalData}
+use Rattle.model.specs.PlainData.{noPattern}
+use Rattle.model.specs.WholeAnswers.{queryOutcome}
 use Rattle.model.specs.declared.Refusal.{Refusal as RefusalData}
 use Rattle.model.specs.declared.Verdict.{Verdict}
 use Rattle.model.specs.declared.Verdict.the-variants.{Accepted, Refused}
@@ -23,9 +25,9 @@ use Rattle.book.specs.declared.BookLoad.{BookLoad}
 use Rattle.book.specs.declared.BookLoad.the-variants as load
 use Rattle.book.specs.Loaded.{Loaded}
 use Rattle.query.specs.PatternRead.{PatternRead}
-use Rattle.query.specs.QueryReads.{noPattern, QueryGiven, QueryReads}
+use Rattle.query.specs.QueryReads.{QueryGiven, QueryReads}
 use Rattle.service.specs.Behind.{queryFrom}
-use Rattle.service.specs.Beside.{refusedQuery, QueryBy, EmptyBeside, QuerySays}
+use Rattle.service.specs.Beside.{refusedQuery, QuerySays}
 use Rattle.service.specs.Ready.{QueryReady}
 use Rattle.service.proofs.BookLaws.{tooLittle, little, enough, book-read}
 
@@ -70,13 +72,14 @@ module _ (b : Book) (k : BookCounts) (s : Bytes) (r : QueryRead) (reads : QueryR
       go Accepted (q, e, p) = rw e (ap accepted (p .is q (query-accepted b s q e .is-text)))
       go (Refused x) e = rw (e .0)
 
-  -- a refusal is the whole answer
-  pub query-beside : EmptyBeside r
-  query-beside = go (r .verdict) refl reads
+  -- every slot of the answer
+  pub query-whole : r ≡ queryOutcome b s (queryFrom s b)
+  unfolding queryOutcome queryFrom onAccept refusalData refusalOf
+  query-whole = go (r .verdict) refl reads
     where
-      go : (v : Verdict) → r .verdict ≡ v → QueryGiven b k s (r .pattern) v → QueryBy r v
-      go Accepted d h = tt
-      go (Refused x) d h = λ i. record { verdict = d i; pattern = h .1 i }
+      go : (v : Verdict) → r .verdict ≡ v → QueryGiven b k s (r .pattern) v → r ≡ queryOutcome b s (onAccept (readQuery b s) (λ q. accepted (patternOf q)))
+      go Accepted d (q, e, p) = rw e (λ i. record { verdict = d i; pattern = p .whole q (query-accepted b s q e .is-text) i })
+      go (Refused x) d h = rw (h .0) (λ i. record { verdict = d i; pattern = h .1 i })
 
 -- a refusal beside an empty pattern
 pub refused-empty : (q : RefusalData) (p : PatternData) → p ≡ noPattern → record { verdict = Refused q; pattern = p } ≡ refusedQuery q
@@ -84,15 +87,15 @@ refused-empty q p e = λ i. record { verdict = Refused q; pattern = e i }
 
 -- an answer that is a refusal says it
 pub query-says : (o : Outcome Pattern) (b : Book) (s : Bytes) (r : QueryRead) (q : RefusalData) → r ≡ refusedQuery q → o ≡ refused (refusalOf q) → QuerySays o b s r
-unfolding queryAnswer verdictOf
-query-says o b s r q e d = subst (λ (x : QueryRead). QuerySays o b s x) (sym e) (record { answer = sym d; beside = refl })
+unfolding queryAnswer verdictOf queryOutcome refusalData refusalOf
+query-says o b s r q e d = subst (λ (x : QueryRead). QuerySays o b s x) (sym e) (record { answer = sym d; whole = sym (ap (queryOutcome b s) d) })
 
 -- the answer behind a book that was loaded
 pub query-behind : (text : Bytes) (words : List ℕ) (l : BookLoad) → Loaded text words l (readBook text) → (s : Bytes) (r : QueryRead) (c : BookCounts) → l ≡ load.Loaded c
     → QueryReads (bookAt text words c) c s r → QuerySays (onAccept (readBook text) (queryFrom s)) (bookOf (readBook text)) s r
 unfolding bookOf onAccept
 query-behind text words l loaded s r c e h =
-    rw (book-read text words l loaded c e) (record { answer = query-answered (bookAt text words c) c s r h; beside = query-beside (bookAt text words c) c s r h })
+    rw (book-read text words l loaded c e) (record { answer = query-answered (bookAt text words c) c s r h; whole = query-whole (bookAt text words c) c s r h })
 
 -- the service's answer
 module _ (work : ℕ) (book query : Bytes) where

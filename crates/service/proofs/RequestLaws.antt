@@ -14,9 +14,9 @@ use Rattle.model.specs.ReadBook.{readBook}
 use Rattle.model.specs.Rules.{Rules, categoryNames}
 use Rattle.model.specs.Request.{Request, readRequest}
 use Rattle.model.specs.Service.{RequestAnswer, requestService}
-use Rattle.model.specs.Answers.{refusalOf, identityIn, verdictOf, requestAnswer}
+use Rattle.model.specs.Answers.{refusalOf, identityIn, verdictOf, requestAnswer, refusalData}
 use Rattle.model.specs.RequestPlaces.{slots}
-use Rattle.model.specs.RequestAnswer.{refusalData, toldRequest, requestRead}
+use Rattle.model.specs.RequestAnswer.{toldRequest, requestRead}
 use Rattle.model.specs.declared.Refusal.{Refusal as RefusalData}
 use Rattle.model.specs.declared.Verdict.{Verdict}
 use Rattle.model.specs.declared.Verdict.the-variants.{Accepted, Refused}

@@ -5,7 +5,6 @@ ghost use Rattle.model.specs.ReadBook.{readBook};
 ghost use Rattle.model.specs.Service.{ones, rulesService, queryService, requestService, writerService};
 ghost use Rattle.model.specs.Answers.{bookOf, rulesAnswer, queryAnswer, requestAnswer, writerAnswer};
 ghost use Rattle.model.specs.RequestAnswer.{requestRead};
-ghost use Rattle.service.specs.Beside.{EmptyBeside};
 use book::TOO_LITTLE;
 use book::WORK_WORDS;
 use model::QueryRead;
@@ -15,6 +14,7 @@ use model::RequestRead;
 use model::RowsListed;
 use model::RulesRead;
 ghost use Rattle.model.specs.Demands.{ListCalled};
+ghost use Rattle.model.specs.WholeAnswers.{queryRead};
 
 mod listing; // listing.rt: the rows that may be had, text by text
 mod query_reader; // query_reader.rt: a query behind its book
@@ -47,7 +47,7 @@ pub fn read_rules(book: &[u8], rules: &[u8], work: &mut [u32]) -> RulesRead
 // Reads a query and answers its pattern, or a refusal beside an empty one. The working memory ends all ones.
 pub fn read_query(book: &[u8], query: &[u8], work: &mut [u32]) -> QueryRead
     ensures answer { λ r. ⌜ queryAnswer (bookOf (readBook (now (book .entry)))) (now (query .entry)) r ≡ queryService (length (now (work .entry))) (now (book .entry)) (now (query .entry)) .answer ⌝ }
-    ensures beside { λ r. ⌜ EmptyBeside r ⌝ }
+    ensures whole { λ r. ⌜ r ≡ queryRead (length (now (work .entry))) (now (book .entry)) (now (query .entry)) ⌝ }
     ensures cleared { λ _. ⌜ now (work .exit) ≡ ones (length (now (work .entry))) ⌝ }
 {
     if work.len() < WORK_WORDS {

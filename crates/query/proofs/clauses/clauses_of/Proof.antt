@@ -10,8 +10,8 @@ use Rattle.faults.specs.Names.{foundAt, textPieces}
 use Rattle.tables.specs.View.{bookAt}
 use Rattle.query.specs.Vertices.{namesOf}
 use Rattle.query.specs.Clauses.{textLimits, textEdges, known, ClausesRead}
-use Rattle.query.proofs.PartLaws.{fewer-pieces}
-use Rattle.query.proofs.ClauseLaws.{ClausesSoFar, clauses-start, clauses-all, clauses-named, clauses-room, clauses-on}
+use Rattle.query.proofs.ArrayLaws.{fewer-pieces}
+use Rattle.query.proofs.ClauseLaws.{ClausesSoFar, clauses-start, clauses-all, value-parts-all, clauses-named, clauses-room, clauses-on}
 use borrow.Author.Needs.{needs}
 use Rattle.query.proofs.clauses.clauses_of.Statement.{statement}
 use Rattle.query.proofs.clauses.clauses_of.Tie as tie
@@ -54,7 +54,10 @@ returns c =
     let vs = namesOf (a .s .now) (a .found) in
     let l = c .before .before .before .loop in
     let n = c .before .before .next-piece in
-    subst (λ us. ClausesRead b m (a .s .now) (map (clauseOf us (textEdges (a .s .now))) (conditionsIn (textPieces (a .s .now)))) (l .clauses)) (c .before .before .before .before .before .before .before .before .before .pre .found .named) (clauses-all b m (a .s .now) vs (textEdges (a .s .now)) (l .place) (l .clauses) (l .inv) (n .result) (n .ensures) (c .enum-told .given .0 .0) (c .enum-told .given .1))
+    record {
+      read = subst (λ us. ClausesRead b m (a .s .now) (map (clauseOf us (textEdges (a .s .now))) (conditionsIn (textPieces (a .s .now)))) (l .clauses)) (c .before .before .before .before .before .before .before .before .before .pre .found .named) (clauses-all b m (a .s .now) vs (textEdges (a .s .now)) (l .place) (l .clauses) (l .inv) (n .result) (n .ensures) (c .enum-told .given .0 .0) (c .enum-told .given .1));
+      parts = value-parts-all b m (a .s .now) vs (textEdges (a .s .now)) (l .place) (l .clauses) (l .inv) (n .result) (n .ensures) (c .enum-told .given .0 .0) (c .enum-told .given .1);
+    }
 
 with-piece-requires : tie.Need-with-piece-requires Inv-loop μ-loop
 with-piece-requires c κs =

@@ -4,7 +4,7 @@ use native.Mathlib.Omega.{arith}
 use lib.ListN.{length}
 use Rattle.model.specs.Answers.{nameAt}
 use Rattle.faults.specs.Names.{foundAt}
-use Rattle.query.proofs.PartLaws.{fewer-pieces}
+use Rattle.query.proofs.ArrayLaws.{fewer-pieces}
 use Rattle.query.proofs.EdgeNumbers.{EdgesPassed, passed-start, passed-bound, edge-none, edge-found, edge-passed}
 use borrow.Author.Needs.{needs}
 use Rattle.query.proofs.clauses.edge_number.Statement.{statement}

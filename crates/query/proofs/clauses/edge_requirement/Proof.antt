@@ -14,18 +14,15 @@ part-requires c κs = search needs
 find-eattr-requires : tie.Need-find-eattr-requires
 find-eattr-requires c κs = search needs
 
-value-within-requires : tie.Need-value-within-requires
-value-within-requires c κs = search needs
-
 returns : tie.Need-returns
 unfolding nameAt
 returns c =
-    let a = c .before .before .before .before .before .before .before .args in
+    let a = c .before .before .before .before .before .before .args in
     record {
-      attribute = c .before .find-eattr .ensures ∙ ap (λ w. place w (attrNames (bookAt (a .book .now) (a .words .now) (a .counts) .eattrs))) (c .before .before .part .ensures);
+      attribute = c .find-eattr .ensures ∙ ap (λ w. place w (attrNames (bookAt (a .book .now) (a .words .now) (a .counts) .eattrs))) (c .before .part .ensures);
       relation = refl;
-      value = c .value-within .ensures;
+      value = refl;
     }
 
 pub edge-requirement-spec : {M : Type 1} → statement M
-edge-requirement-spec = tie.close (tie.spec part-requires find-eattr-requires value-within-requires returns)
+edge-requirement-spec = tie.close (tie.spec part-requires find-eattr-requires returns)

@@ -14,18 +14,15 @@ part-requires c κs = search needs
 find-vattr-requires : tie.Need-find-vattr-requires
 find-vattr-requires c κs = search needs
 
-value-within-requires : tie.Need-value-within-requires
-value-within-requires c κs = search needs
-
 returns : tie.Need-returns
 unfolding nameAt
 returns c =
-    let a = c .before .before .before .before .before .before .before .args in
+    let a = c .before .before .before .before .before .before .args in
     record {
-      attribute = c .before .find-vattr .ensures ∙ ap (λ w. place w (attrNames (bookAt (a .book .now) (a .words .now) (a .counts) .vattrs))) (c .before .before .part .ensures);
+      attribute = c .find-vattr .ensures ∙ ap (λ w. place w (attrNames (bookAt (a .book .now) (a .words .now) (a .counts) .vattrs))) (c .before .part .ensures);
       relation = refl;
-      value = c .value-within .ensures;
+      value = refl;
     }
 
 pub vertex-requirement-spec : {M : Type 1} → statement M
-vertex-requirement-spec = tie.close (tie.spec part-requires find-vattr-requires value-within-requires returns)
+vertex-requirement-spec = tie.close (tie.spec part-requires find-vattr-requires returns)

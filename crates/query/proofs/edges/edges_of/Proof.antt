@@ -4,8 +4,8 @@ use lib.ListN.{length, length-map}
 use Rattle.tables.specs.View.{bookAt}
 use Rattle.faults.specs.Names.{foundAt}
 use Rattle.query.specs.Vertices.{namesOf}
-use Rattle.query.proofs.PartLaws.{fewer-pieces}
-use Rattle.query.proofs.EdgeLaws.{EdgesSoFar, edges-start, edges-room, edges-on, edges-all, edges-are}
+use Rattle.query.proofs.ArrayLaws.{fewer-pieces}
+use Rattle.query.proofs.EdgeLaws.{EdgesSoFar, edges-start, edges-room, edges-on, edges-all, edge-parts-all, edges-are}
 use borrow.Author.Needs.{needs}
 use Rattle.query.proofs.edges.edges_of.Statement.{statement}
 use Rattle.query.proofs.edges.edges_of.Tie as tie
@@ -48,6 +48,7 @@ returns c =
     let vs = namesOf (a .s .now) (a .found) in
     edges-are (a .book .now) (a .words .now) (a .counts) (a .s .now) (a .found) (c .before .before .before .before .before .before .before .before .before .pre) size (l .edges) (l .inv .stored)
     (edges-all b (a .s .now) vs (l .place) (l .last) (l .edges) (l .inv) (n .result) (n .ensures) (c .enum-told .given .0 .0) (c .enum-told .given .1))
+    (edge-parts-all b (a .s .now) vs (l .place) (l .last) (l .edges) (l .inv) (n .result) (n .ensures) (c .enum-told .given .0 .0) (c .enum-told .given .1))
 
 number-after-requires : tie.Need-number-after-requires Inv-loop μ-loop
 number-after-requires c κs = c .before .before .before .before .before .before .before .before .before .before .pre .found .within

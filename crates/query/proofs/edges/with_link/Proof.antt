@@ -14,14 +14,11 @@ part-requires c κs = search needs
 find-label-requires : tie.Need-find-label-requires
 find-label-requires c κs = search needs
 
-within-requires : tie.Need-within-requires
-within-requires c κs = search needs
-
-mul-t19 : tie.Need-mul-t19
-mul-t19 c = search needs
+mul-t18 : tie.Need-mul-t18
+mul-t18 c = search needs
 
 element-set-from-more : tie.Need-element-set-from-more
-element-set-from-more c = c .before .before .before .before .before .before .before .before .pre .2
+element-set-from-more c = c .before .before .before .before .before .before .before .pre .2
 
 add-more : tie.Need-add-more
 add-more c = search needs
@@ -29,9 +26,9 @@ add-more c = search needs
 returns : tie.Need-returns
 unfolding nameAt
 returns c =
-    let a = c .before .before .before .before .before .before .before .before .args in
+    let a = c .before .before .before .before .before .before .before .args in
     let b = bookAt (a .book .now) (a .words .now) (a .counts) in
-    link-more b (a .s .now) (a .edges) (c .before .before .before .before .before .before .before .before .pre .1) (c .before .before .before .before .before .before .before .before .pre .2) (a .link) (c .within .result) (c .within .ensures) (c .before .before .find-label .result) (a .from) (a .to) (c .before .before .find-label .ensures ∙ ap (λ w. place w (b .labels)) (c .before .before .before .part .ensures))
+    link-more b (a .s .now) (a .edges) (c .before .before .before .before .before .before .before .pre .1) (c .before .before .before .before .before .before .before .pre .2) (a .link) (c .before .find-label .result) (a .from) (a .to) (c .before .find-label .ensures ∙ ap (λ w. place w (b .labels)) (c .before .before .part .ensures))
 
 pub with-link-spec : {M : Type 1} → statement M
 with-link-spec =
@@ -39,8 +36,7 @@ with-link-spec =
     (tie.spec
     part-requires
     find-label-requires
-    within-requires
-    mul-t19
+    mul-t18
     element-set-from-more
     add-more
     returns)

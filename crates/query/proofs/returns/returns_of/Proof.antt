@@ -3,7 +3,7 @@ use mathlib.Core.Path.{_≡_, sym, _∙_}
 use lib.ListN.{length, length-map}
 use Rattle.faults.specs.Names.{foundAt}
 use Rattle.query.specs.Vertices.{namesOf}
-use Rattle.query.proofs.PartLaws.{fewer-pieces}
+use Rattle.query.proofs.ArrayLaws.{fewer-pieces}
 use Rattle.query.proofs.ReturnLaws.{ReturnsSoFar, returns-start, returns-room, returns-on, returns-all, returns-are}
 use borrow.Author.Needs.{needs}
 use Rattle.query.proofs.returns.returns_of.Statement.{statement}
@@ -43,7 +43,7 @@ returns c =
     let l = c .before .before .before .loop in
     let n = c .before .before .next-piece in
     let vs = namesOf (a .s .now) (a .found) in
-    returns-are (a .s .now) (a .found) (c .before .before .before .before .before .before .before .pre) size (l .returns) (l .inv .room) (l .inv .few)
+    returns-are (a .s .now) (a .found) (c .before .before .before .before .before .before .before .pre) size (l .returns) (l .inv .room) (l .inv .few) (l .inv .blank)
     (returns-all (a .s .now) vs (l .place) (l .returns) (l .inv) (n .result) (n .ensures) (c .enum-told .given .0 .0) (c .enum-told .given .1))
 
 with-piece-requires : tie.Need-with-piece-requires Inv-loop μ-loop
@@ -53,7 +53,7 @@ with-piece-requires c κs =
     let n = c .before .before .before .next-piece in
     let x = c .before .x .given in
     let vs = namesOf (a .s .now) (a .found) in
-    (c .before .before .before .before .before .before .before .before .pre .found .within, returns-room (a .s .now) vs (l .place) (l .returns) (l .inv) (n .result) (n .ensures) (x .0 .0) (x .1) (c .before .before .before .before .before .before .before .before .pre .few))
+    (c .before .before .before .before .before .before .before .before .pre .found .within, returns-room (a .s .now) vs (l .place) (l .returns) (l .inv) (n .result) (n .ensures) (x .0 .0) (x .1) (c .before .before .before .before .before .before .before .before .pre .few), l .inv .blank)
 
 loop-less : tie.Need-loop-less Inv-loop μ-loop
 loop-less c =

@@ -29,7 +29,7 @@ element-write-more c =
     let n = c .before .before .before .before .return-of in
     let x = c .before .before .v .given in
     let vs = namesOf (a .s .now) (a .found) in
-    return-room (a .returns) room vs (returnIn (pieceOf (a .s .now) (a .p))) (c .before .before .before .before .before .before .pre .1) (nameAt (a .s .now) (x .0 .0)) (return-own (a .s .now) (a .p) (n .result) (n .ensures (a .s .now)) (x .0 .0) (x .1))
+    return-room (a .returns) room vs (returnIn (pieceOf (a .s .now) (a .p))) (c .before .before .before .before .before .before .pre .1, c .before .before .before .before .before .before .pre .2) (nameAt (a .s .now) (x .0 .0)) (return-own (a .s .now) (a .p) (n .result) (n .ensures (a .s .now)) (x .0 .0) (x .1))
 
 add-more : tie.Need-add-more
 add-more c = search needs
@@ -44,7 +44,7 @@ returns c =
     let n = c .before .before .before .before .return-of in
     let x = c .before .before .v .given in
     let vs = namesOf (a .s .now) (a .found) in
-    return-more (a .returns) room vs (returnIn (pieceOf (a .s .now) (a .p))) (c .before .before .before .before .before .before .pre .1) (nameAt (a .s .now) (x .0 .0)) (return-own (a .s .now) (a .p) (n .result) (n .ensures (a .s .now)) (x .0 .0) (x .1)) (c .vertex-number .result) (c .vertex-number .ensures)
+    return-more (a .returns) room vs (returnIn (pieceOf (a .s .now) (a .p))) (c .before .before .before .before .before .before .pre .1, c .before .before .before .before .before .before .pre .2) (nameAt (a .s .now) (x .0 .0)) (return-own (a .s .now) (a .p) (n .result) (n .ensures (a .s .now)) (x .0 .0) (x .1)) (c .vertex-number .result) (c .vertex-number .ensures)
 
 returns-2 : tie.Need-returns-2
 returns-2 c =
@@ -52,7 +52,7 @@ returns-2 c =
     let room : length (a .returns .numbers) ≡ 4 = search needs in
     let n = c .before .before .return-of in
     let vs = namesOf (a .s .now) (a .found) in
-    no-return-more (a .returns) room vs (returnIn (pieceOf (a .s .now) (a .p))) (c .before .before .before .before .pre .1) (return-none (a .s .now) (a .p) (n .result) (n .ensures (a .s .now)) (c .enum-told .given .1))
+    no-return-more (a .returns) room vs (returnIn (pieceOf (a .s .now) (a .p))) (c .before .before .before .before .pre .1, c .before .before .before .before .pre .2) (return-none (a .s .now) (a .p) (n .result) (n .ensures (a .s .now)) (c .enum-told .given .1))
 
 pub with-piece-spec : {M : Type 1} → statement M
 with-piece-spec =

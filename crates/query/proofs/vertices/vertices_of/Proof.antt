@@ -1,7 +1,7 @@
 -- `vertices_of` meets its contract. The loop's invariant: with the vertices of the pieces behind the place, those found are all. Assumes nothing.
 use lib.ListN.{length}
 use Rattle.faults.specs.Names.{foundAt}
-use Rattle.query.proofs.PartLaws.{fewer-pieces}
+use Rattle.query.proofs.ArrayLaws.{fewer-pieces}
 use Rattle.query.proofs.VertexLaws.{VerticesSoFar, vertices-start, vertices-room, vertices-on, vertices-end}
 use borrow.Author.Needs.{needs}
 use Rattle.query.proofs.vertices.vertices_of.Statement.{statement}

@@ -16,28 +16,25 @@ returns c =
     let n = c .before .vertex-number in
     vertex-known (a .s .now) (a .vertices) size (c .before .before .before .pre .0) (a .name) (n .result) (n .ensures) (c .if1 .taken)
 
-within-requires : tie.Need-within-requires
-within-requires c κs = search needs
+mul-name : tie.Need-mul-name
+mul-name c = search needs
 
-mul-v : tie.Need-mul-v
-mul-v c = search needs
-
-element-set-from-v : tie.Need-element-set-from-v
-element-set-from-v c =
-    let a = c .before .before .before .before .args in
-    let size : length (a .vertices .parts) ≡ 8 = sym (length-map (a .vertices .parts) _) ∙ c .before .before .before .before .good .1 .0 .1 .1 .0 .1 .0 .1 in
-    let n = c .before .before .vertex-number in
-    vertex-room (a .s .now) (a .vertices) size (c .before .before .before .before .pre .0) (a .name) (n .result) (n .ensures) (c .before .if1 .left) (c .before .before .before .before .pre .1)
+element-set-from-name : tie.Need-element-set-from-name
+element-set-from-name c =
+    let a = c .before .before .before .args in
+    let size : length (a .vertices .parts) ≡ 8 = sym (length-map (a .vertices .parts) _) ∙ c .before .before .before .good .1 .0 .1 .1 .0 .1 .0 .1 in
+    let n = c .before .vertex-number in
+    vertex-room (a .s .now) (a .vertices) size (c .before .before .before .pre .0) (a .name) (n .result) (n .ensures) (c .if1 .left) (c .before .before .before .pre .1)
 
 add-more : tie.Need-add-more
 add-more c = search needs
 
 returns-2 : tie.Need-returns-2
 returns-2 c =
-    let a = c .before .before .before .before .args in
-    let size : length (a .vertices .parts) ≡ 8 = sym (length-map (a .vertices .parts) _) ∙ c .before .before .before .before .good .1 .0 .1 .1 .0 .1 .0 .1 in
-    let n = c .before .before .vertex-number in
-    vertex-new (a .s .now) (a .vertices) size (c .before .before .before .before .pre .0) (a .name) (n .result) (n .ensures) (c .before .if1 .left) (c .before .before .before .before .pre .1) (c .within .result) (c .within .ensures)
+    let a = c .before .before .before .args in
+    let size : length (a .vertices .parts) ≡ 8 = sym (length-map (a .vertices .parts) _) ∙ c .before .before .before .good .1 .0 .1 .1 .0 .1 .0 .1 in
+    let n = c .before .vertex-number in
+    vertex-new (a .s .now) (a .vertices) size (c .before .before .before .pre .0) (a .name) (n .result) (n .ensures) (c .if1 .left) (c .before .before .before .pre .1)
 
 pub with-vertex-spec : {M : Type 1} → statement M
 with-vertex-spec =
@@ -45,8 +42,7 @@ with-vertex-spec =
     (tie.spec
     vertex-number-requires
     returns
-    within-requires
-    mul-v
-    element-set-from-v
+    mul-name
+    element-set-from-name
     add-more
     returns-2)

@@ -1,27 +1,23 @@
--- Laws of parts cut to the end of their text, of arrays of which the first elements count, of the walk over the pieces of a text, and of what a text declares.
-use Prim.Native.Nat.{ℕ, zero, suc, _+_, _-_, _<_, _≤_, min}
+-- Laws of arrays of which the first elements count, of the walk over the pieces of a text, and of what a text declares.
+use Prim.Native.Nat.{ℕ, zero, suc, _+_, _-_, _<_, _≤_}
 use mathlib.Core.Path.{_≡_, refl, sym, ap, subst, _∙_}
 use mathlib.Core.List.{List, [], _∷_, _++_, map}
 use mathlib.Core.Bool.{Bool, true, false, not, _||_}
 use mathlib.Core.Logic.{⊎-elim}
 use native.Mathlib.Numerals.{add-one}
 use native.Mathlib.Omega.{arith}
-use lib.ListN.{length, getD, take, drop, set, length-take, length-drop, length-map, drop-of-length-le}
-use lib.Seq.{take-all, take-length, take-suc, take-suc-set, length-take-le, getD-set-same, getD-set-other}
+use lib.ListN.{length, getD, take, drop, set, replicate, length-map, take-append-drop}
+use lib.Seq.{take-suc, take-suc-set, length-take-le, getD-set-same, getD-set-other, drop-drop, drop-set-lt}
 use lib.Dec.{T}
-use Rattle.facts.specs.Tests.{either, equal-or-not, below-or-not}
+use Rattle.facts.specs.Tests.{either, equal-or-not}
 use Rattle.model.specs.Bytes.{Bytes}
 use Rattle.model.specs.Lists.{any}
 use Rattle.model.specs.Names.{mem, firsts}
-use Rattle.model.specs.Values.{str}
 use Rattle.model.specs.Book.{Book}
 use Rattle.model.specs.Grammar.{Piece, atStart}
 use Rattle.model.specs.Query.{ChainEdge}
 use Rattle.model.specs.ReadQuery.{hasUndeclared}
-use Rattle.model.specs.Answers.{nameAt, partOf, valueOf}
-use Rattle.model.specs.declared.Part.{Part}
-use Rattle.model.specs.declared.Value.{Value}
-use Rattle.model.specs.declared.Value.the-variants.{Number, Text, Truth}
+use Rattle.model.specs.WholeAnswers.{padded}
 use Rattle.model.proofs.Members.{_∈_, test, is-false, any-i, mem-e}
 use Rattle.pieces.specs.Walk.{Ordered}
 use Rattle.pieces.specs.Named.{verticesIn, returnsIn, linksFrom}
@@ -37,53 +33,7 @@ use Rattle.faults.specs.Names.{foundAt}
 use Rattle.faults.proofs.ScanLaws.{step-list}
 use Rattle.tables.specs.Listed.{listed}
 use Rattle.tables.proofs.ListedLaws.{map-end}
-use Rattle.query.specs.Parts.{Cut, ValueCut}
-
--- what lies past the end of a list takes and drops nothing more
-take-min : {A : Type 0} (n : ℕ) (l : List A) → take (min n (length l)) l ≡ take n l
-take-min n l = either (below-or-not n (length l))
-    (λ h. let e : min n (length l) ≡ n = omega arith in rw e)
-    (λ h. let e : min n (length l) ≡ length l = omega arith in rw e (take-length l ∙ sym (take-all n l h)))
-
-drop-min : {A : Type 0} (n : ℕ) (l : List A) → drop (min n (length l)) l ≡ drop n l
-drop-min n l = either (below-or-not n (length l))
-    (λ h. let e : min n (length l) ≡ n = omega arith in rw e)
-    (λ h. let e : min n (length l) ≡ length l = omega arith in rw e (lib.Seq.drop-length l ∙ sym (drop-of-length-le l h)))
-
--- a part cut to the end of its text
-pub cut-part : (s : Bytes) (p : Part) (start size : ℕ) → start ≡ min (p .start) (length s) → size ≡ min (p .length) (length s - start) → Cut s p (record { start = start; length = size })
-unfolding nameAt partOf
-cut-part s p start size e f = record {
-  same = rw f (ap (λ n. take (min (p .length) n) (drop start s)) (sym (length-drop start s)) ∙ take-min (p .length) (drop start s) ∙ ap (take (p .length)) (rw e (drop-min (p .start) s)));
-  inside = record { ends = omega arith; long = let d = length-drop start s in let t = length-take size (drop start s) in omega arith };
-}
-
--- a value cut to the end of its text
-pub cut-number : (s : Bytes) (v : Value) (n : ℕ) → v ≡ Number n → ValueCut s v (Number n)
-cut-number s v n e = record { same = rw e; inside = tt; begins = tt }
-
-pub cut-truth : (s : Bytes) (v : Value) (t : Bool) → v ≡ Truth t → ValueCut s v (Truth t)
-cut-truth s v t e = record { same = rw e; inside = tt; begins = tt }
-
-pub cut-text : (s : Bytes) (v : Value) (start size : ℕ) → v ≡ Text start size → (r : Value) → ValueCut s (Text start size) r → ValueCut s v r
-cut-text s v start size e r h = rw e h
-
-module _ (s : Bytes) (start size : ℕ) where
-  pub cut-inside : (kept : ℕ) → start < length s → kept ≡ min size (length s - start) → ValueCut s (Text start size) (Text start kept)
-  unfolding valueOf partOf
-  cut-inside kept h f = record {
-    same = ap str (rw f (ap (λ n. take (min size n) (drop start s)) (sym (length-drop start s)) ∙ take-min size (drop start s)));
-    inside = omega arith;
-    begins = λ z. h;
-  }
-
-  pub cut-past : length s ≤ start → ValueCut s (Text start size) (Text 0 0)
-  unfolding valueOf partOf
-  cut-past h = record {
-    same = ap str (sym (rw (drop-of-length-le s h) (lib.Seq.take-nil size)));
-    inside = omega arith;
-    begins = λ z. z;
-  }
+use Rattle.query.specs.Parts.{Blank}
 
 -- the first elements of an array
 module _ {A : Type 0} where
@@ -104,6 +54,16 @@ module _ {A : Type 0} where
   each-more P d l n x h each px i less = either (equal-or-not i n)
       (λ e. subst P (sym (ap (λ k. getD (set l n x) k d) e ∙ getD-set-same l n x d h)) px)
       (λ e. subst P (sym (getD-set-other l n i x d (e .1))) (each i (omega arith)))
+
+  -- the slots past the count: one fewer, and as the model pads the elements that count
+  pub blank-more : (n : ℕ) (d : A) (l : List A) (count : ℕ) (x : A) → count < n → Blank n d count l → Blank n d (count + 1) (set l count x)
+  blank-more n d l count x h e =
+      let m : n - count ≡ suc (n - (count + 1)) = omega arith in
+      drop-set-lt (count + 1) l count x (omega arith) ∙ sym (drop-drop 1 count l) ∙ ap (drop 1) (e ∙ ap (λ k. replicate k d) m)
+
+  pub blank-padded : (n : ℕ) (d : A) (l : List A) (count : ℕ) → count ≤ length l → Blank n d count l → l ≡ padded n d (take count l)
+  unfolding padded
+  blank-padded n d l count h e = sym (take-append-drop count l) ∙ ap (λ r. take count l ++ r) e ∙ ap (λ k. take count l ++ replicate (n - k) d) (sym (length-take-le count l h))
 
 -- a piece that is read leaves fewer pieces to read
 pub fewer-pieces : (s : Bytes) (place : Place) (r : PieceRead) → StepAt s place r → (x : Step) → r ≡ read.Found x → length (foundAt s (x .next)) < length (foundAt s place)
