@@ -22,7 +22,6 @@ mod query_writer; // query_writer.rt: a written query behind its texts
 mod request_reader; // request_reader.rt: a request behind its book and its rules
 mod rules_reader; // rules_reader.rt: rules behind their book
 
-
 // Refusals in the paper's numbers: "rows times Return names exceed the row buffer's words", "written query longer than its buffer or than 2,048 bytes".
 pub const NO_ROOM: u32 = 14;
 

@@ -1,30 +1,28 @@
 -- Laws of signs at their places: blanks before a sign, the part of a sign, and what stands behind it.
-use Prim.Native.Nat.{ℕ, zero, suc, _+_, _-_, _<_, _≤_}
+use Prim.Native.Nat.{ℕ, suc, _+_, _-_, _<_}
 use mathlib.Core.Path.{_≡_, refl, sym, ap, _∙_}
-use mathlib.Core.List.{List, [], _∷_, _++_}
+use mathlib.Core.List.{[], _∷_, _++_}
 use mathlib.Core.Bool.{Bool, true, false, _&&_, _||_}
 use native.Mathlib.Omega.{arith}
 use lib.ListN.{length, drop}
 use lib.Seq.{drop-drop}
-use lib.Dec.{T, eqb, leb}
+use lib.Dec.{eqb, leb}
 use Rattle.model.specs.Bytes.{Bytes}
 use Rattle.model.specs.Choice.{pick, Maybe, nothing, just, andThen}
 use Rattle.model.specs.Lists.{isNil}
 use Rattle.model.specs.Words.{Got, isWordByte, run, before, wordAt, isText, textAt}
-use Rattle.model.specs.Signs.{Sign, broken, signAt, chainBehind, wordy}
+use Rattle.model.specs.Signs.{Sign, signAt, chainBehind, wordy}
 use Rattle.model.specs.Answers.{nameAt, partOf}
-use Rattle.model.specs.Places.{Placed, placed, Bracket, bracketOf, Standing, variableAt, standingAt, standings}
+use Rattle.model.specs.Places.{Placed, placed, Bracket, bracketOf, variableAt, standingAt, standings}
 use Rattle.model.specs.declared.Part.{Part}
 use Rattle.model.proofs.Standings.{placed-skip}
 use Rattle.text.specs.Places.{peekAt, past, endOf, wordTo, textTo}
-use Rattle.text.specs.declared.End.{End}
 use Rattle.text.specs.declared.End.the-variants as end
 use Rattle.text.proofs.PlaceLaws.{drop-peek}
 use Rattle.text.proofs.WordLaws.{word-read}
 use Rattle.text.proofs.QuoteLaws.{text-read}
 use Rattle.signs.specs.declared.Sign.{Sign as SignData}
 use Rattle.signs.specs.declared.Sign.the-variants as sign
-use Rattle.signs.specs.declared.SignRead.{SignRead}
 use Rattle.signs.specs.declared.SignRead.the-variants as read
 use Rattle.signs.specs.Reads.{isBlank, isWordy, signOf, gotOf, standingsFrom, standingOf, PartAt}
 use Rattle.signs.proofs.SignLaws.{and-false, and-true, nil-length, no-blank, wordy-sign, sign-behind}
