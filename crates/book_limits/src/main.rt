@@ -1,4 +1,6 @@
 // Tries the limits of a book at their edges: one text within each limit, and one past it.
+// `print` and the functions that try something only print, and no contract can say what reached the output; those that put bytes into a text
+// are held to what the program prints.
 use model::BookRead;
 
 // Room for the longest text tried.

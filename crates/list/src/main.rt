@@ -1,4 +1,6 @@
 // The list program: reads book.txt, rules.txt, query.txt and request.txt in the current folder, and prints the list of their rows, or the refusal.
+// A file that cannot be read to its end is told on standard error, and no list is printed; so is an output that does not take the whole list.
+use showing::files;
 
 // Each text has room for one byte more than its limit, so that a file past the limit is seen to be too long.
 const BOOK_BYTES: usize = 65537;
@@ -14,14 +16,20 @@ fn main() {
     let mut rules = [0u8; RULES_BYTES];
     let mut query = [0u8; QUERY_BYTES];
     let mut request = [0u8; REQUEST_BYTES];
-    let book_length = showing::read_text(b"book.txt", &mut book);
-    let rules_length = showing::read_text(b"rules.txt", &mut rules);
-    let query_length = showing::read_text(b"query.txt", &mut query);
-    let request_length = showing::read_text(b"request.txt", &mut request);
-    showing::print_list(
-        &book[..book_length],
-        &rules[..rules_length],
-        &query[..query_length],
-        &request[..request_length],
-    );
+    let book_read = files::read_text(b"book.txt", &mut book);
+    let rules_read = files::read_text(b"rules.txt", &mut rules);
+    let query_read = files::read_text(b"query.txt", &mut query);
+    let request_read = files::read_text(b"request.txt", &mut request);
+    if book_read.whole && rules_read.whole && query_read.whole && request_read.whole {
+        let book_length = book_read.length;
+        let rules_length = rules_read.length;
+        let query_length = query_read.length;
+        let request_length = request_read.length;
+        showing::print_list(
+            &book[..book_length],
+            &rules[..rules_length],
+            &query[..query_length],
+            &request[..request_length],
+        );
+    }
 }

@@ -60,7 +60,7 @@ fn read_case(i: usize, file: &[u8], text: &mut [u8]) -> usize
     let at = put_bytes(b"/", &mut path, at);
     let end = put_bytes(file, &mut path, at);
     if end <= PATH_BYTES {
-        return showing::read_either(&path[0..end], file, text);
+        return showing::files::read_either(&path[0..end], file, text).length;
     }
     0
 }

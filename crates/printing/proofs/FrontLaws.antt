@@ -48,3 +48,7 @@ prints {t} {o} {o′} {n} h p =
           (λ l. ap (λ (b : Buffer). b .bytes) (p .is) ∙ bytes-stored t o 0 (omega arith) ∙ stored-as-fits t o l)
           (λ l. fits-in-front (omega arith) l p ∙ ap (λ (x : Bytes). x ++ drop (length t) o) (sym (take-all (length o) t l)));
     }
+
+-- a text that is short ends soon
+pub ends-inside : {t o o′ : Bytes} {n : ℕ} (k : ℕ) → length t ≤ k → Puts o 0 t o′ n → n ≤ k
+ends-inside {t} {n = n} k h p = let e : n ≡ min 1048577 (length t) = counts-length p in omega arith

@@ -22,7 +22,9 @@ use Rattle.tables.specs.View.{nameIn, nameOf, namesAt, bookAt}
 use Rattle.tables.specs.declared.BookCounts.{BookCounts}
 use Rattle.tables.proofs.ListedLaws.{length-listed, getD-listed}
 use Rattle.tables.proofs.NameLaws.{node-names}
-use Rattle.rows.specs.Buffer.{Wide}
+use Rattle.rows.specs.Buffer.{rowsIn, Wide}
+use Rattle.rows.specs.BufferLaws.{length-rowsIn, rowsIn-wide}
+use Rattle.printing.specs.Printing.{headerText}
 use Rattle.printing.proofs.PrintingLaws.{past-end}
 
 -- at most so many digits are written
@@ -40,8 +42,13 @@ pub refusal-short : (r : Refusal) → length (refusalText r) ≤ 38
 unfolding refusalText
 refusal-short r = simp length-append (omega (arith, few-digits 5 (r .number), few-digits 5 (r .text), few-digits 5 (r .line)))
 
+-- a list's header
+pub header-short : (n : ℕ) → length (headerText n) ≤ 13
+unfolding headerText
+header-short n = simp length-append (omega (arith, few-digits 5 n))
+
 -- no name has more bytes than these
-abbrev Short : List Bytes → Type 0
+abbrev pub Short : List Bytes → Type 0
 Short names = (n : ℕ) → length (getD names n []) ≤ 31
 
 -- the names of a book in words are short
@@ -76,3 +83,10 @@ module _ (names : List Bytes) (short : Short names) where
   pub list-long : (width : ℕ) (rows : List (List ℕ)) → Wide width rows → length (rowsText names rows) ≤ 13 + 6 * length rows + 32 * (length rows * width)
   unfolding rowsText
   list-long width rows w = simp length-append (omega (arith, few-digits 5 (length rows), rows-long width rows w))
+
+  -- a list whose rows fit the program's row words
+  pub list-short : (width count : ℕ) (words : List ℕ) → count * width ≤ length words → count ≤ 16384 → count * width ≤ 16384 → length (rowsText names (rowsIn width count words)) ≤ 622605
+  list-short width count words h few fits =
+      let long : length (rowsText names (rowsIn width count words)) ≤ 13 + 6 * count + 32 * (count * width) =
+      rw length-rowsIn at (list-long width (rowsIn width count words) (rowsIn-wide width count words h)) in
+      omega arith

@@ -3,3 +3,4 @@ pub mod PrintingLaws
 pub mod RowLaws
 pub mod LengthLaws
 pub mod FrontLaws
+pub mod AnswerLaws

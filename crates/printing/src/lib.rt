@@ -12,9 +12,6 @@ ghost use Rattle.tables.specs.Fits.{Fits};
 ghost use Rattle.rows.specs.Buffer.{rowsIn};
 ghost use Rattle.writer.specs.Putting.{Puts};
 ghost use Rattle.printing.specs.Printing.{headerText, nameIn, namesText};
-
-pub mod numbers; // numbers.rt: a number or a name behind a text
-
 use lookup::names;
 use model::Refusal;
 use tables::BookCounts;

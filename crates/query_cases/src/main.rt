@@ -1,5 +1,6 @@
 // The query reader and writer on many texts: book.txt, rules.txt, and queries.txt with a query on each line. Prints each query, and what the writer writes for it or the refusal.
 use libc::STDOUT_FILENO;
+use showing::files;
 
 const BOOK_BYTES: usize = 4096;
 
@@ -11,9 +12,9 @@ fn main() {
     let mut book = [0u8; BOOK_BYTES];
     let mut rules = [0u8; RULES_BYTES];
     let mut queries = [0u8; QUERIES_BYTES];
-    let book_length = showing::read_text(b"book.txt", &mut book);
-    let rules_length = showing::read_text(b"rules.txt", &mut rules);
-    let queries_length = showing::read_text(b"queries.txt", &mut queries);
+    let book_length = files::read_text(b"book.txt", &mut book).length;
+    let rules_length = files::read_text(b"rules.txt", &mut rules).length;
+    let queries_length = files::read_text(b"queries.txt", &mut queries).length;
     print_queries(
         &book[..book_length],
         &rules[..rules_length],

@@ -1,2 +1,2 @@
 -- Laws of what the programs share.
-pub mod LoadedLaws
+pub mod WrittenLaws

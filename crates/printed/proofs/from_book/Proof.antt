@@ -1,0 +1,78 @@
+-- `from_book` meets its contract: the list's refusal is put, or its rows under the names that the book's words give.
+use mathlib.Core.Path.{_≡_}
+use native.Mathlib.Omega.{arith}
+use lib.ListN.{length}
+use Rattle.tables.specs.View.{bookAt}
+use Rattle.printing.proofs.AnswerLaws.{Shown, list-shown}
+use Rattle.printed.proofs.PrintsLaws.{list-refusal-printed, rows-printed}
+use borrow.Author.Needs.{needs}
+use Rattle.printed.proofs.from_book.Statement.{statement}
+use Rattle.printed.proofs.from_book.Tie as tie
+
+slice-aggregate-list : tie.Need-slice-aggregate-list
+slice-aggregate-list c = search needs
+
+slice-aggregate-list-2 : tie.Need-slice-aggregate-list-2
+slice-aggregate-list-2 c = search needs
+
+list-requires : tie.Need-list-requires
+list-requires c κs = search needs
+
+enum-known-refusal : tie.Need-enum-known-refusal
+enum-known-refusal c = search needs
+
+put-refusal-requires : tie.Need-put-refusal-requires
+put-refusal-requires c κs = search needs
+
+same-length : tie.Need-same-length
+same-length c = search needs
+
+returns : tie.Need-returns
+returns c =
+    let a = c .before .before .before .before .before .before .before .before .before .before .before .before .before .before .before .before .before .before .args in
+    let l = c .before .before .before .before .before .before .before .before .before .list in
+    list-refusal-printed (a .book .now) (a .rules .now) (a .query .now) (a .request .now) (l .result) _ (c .before .before .before .before .before .refusal .given .1) (l .ensures .0) (c .before .before .put-refusal .ensures)
+
+enum-known-count : tie.Need-enum-known-count
+enum-known-count c = search needs
+
+slice-aggregate-put-list : tie.Need-slice-aggregate-put-list
+slice-aggregate-put-list c = search needs
+
+put-list-requires : tie.Need-put-list-requires
+put-list-requires c κs =
+    let s = c .before .before .before .before .before .before .before .before .before .before .before .before .before .before .before .before in
+    let a = s .args in
+    let l = c .before .before .before .before .before .before .before .list in
+    let shown = list-shown (a .book .now) (a .rules .now) (a .query .now) (a .request .now) (l .result) _ _ (c .before .before .before .count .given .1) (l .ensures .0) _ (l .ensures .1 .0) _ (s .pre .1) in
+    let long : length (l .last .1 .1 .1 .1 .0) ≡ 16384 = l .kept .1 .1 .1 .1 .0 in
+    (s .pre .0, omega (arith, shown .fits))
+
+same-length-2 : tie.Need-same-length-2
+same-length-2 c = search needs
+
+returns-2 : tie.Need-returns-2
+returns-2 c =
+    let s = c .before .before .before .before .before .before .before .before .before .before .before .before .before .before .before .before .before .before .before in
+    let a = s .args in
+    let l = c .before .before .before .before .before .before .before .before .before .before .list in
+    rows-printed (a .book .now) (a .rules .now) (a .query .now) (a .request .now) (a .words .now) (a .counts) _ _ _ (l .kept .1 .1 .1 .1 .0)
+    (list-shown (a .book .now) (a .rules .now) (a .query .now) (a .request .now) (l .result) _ _ (c .before .before .before .before .before .before .count .given .1) (l .ensures .0) _ (l .ensures .1 .0) _ (s .pre .1))
+    (c .before .before .put-list .ensures)
+
+pub from-book-spec : {M : Type 1} → statement M
+from-book-spec =
+    tie.close
+    (tie.spec
+    slice-aggregate-list
+    slice-aggregate-list-2
+    list-requires
+    enum-known-refusal
+    put-refusal-requires
+    same-length
+    returns
+    enum-known-count
+    slice-aggregate-put-list
+    put-list-requires
+    same-length-2
+    returns-2)
