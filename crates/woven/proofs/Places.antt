@@ -5,7 +5,7 @@ use mathlib.Core.List.{List, [], _∷_, _++_}
 use mathlib.Core.Bool.{Bool, true, false}
 use lib.ListN.{length}
 use Rattle.model.specs.Choice.{pick}
-use Rattle.model.specs.Lists.{addNewBy, firstsBy}
+use Rattle.model.specs.Lists.{any, addNewBy, firstsBy}
 use Rattle.model.proofs.Members.{_∈_, is-true, alike-i, addNewBy-old}
 use Rattle.tables.proofs.ListedLaws.{place-end, place-kept, place-inside, place-none as nowhere}
 use Rattle.model.specs.Weave.{WovenVertex, sameVertex, placeVertex, firstVertices}
