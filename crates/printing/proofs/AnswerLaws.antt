@@ -18,9 +18,11 @@ use Rattle.model.specs.declared.Refusal.{Refusal as RefusalData}
 use Rattle.model.specs.declared.RowsListed.{RowsListed}
 use Rattle.model.specs.declared.RowsListed.the-variants as listed
 use Rattle.model.proofs.Outcomes.{never}
-use Rattle.model.proofs.Refusals.{rowsFor, list-given}
+use Rattle.model.specs.Refused.{rowsFor}
+use Rattle.model.specs.RowOrder.{Ascending, NoneTwice}
+use Rattle.model.proofs.Refusals.{list-given}
 use Rattle.model.proofs.Members.{_∈_}
-use Rattle.model.proofs.Ascending.{Ascending, NoneTwice, rows-ascend, ascending-none-twice, rows-are-rows}
+use Rattle.model.proofs.Ascending.{rows-ascend, ascending-none-twice, rows-are-rows}
 use Rattle.rows.specs.Buffer.{rowsIn, flat, Wide}
 use Rattle.rows.specs.BufferLaws.{rowsIn-flat}
 

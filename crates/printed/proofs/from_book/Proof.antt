@@ -31,7 +31,7 @@ returns : tie.Need-returns
 returns c =
     let a = c .before .before .before .before .before .before .before .before .before .before .before .before .before .before .before .before .before .before .args in
     let l = c .before .before .before .before .before .before .before .before .before .list in
-    list-refusal-printed (a .book .now) (a .rules .now) (a .query .now) (a .request .now) (l .result) _ (c .before .before .before .before .before .refusal .given .1) (l .ensures .0) (c .before .before .put-refusal .ensures)
+    list-refusal-printed (a .book .now) (a .rules .now) (a .query .now) (a .request .now) (l .result) _ (c .before .before .before .before .before .refusal .given .1) (l .ensures .answer) (c .before .before .put-refusal .ensures)
 
 enum-known-count : tie.Need-enum-known-count
 enum-known-count c = search needs
@@ -44,7 +44,7 @@ put-list-requires c κs =
     let s = c .before .before .before .before .before .before .before .before .before .before .before .before .before .before .before .before in
     let a = s .args in
     let l = c .before .before .before .before .before .before .before .list in
-    let shown = list-shown (a .book .now) (a .rules .now) (a .query .now) (a .request .now) (l .result) _ _ (c .before .before .before .count .given .1) (l .ensures .0) _ (l .ensures .1 .0) _ (s .pre .1) in
+    let shown = list-shown (a .book .now) (a .rules .now) (a .query .now) (a .request .now) (l .result) _ _ (c .before .before .before .count .given .1) (l .ensures .answer) _ (l .ensures .rows-left) _ (s .pre .1) in
     let long : length (l .last .1 .1 .1 .1 .0) ≡ 16384 = l .kept .1 .1 .1 .1 .0 in
     (s .pre .0, omega (arith, shown .fits))
 
@@ -57,7 +57,7 @@ returns-2 c =
     let a = s .args in
     let l = c .before .before .before .before .before .before .before .before .before .before .list in
     rows-printed (a .book .now) (a .rules .now) (a .query .now) (a .request .now) (a .words .now) (a .counts) _ _ _ (l .kept .1 .1 .1 .1 .0)
-    (list-shown (a .book .now) (a .rules .now) (a .query .now) (a .request .now) (l .result) _ _ (c .before .before .before .before .before .before .count .given .1) (l .ensures .0) _ (l .ensures .1 .0) _ (s .pre .1))
+    (list-shown (a .book .now) (a .rules .now) (a .query .now) (a .request .now) (l .result) _ _ (c .before .before .before .before .before .before .count .given .1) (l .ensures .answer) _ (l .ensures .rows-left) _ (s .pre .1))
     (c .before .before .put-list .ensures)
 
 pub from-book-spec : {M : Type 1} → statement M
