@@ -33,7 +33,13 @@ extern "C" {
 #define HIFMUNETH_ENTRIES 2048
 #define HIFMUNETH_CATEGORIES 16
 #define HIFMUNETH_IDENTITIES 8
+#define HIFMUNETH_VERTICES 8
+#define HIFMUNETH_EDGES 16
+#define HIFMUNETH_CONDITIONS 32
 #define HIFMUNETH_RETURN_NAMES 4
+
+/* A node's name and a zero behind it take so many bytes at most. */
+#define HIFMUNETH_NAME_BYTES 25
 
 /* The texts of a refusal: *text is one of these, or 0 for refusal 15. */
 #define HIFMUNETH_BOOK 1
@@ -41,6 +47,25 @@ extern "C" {
 #define HIFMUNETH_QUERY 3
 #define HIFMUNETH_REQUEST 4
 #define HIFMUNETH_WOVEN 5
+
+/* Which condition it is: the first of its words. */
+#define HIFMUNETH_DIFFER 1
+#define HIFMUNETH_OF_VERTEX 2
+#define HIFMUNETH_OF_EDGE 3
+
+/* The relations of a condition. */
+#define HIFMUNETH_EQUAL 1
+#define HIFMUNETH_UNEQUAL 2
+#define HIFMUNETH_LESS 3
+#define HIFMUNETH_AT_MOST 4
+#define HIFMUNETH_GREATER 5
+#define HIFMUNETH_AT_LEAST 6
+
+/* The types of a condition's value, and the number that a word says: the number z stands as z + 2^63. */
+#define HIFMUNETH_NUMBER 1
+#define HIFMUNETH_TEXT 2
+#define HIFMUNETH_TRUTH 3
+#define HIFMUNETH_INT64(word) ((int64_t)((uint64_t)(word) ^ UINT64_C(0x8000000000000000)))
 
 /* A row word past the rows: all ones, which is no node. */
 #define HIFMUNETH_NO_NODE UINT32_C(0xffffffff)
@@ -51,6 +76,13 @@ bool hifmuneth_read_book(const uint8_t *book, size_t book_length,
                          size_t *nodes, size_t *relationships, size_t *entries,
                          uint32_t *number, uint32_t *text, uint32_t *line);
 
+/* Tells the names of a book's nodes, and how many nodes it has. names + HIFMUNETH_NAME_BYTES * n is the name of node n, ended by a zero; what
+ * is past the last node is 0. Call it once for a book, and print the rows of any list over it. */
+bool hifmuneth_node_names(const uint8_t *book, size_t book_length,
+                          uint32_t *work, size_t work_words,
+                          size_t *count, uint8_t names[HIFMUNETH_NAME_BYTES * HIFMUNETH_NODES],
+                          uint32_t *number, uint32_t *text, uint32_t *line);
+
 /* Reads rules over a book and tells how many categories and policies they have. */
 bool hifmuneth_read_rules(const uint8_t *book, size_t book_length,
                           const uint8_t *rules, size_t rules_length,
@@ -58,12 +90,27 @@ bool hifmuneth_read_rules(const uint8_t *book, size_t book_length,
                           size_t *categories, size_t *policies,
                           uint32_t *number, uint32_t *text, uint32_t *line);
 
-/* Reads a query over a book and tells how many vertices, edges, conditions and Return names its pattern has. The whole pattern can be
- * had as a text, by hifmuneth_write_query. */
+/* Reads a query over a book and tells its pattern: how many vertices, edges, conditions and Return names it has, and their words. What is
+ * past the counts is 0.
+ *
+ * Vertex i, numbered by first appearance: vertex_words[2 * i] is where its name first stands in the query, vertex_words[2 * i + 1] the
+ * name's length.
+ *
+ * Edge i, in the order of the text: edge_words[5 * i] and [5 * i + 1] are start and length of its name, [5 * i + 2] its label's number (from
+ * 0, in the order of the book), [5 * i + 3] and [5 * i + 4] the vertices it runs from and to.
+ *
+ * Condition i, in the order of the text, has seven words from condition_words[7 * i] on. HIFMUNETH_DIFFER: the two vertices that differ; the
+ * other four are 0. HIFMUNETH_OF_VERTEX or HIFMUNETH_OF_EDGE: the vertex or edge, the attribute's number (from 0, in the order of the book's
+ * vattr or eattr lines), the relation, the value's type, its two words: for HIFMUNETH_NUMBER HIFMUNETH_INT64 gives the number from the first;
+ * for HIFMUNETH_TEXT start and length in the query; for HIFMUNETH_TRUTH 1 or 0. A second word that a value does not have is 0.
+ *
+ * Return name i: return_words[i] is its vertex. */
 bool hifmuneth_read_query(const uint8_t *book, size_t book_length,
                           const uint8_t *query, size_t query_length,
                           uint32_t *work, size_t work_words,
                           size_t *vertices, size_t *edges, size_t *conditions, size_t *return_names,
+                          size_t vertex_words[2 * HIFMUNETH_VERTICES], size_t edge_words[5 * HIFMUNETH_EDGES],
+                          size_t condition_words[7 * HIFMUNETH_CONDITIONS], size_t return_words[HIFMUNETH_RETURN_NAMES],
                           uint32_t *number, uint32_t *text, uint32_t *line);
 
 /* Reads a request over a book and rules and tells its category's number (from 0, in the order of the rules) and its identities, in the
@@ -86,15 +133,16 @@ bool hifmuneth_write_query(const uint8_t *book, size_t book_length,
                            size_t *length,
                            uint32_t *number, uint32_t *text, uint32_t *line);
 
-/* Lists every row that may be had, each once, ascending, and tells how many. The rows stand in the row words from the first on, one after
- * another, a word for each Return name: the number of its node. Row words past them are all ones; after a refusal all of them are. */
+/* Lists every row that may be had, each once, ascending, and tells how many, and how wide a row is: the number of Return names. Row i stands
+ * in the row words from rows[i * *width] on, a word for each Return name: the number of its node. Row words past the rows are all ones; after
+ * a refusal all of them are. */
 bool hifmuneth_list(const uint8_t *book, size_t book_length,
                     const uint8_t *rules, size_t rules_length,
                     const uint8_t *query, size_t query_length,
                     const uint8_t *request, size_t request_length,
                     uint32_t *rows, size_t row_words,
                     uint32_t *work, size_t work_words,
-                    size_t *count,
+                    size_t *count, size_t *width,
                     uint32_t *number, uint32_t *text, uint32_t *line);
 
 #ifdef __cplusplus

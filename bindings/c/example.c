@@ -1,4 +1,4 @@
-/* The worked example in C: lists the calm stations of ana's hubs, then asks with too little working memory. */
+/* The worked example in C: shows the query's pattern, lists the calm stations of ana's hubs by name, then asks with too little working memory. */
 #include "../hifmuneth.h"
 #include <stdio.h>
 #include <string.h>
@@ -16,23 +16,45 @@ static const char REQUEST[] = "(request view (id requestor ana))\n";
 
 static uint32_t work[HIFMUNETH_WORK_WORDS];
 
+static uint8_t names[HIFMUNETH_NAME_BYTES * HIFMUNETH_NODES];
+
+static void pattern(void)
+{
+    size_t vertices, edges, conditions, returns;
+    size_t v[2 * HIFMUNETH_VERTICES], e[5 * HIFMUNETH_EDGES], c[7 * HIFMUNETH_CONDITIONS], r[HIFMUNETH_RETURN_NAMES];
+    uint32_t number, text, line;
+    if (!hifmuneth_read_query((const uint8_t *)BOOK, strlen(BOOK), (const uint8_t *)QUERY, strlen(QUERY), work, HIFMUNETH_WORK_WORDS,
+                              &vertices, &edges, &conditions, &returns, v, e, c, r, &number, &text, &line))
+        return;
+    for (size_t i = 0; i < edges; i++)
+        printf("edge %.*s from vertex %zu to vertex %zu\n", (int)e[5 * i + 1], QUERY + e[5 * i], e[5 * i + 3], e[5 * i + 4]);
+    for (size_t i = 0; i < conditions; i++)
+        if (c[7 * i] == HIFMUNETH_OF_VERTEX && c[7 * i + 3] == HIFMUNETH_LESS && c[7 * i + 4] == HIFMUNETH_NUMBER)
+            printf("vertex %.*s: attribute %zu is less than %lld\n", (int)v[2 * c[7 * i + 1] + 1], QUERY + v[2 * c[7 * i + 1]],
+                   c[7 * i + 2], (long long)HIFMUNETH_INT64(c[7 * i + 5]));
+}
+
 static void list(size_t work_words)
 {
     uint32_t rows[8], number, text, line;
-    size_t count;
+    size_t count, width;
     if (!hifmuneth_list((const uint8_t *)BOOK, strlen(BOOK), (const uint8_t *)RULES, strlen(RULES),
                         (const uint8_t *)QUERY, strlen(QUERY), (const uint8_t *)REQUEST, strlen(REQUEST),
-                        rows, 8, work, work_words, &count, &number, &text, &line)) {
+                        rows, 8, work, work_words, &count, &width, &number, &text, &line)) {
         printf("refused %u text %u line %u\n", number, text, line);
         return;
     }
     printf("rows %zu\n", count);
-    for (size_t i = 0; i < count; i++)
-        printf("node %u\n", rows[i]);
+    for (size_t i = 0; i < count * width; i++)
+        printf("node %u %s\n", rows[i], (const char *)names + HIFMUNETH_NAME_BYTES * rows[i]);
 }
 
 int main(void)
 {
+    uint32_t number, text, line;
+    size_t count;
+    pattern();
+    hifmuneth_node_names((const uint8_t *)BOOK, strlen(BOOK), work, HIFMUNETH_WORK_WORDS, &count, names, &number, &text, &line);
     list(HIFMUNETH_WORK_WORDS);
     list(HIFMUNETH_WORK_WORDS - 1);
     return 0;

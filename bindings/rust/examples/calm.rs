@@ -20,9 +20,19 @@ const REQUEST: &[u8] = b"(request view (id requestor ana))\n";
 fn main() -> Result<(), hifmuneth::Refusal> {
     println!("{:?}", hifmuneth::read_book(BOOK)?);
     println!("{:?}", hifmuneth::read_request(BOOK, RULES, REQUEST)?);
+    let pattern = hifmuneth::read_query(BOOK, QUERY)?;
+    println!("vertices {:?}", pattern.vertices);
+    for edge in &pattern.edges {
+        println!("{} from {} to {}", edge.name, pattern.vertices[edge.from], pattern.vertices[edge.to]);
+    }
+    for condition in &pattern.conditions {
+        println!("{condition:?}");
+    }
     println!("{}", String::from_utf8_lossy(&hifmuneth::write_query(BOOK, RULES, QUERY)?));
+    let names = hifmuneth::node_names(BOOK)?;
     for row in hifmuneth::list(BOOK, RULES, QUERY, REQUEST, 1024)? {
-        println!("{row:?}");
+        let shown: Vec<&str> = row.iter().map(|node| names[*node as usize].as_str()).collect();
+        println!("{row:?} {}", shown.join(" "));
     }
     Ok(())
 }

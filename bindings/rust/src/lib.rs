@@ -3,12 +3,16 @@
 //! The functions of this module allocate what they need. Those of [`lent`] work in the caller's buffers and allocate nothing.
 //!
 //! ```text
-//! for row in hifmuneth::list(book, rules, query, request, 1024)? { .. }
+//! let names = hifmuneth::node_names(book)?;
+//! for row in hifmuneth::list(book, rules, query, request, 1024)? { .. names[row[0] as usize] .. }
 //! ```
 use std::{error, fmt, ops::Range};
 
 pub mod lent;
+pub mod pattern;
 pub mod raw;
+
+pub use pattern::{Condition, Edge, Pattern, Relation, Requirement, Value};
 
 /// Working memory, in words of 32 bits. With fewer words every function refuses with 15.
 pub const WORK_WORDS: usize = 16_384;
@@ -60,6 +64,13 @@ pub struct QueryCounts {
     pub return_names: usize,
 }
 
+/// What a list has: rows, and the width of each, which is the number of Return names.
+#[derive(Clone, Copy, Debug, PartialEq, Eq)]
+pub struct ListCounts {
+    pub rows: usize,
+    pub width: usize,
+}
+
 /// An identity: where its actor's name stands in the request, and the number of its node.
 #[derive(Clone, Debug, PartialEq, Eq)]
 pub struct Identity {
@@ -83,14 +94,23 @@ pub fn read_book(book: &[u8]) -> Result<BookCounts, Refusal> {
     lent::read_book(book, &mut work())
 }
 
+/// The names of a book's nodes, by number: `names[n]` is the name of node `n`.
+pub fn node_names(book: &[u8]) -> Result<Vec<String>, Refusal> {
+    let mut bytes = [0; lent::NAME_BYTES];
+    let count = lent::node_names(book, &mut bytes, &mut work())?;
+    Ok(bytes.chunks(25).take(count).map(|n| n.iter().take_while(|b| **b != 0).map(|b| *b as char).collect()).collect())
+}
+
 /// Reads rules over a book.
 pub fn read_rules(book: &[u8], rules: &[u8]) -> Result<RulesCounts, Refusal> {
     lent::read_rules(book, rules, &mut work())
 }
 
-/// Reads a query over a book. [`write_query`] gives the whole pattern as a text.
-pub fn read_query(book: &[u8], query: &[u8]) -> Result<QueryCounts, Refusal> {
-    lent::read_query(book, query, &mut work())
+/// Reads a query over a book and gives its pattern.
+pub fn read_query<'a>(book: &[u8], query: &'a [u8]) -> Result<Pattern<'a>, Refusal> {
+    let mut words = lent::PatternWords::default();
+    let counts = lent::read_query(book, query, &mut words, &mut work())?;
+    Ok(Pattern::of_words(query, &counts, &words))
 }
 
 /// Reads a request over a book and rules.
@@ -112,8 +132,7 @@ pub fn write_query(book: &[u8], rules: &[u8], query: &[u8]) -> Result<Vec<u8>, R
 /// Lists every row that may be had, each once, ascending; a row has the node's number for each Return name. Refused with 14 if the rows do
 /// not fit so many words, a word for each node.
 pub fn list(book: &[u8], rules: &[u8], query: &[u8], request: &[u8], row_words: usize) -> Result<Vec<Vec<u32>>, Refusal> {
-    let (mut rows, mut work) = (vec![0; row_words], work());
-    let count = lent::list(book, rules, query, request, &mut rows, &mut work)?;
-    let width = lent::read_query(book, query, &mut work)?.return_names;
-    Ok(rows.chunks(width).take(count).map(|row| row.to_vec()).collect())
+    let mut rows = vec![0; row_words];
+    let counts = lent::list(book, rules, query, request, &mut rows, &mut work())?;
+    Ok(rows.chunks(counts.width).take(counts.rows).map(|row| row.to_vec()).collect())
 }

@@ -1,4 +1,4 @@
+-- The reasoning behind the exported services' proofs.
 pub mod ToldLaws
 pub mod AnswerLaws
-pub mod CountLaws
-pub mod RequestLaws
+pub mod RowLaws

@@ -1,2 +1,3 @@
 -- What the exported services' contracts speak of.
+pub mod Words
 pub mod Told

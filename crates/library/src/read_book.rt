@@ -3,7 +3,9 @@ ghost use mathlib.Core.Path.{_≡_};
 ghost use lib.ListN.{length};
 ghost use Rattle.model.specs.Service.{ones, bookService};
 ghost use Rattle.library.specs.Told.{BookTold};
+use crate::tell::tell;
 use model::BookRead;
+use model::Verdict;
 
 // Reads a book: true and its counts, or false and the refusal. What does not apply is 0. The working memory ends all ones.
 #[no_mangle]
@@ -25,19 +27,13 @@ pub extern "C" fn hifmuneth_read_book(
             *nodes = n;
             *relationships = r;
             *entries = e;
-            *number = 0;
-            *text = 0;
-            *line = 0;
-            return true;
+            return tell(Verdict::Accepted, number, text, line);
         }
         BookRead::Refused(refusal) => {
             *nodes = 0;
             *relationships = 0;
             *entries = 0;
-            *number = refusal.number;
-            *text = refusal.text;
-            *line = refusal.line;
-            return false;
+            return tell(Verdict::Refused(refusal), number, text, line);
         }
     }
 }

@@ -1,19 +1,19 @@
 // Reading a query, for programs in other languages.
 ghost use mathlib.Core.Path.{_≡_};
 ghost use lib.ListN.{length};
-ghost use Rattle.model.specs.Service.{ones, queryService};
-ghost use Rattle.library.specs.Told.{QueryTold, Held};
-use crate::limit::at_most;
-use model::Counts;
-use model::MAX_CONDITIONS;
-use model::MAX_EDGES;
+ghost use Rattle.model.specs.Service.{ones};
+ghost use Rattle.model.specs.WholeAnswers.{queryRead};
+ghost use Rattle.library.specs.Told.{QueryTold};
+use crate::condition_words;
+use crate::condition_words::ALL_CONDITION_WORDS;
+use crate::pattern_words;
+use crate::pattern_words::ALL_EDGE_WORDS;
+use crate::pattern_words::ALL_VERTEX_WORDS;
+use crate::tell::tell;
 use model::MAX_RETURNS;
-use model::MAX_VERTICES;
-use model::Pattern;
-use model::Verdict;
 
-// Reads a query: true and the counts of its pattern, or false and the refusal. The whole pattern can be had as a text, by the query writer.
-// What does not apply is 0. The working memory ends all ones.
+// Reads a query: true and its pattern, or false and the refusal. Beside the counts each vertex has two words, each edge five, each condition
+// seven and each Return name one, as `specs/Words.antt` sets out. What does not apply is 0. The working memory ends all ones.
 #[no_mangle]
 pub extern "C" fn hifmuneth_read_query(
     book: &[u8],
@@ -21,55 +21,29 @@ pub extern "C" fn hifmuneth_read_query(
     work: &mut [u32],
     vertices: &mut usize,
     edges: &mut usize,
-    clauses: &mut usize,
+    conditions: &mut usize,
     returns: &mut usize,
+    vertex_words: &mut [usize; ALL_VERTEX_WORDS],
+    edge_words: &mut [usize; ALL_EDGE_WORDS],
+    condition_words: &mut [usize; ALL_CONDITION_WORDS],
+    return_words: &mut [usize; MAX_RETURNS],
     number: &mut u32,
     text: &mut u32,
     line: &mut u32,
 ) -> bool
-    ensures answer { λ r. ⌜ QueryTold (queryService (length (now (work .entry))) (now (book .entry)) (now (query .entry)) .answer) r (now (vertices .exit)) (now (edges .exit)) (now (clauses .exit)) (now (returns .exit)) (now (number .exit)) (now (text .exit)) (now (line .exit)) ⌝ }
+    ensures answer { λ r. ⌜ QueryTold (queryRead (length (now (work .entry))) (now (book .entry)) (now (query .entry))) r (now (vertices .exit)) (now (edges .exit)) (now (conditions .exit)) (now (returns .exit)) (now («vertex_words» .exit)) (now («edge_words» .exit)) (now («condition_words» .exit)) (now («return_words» .exit)) (now (number .exit)) (now (text .exit)) (now (line .exit)) ⌝ }
     ensures cleared { λ _. ⌜ now (work .exit) ≡ ones (length (now (work .entry))) ⌝ }
 {
     let read = service::read_query(book, query, work);
+    let pattern = read.pattern;
+    *vertices = pattern.counts.vertices;
+    *edges = pattern.counts.edges;
+    *conditions = pattern.counts.clauses;
+    *returns = pattern.counts.returns;
+    *vertex_words = pattern_words::vertex_words(pattern);
+    *edge_words = pattern_words::edge_words(pattern);
+    *condition_words = condition_words::condition_words(pattern);
+    *return_words = pattern_words::return_words(pattern);
     let verdict = read.verdict;
-    match verdict {
-        Verdict::Accepted => {
-            let pattern = read.pattern;
-            let counts = counts_held(pattern);
-            *vertices = counts.vertices;
-            *edges = counts.edges;
-            *clauses = counts.clauses;
-            *returns = counts.returns;
-            *number = 0;
-            *text = 0;
-            *line = 0;
-            return true;
-        }
-        Verdict::Refused(refusal) => {
-            *vertices = 0;
-            *edges = 0;
-            *clauses = 0;
-            *returns = 0;
-            *number = refusal.number;
-            *text = refusal.text;
-            *line = refusal.line;
-            return false;
-        }
-    }
-}
-
-// The counts of a pattern, each as far as its array holds so many.
-fn counts_held(pattern: Pattern) -> Counts
-    ensures { λ r. ⌜ Held pattern r ⌝ }
-{
-    let vertices = at_most(pattern.counts.vertices, MAX_VERTICES);
-    let edges = at_most(pattern.counts.edges, MAX_EDGES);
-    let clauses = at_most(pattern.counts.clauses, MAX_CONDITIONS);
-    let returns = at_most(pattern.counts.returns, MAX_RETURNS);
-    Counts {
-        vertices,
-        edges,
-        clauses,
-        returns,
-    }
+    tell(verdict, number, text, line)
 }

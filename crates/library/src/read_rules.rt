@@ -3,7 +3,9 @@ ghost use mathlib.Core.Path.{_≡_};
 ghost use lib.ListN.{length};
 ghost use Rattle.model.specs.Service.{ones, rulesService};
 ghost use Rattle.library.specs.Told.{RulesTold};
+use crate::tell::tell;
 use model::RulesRead;
+use model::Verdict;
 
 // Reads rules: true and their counts, or false and the refusal. What does not apply is 0. The working memory ends all ones.
 #[no_mangle]
@@ -24,18 +26,12 @@ pub extern "C" fn hifmuneth_read_rules(
         RulesRead::Counts(c, p) => {
             *categories = c;
             *policies = p;
-            *number = 0;
-            *text = 0;
-            *line = 0;
-            return true;
+            return tell(Verdict::Accepted, number, text, line);
         }
         RulesRead::Refused(refusal) => {
             *categories = 0;
             *policies = 0;
-            *number = refusal.number;
-            *text = refusal.text;
-            *line = refusal.line;
-            return false;
+            return tell(Verdict::Refused(refusal), number, text, line);
         }
     }
 }

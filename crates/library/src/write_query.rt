@@ -3,7 +3,9 @@ ghost use mathlib.Core.Path.{_≡_};
 ghost use lib.ListN.{length};
 ghost use Rattle.model.specs.Service.{ones, writerService};
 ghost use Rattle.library.specs.Told.{CountTold};
+use crate::tell::tell;
 use model::QueryWritten;
+use model::Verdict;
 
 // Writes a query in front of the text buffer: true and its length in bytes, or false and the refusal, which leaves the buffer as it is.
 // What does not apply is 0. The working memory ends all ones.
@@ -26,17 +28,11 @@ pub extern "C" fn hifmuneth_write_query(
     match service::write_query(book, rules, query, out, work) {
         QueryWritten::Length(n) => {
             *size = n;
-            *number = 0;
-            *text = 0;
-            *line = 0;
-            return true;
+            return tell(Verdict::Accepted, number, text, line);
         }
         QueryWritten::Refused(refusal) => {
             *size = 0;
-            *number = refusal.number;
-            *text = refusal.text;
-            *line = refusal.line;
-            return false;
+            return tell(Verdict::Refused(refusal), number, text, line);
         }
     }
 }

@@ -37,19 +37,21 @@ fn measure(t: &Texts) {
     let [book, rules, query, request, nowhere] = [&t.book, &t.rules, &t.query, &t.request, &t.nowhere].map(|s| s.as_bytes());
     let (mut rows, mut w) = (vec![0; 16_384], work());
     let counts = lent::read_book(book, &mut w).expect("a book");
-    let count = lent::list(book, rules, query, request, &mut rows, &mut w).expect("a list");
+    let count = lent::list(book, rules, query, request, &mut rows, &mut w).expect("a list").rows;
     let plainly = |enumerate: bool| plain::list::list(book, rules, query, request, 16_384, WORK_WORDS, enumerate);
     assert_eq!(count, plainly(false).expect("a list").len());
     let (mut rows2, mut ids, mut text) = (rows.clone(), [0; lent::IDENTITY_WORDS], vec![0; 2048]);
-    let [mut w1, mut w2, mut w3, mut w4, mut w5, mut w6, mut w7] = [0; 7].map(|_| work());
+    let (mut pattern, mut names) = (lent::PatternWords::default(), [0; lent::NAME_BYTES]);
+    let [mut w1, mut w2, mut w3, mut w4, mut w5, mut w6, mut w7, mut w8] = [0; 8].map(|_| work());
     let mut calls = vec![
         call("list", move || lent::list(book, rules, query, request, &mut rows, &mut w1)),
         call("list that ends before the search", move || lent::list(book, rules, query, nowhere, &mut rows2, &mut w2)),
         call("read_book", move || lent::read_book(book, &mut w3)),
         call("read_rules", move || lent::read_rules(book, rules, &mut w4)),
-        call("read_query", move || lent::read_query(book, query, &mut w5)),
+        call("read_query", move || lent::read_query(book, query, &mut pattern, &mut w5)),
         call("read_request", move || lent::read_request(book, rules, request, &mut ids, &mut w6)),
         call("write_query", move || lent::write_query(book, rules, query, &mut text, &mut w7)),
+        call("node_names", move || lent::node_names(book, &mut names, &mut w8)),
         call("plain Rust, search", move || plainly(false)),
     ];
     if t.enumerable {

@@ -2,7 +2,9 @@
 use crate::cases::Texts;
 use crate::random::Random;
 use crate::tally::Tally;
-use hifmuneth::{lent::IDENTITY_WORDS, raw};
+use crate::words::{identity_words, name_bytes, pattern_words};
+use hifmuneth::lent::{PatternWords, IDENTITY_WORDS, NAME_BYTES};
+use hifmuneth::raw;
 use plain::{book::Book, list::*, query::Pattern, rules::Request, rules::Rules, text::*};
 
 const WORK: usize = 16_384;
@@ -115,19 +117,45 @@ impl Check<'_> {
             told("rules", ok, &l, 2, given(words, e.rules.as_ref().map(|r| vec![r.categories.len(), r.policies.len()]).map_err(|r| *r)));
             all_ones("rules", &work);
 
-            let (mut work, mut l) = (self.random.words(words), noise(self.random));
-            let [x, y, z, w] = &mut l.counts;
-            let Refusal { number, text, line } = &mut l.refusal;
-            let ok = unsafe {
-                raw::hifmuneth_read_query(
-                    t.book.as_ptr(), t.book.len(), t.query.as_ptr(), t.query.len(), work.as_mut_ptr(), words, x, y, z, w, number, text, line,
-                )
-            };
-            let counts = e.query.as_ref().map(|q| vec![q.vertices.len(), q.edges.len(), q.clauses.len(), q.returns.len()]).map_err(|r| *r);
-            told("query", ok, &l, 4, given(words, counts));
-            all_ones("query", &work);
+            self.names(words);
+            self.query(words);
             self.request(words);
         }
+    }
+
+    fn names(&mut self, words: usize) {
+        let (t, e) = (self.texts, self.expected);
+        let (mut work, mut l) = (self.random.words(words), noise(self.random));
+        let mut names: [u8; NAME_BYTES] = self.random.bytes(NAME_BYTES).try_into().unwrap();
+        let Refusal { number, text, line } = &mut l.refusal;
+        let ok = unsafe {
+            raw::hifmuneth_node_names(t.book.as_ptr(), t.book.len(), work.as_mut_ptr(), words, &mut l.counts[0], &mut names, number, text, line)
+        };
+        let expected = given(words, e.book.clone());
+        told("names", ok, &l, 1, expected.as_ref().map(|b| vec![b.nodes.len()]).map_err(|r| *r));
+        all_ones("names", &work);
+        assert_eq!(names, name_bytes(expected.as_ref().ok()), "names: bytes");
+    }
+
+    fn query(&mut self, words: usize) {
+        let (t, e) = (self.texts, self.expected);
+        let (mut work, mut l) = (self.random.words(words), noise(self.random));
+        let mut noisy = || self.random.word() as usize;
+        let mut p = PatternWords {
+            vertices: [0; 16].map(|_| noisy()), edges: [0; 80].map(|_| noisy()), conditions: [0; 224].map(|_| noisy()), returns: [0; 4].map(|_| noisy()),
+        };
+        let [x, y, z, w] = &mut l.counts;
+        let Refusal { number, text, line } = &mut l.refusal;
+        let ok = unsafe {
+            raw::hifmuneth_read_query(
+                t.book.as_ptr(), t.book.len(), t.query.as_ptr(), t.query.len(), work.as_mut_ptr(), words, x, y, z, w,
+                &mut p.vertices, &mut p.edges, &mut p.conditions, &mut p.returns, number, text, line,
+            )
+        };
+        let expected = given(words, e.query.clone());
+        told("query", ok, &l, 4, expected.as_ref().map(|q| vec![q.vertices.len(), q.edges.len(), q.clauses.len(), q.returns.len()]).map_err(|r| *r));
+        all_ones("query", &work);
+        assert_eq!(p, expected.map_or(PatternWords::default(), |q| pattern_words(&t.query, &q)), "query: words of the pattern");
     }
 
     fn request(&mut self, words: usize) {
@@ -146,12 +174,7 @@ impl Check<'_> {
         told("request", ok, &l, 2, expected.as_ref().map(|x| vec![x.category, x.identities.len()]).map_err(|r| *r));
         all_ones("request", &work);
         let identities = expected.map_or(vec![], |x| x.identities);
-        for (i, (actor, node)) in identities.iter().enumerate() {
-            let (start, length) = (ids[3 * i], ids[3 * i + 1]);
-            assert_eq!(&t.request[start..start + length], actor, "request: actor {i}");
-            assert_eq!(ids[3 * i + 2], *node, "request: node {i}");
-        }
-        assert!(ids[3 * identities.len()..].iter().all(|w| *w == 0), "request: words past the identities");
+        assert_eq!(ids, identity_words(&t.request, &identities), "request: words of the identities");
     }
 
     pub fn writer(&mut self) {
@@ -202,17 +225,18 @@ impl Check<'_> {
     fn list_in(&mut self, room: usize, words: usize, width: usize, tally: &mut Tally) {
         let t = self.texts;
         let (mut work, mut rows, mut l) = (self.random.words(words), self.random.words(room), noise(self.random));
+        let [x, y, _, _] = &mut l.counts;
         let Refusal { number, text, line } = &mut l.refusal;
         let ok = unsafe {
             raw::hifmuneth_list(
                 t.book.as_ptr(), t.book.len(), t.rules.as_ptr(), t.rules.len(), t.query.as_ptr(), t.query.len(), t.request.as_ptr(), t.request.len(),
-                rows.as_mut_ptr(), room, work.as_mut_ptr(), words, &mut l.counts[0], number, text, line,
+                rows.as_mut_ptr(), room, work.as_mut_ptr(), words, x, y, number, text, line,
             )
         };
         let fits = |rows: Vec<Vec<usize>>| if rows.len() * width > room { refuse(14, 5, 0) } else { Ok(rows) };
         let expected = given(words, self.expected.rows.clone().and_then(fits));
         tally.list(&expected);
-        told("list", ok, &l, 1, expected.as_ref().map(|r| vec![r.len()]).map_err(|r| *r));
+        told("list", ok, &l, 2, expected.as_ref().map(|r| vec![r.len(), width]).map_err(|r| *r));
         all_ones("list", &work);
         let flat: Vec<u32> = expected.unwrap_or_default().concat().iter().map(|n| *n as u32).collect();
         assert_eq!(rows[..flat.len()], flat[..], "list: rows");

@@ -9,6 +9,7 @@ mod patterns;
 mod random;
 mod tally;
 mod vectors;
+mod words;
 mod world;
 
 use std::{env, panic, process, time::Instant};

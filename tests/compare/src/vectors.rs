@@ -71,7 +71,7 @@ fn same(at: &Path) -> bool {
     let mut out = line("book", hifmuneth::read_book(&book).map(|c| format!("(book {} {} {})", c.nodes, c.relationships, c.entries)));
     out += &line("rules", hifmuneth::read_rules(&book, &rules).map(|c| format!("(rules {} {})", c.categories, c.policies)));
     out += &line("query", hifmuneth::read_query(&book, &query).map(|c| {
-        let counts = [c.vertices, c.edges, c.conditions, c.return_names];
+        let counts = [c.vertices.len(), c.edges.len(), c.conditions.len(), c.returns.len()];
         if shown_counts(&shown) == Some(counts) { shown.clone() } else { format!("{counts:?}") }
     }));
     out += &line("request", hifmuneth::read_request(&book, &rules, &request).map(|x| {

@@ -1,51 +1,43 @@
-use Rattle.library.proofs.RequestLaws.{WordsSoFar, words-start, words-step, words-end}
+-- All words of the identities. The loop's invariant: what is put so far is each place's word. The measure is what is left of them.
 use Prim.Native.Nat.{_-_}
 use mathlib.Core.Path.{refl}
 use native.Mathlib.Omega.{arith}
 use borrow.Author.Needs.{needs}
+use Rattle.names.proofs.PutLaws.{PutSoFar, put-start, put-step, put-end}
+use Rattle.library.specs.Words.{identityWord, identityWords}
 use Rattle.library.proofs.read_request.identity_words.Statement.{statement}
 use Rattle.library.proofs.read_request.identity_words.Tie as tie
-use Rattle.library.proofs.read_request.identity_words.Reads as reads
-use Rattle.library.proofs.read_request.identity_words.Lts as lts
-use Rattle.library.proofs.read_request.word_of.Reads as word-of-reads
 
 abbrev Inv-loop : tie.InvT-loop
-Inv-loop given count words₀ k₀ words k = WordsSoFar given count words k
+Inv-loop given count words₀ k₀ words k = PutSoFar (identityWord given count) 24 words k
 
 abbrev μ-loop : tie.MeasureT-loop
 μ-loop given count words₀ k₀ words k = 24 - k
 
--- src/read_request.rt:68:5
 loop-holds : tie.Need-loop-holds Inv-loop μ-loop
-loop-holds c = words-start _ _ _ refl
+loop-holds c = put-start _ _ _ refl
 
--- src/read_request.rt:69:20
-word-of-requires : tie.Need-word-of-requires Inv-loop μ-loop
-word-of-requires c κs = search needs
+identity-word-requires : tie.Need-identity-word-requires Inv-loop μ-loop
+identity-word-requires c κs = search needs
 
--- src/read_request.rt:69:9
 mul-words : tie.Need-mul-words Inv-loop μ-loop
 mul-words c = search needs
 
--- src/read_request.rt:69:9
 array-write-words : tie.Need-array-write-words Inv-loop μ-loop
 array-write-words c = search needs
 
--- src/read_request.rt:70:9
 add-k : tie.Need-add-k Inv-loop μ-loop
 add-k c = search needs
 
--- src/read_request.rt:68:5
 loop-less : tie.Need-loop-less Inv-loop μ-loop
 loop-less c = omega arith
 
--- src/read_request.rt:68:5
 loop-again : tie.Need-loop-again Inv-loop μ-loop
-loop-again c = words-step _ _ _ _ _ (c .before .loop-test .taken) (c .before .before .loop .inv) (c .word-of .ensures)
+loop-again c = put-step _ _ _ _ _ (c .before .loop-test .taken) (c .before .before .loop .inv) (c .identity-word .ensures)
 
--- src/read_request.rt:63:1
 returns : tie.Need-returns Inv-loop μ-loop
-returns c = words-end _ _ _ _ (c .loop-test .left) (c .before .loop .inv)
+unfolding identityWords
+returns c = put-end _ _ _ _ (c .loop-test .left) (c .before .loop .inv)
 
 pub identity-words-spec : {M : Type 1} → statement M
 identity-words-spec =
@@ -54,7 +46,7 @@ identity-words-spec =
     Inv-loop
     μ-loop
     loop-holds
-    word-of-requires
+    identity-word-requires
     mul-words
     array-write-words
     add-k

@@ -1,46 +1,45 @@
+-- `hifmuneth_write_query` tells what the service answers, accepted or refused.
 use Rattle.library.proofs.AnswerLaws.{written-accepted, written-refused}
 use borrow.Author.Needs.{needs}
 use Rattle.library.proofs.write_query.hifmuneth_write_query.Statement.{statement}
 use Rattle.library.proofs.write_query.hifmuneth_write_query.Tie as tie
-use Rattle.library.proofs.write_query.hifmuneth_write_query.Reads as reads
-use Rattle.library.proofs.write_query.hifmuneth_write_query.Lts as lts
-use Rattle.service.proofs.write_query.Reads as write-query-reads
 
--- src/write_query.rt:27:11
 write-query-requires : tie.Need-write-query-requires
 write-query-requires c κs = search needs
 
--- src/write_query.rt:28:30
 enum-known-n : tie.Need-enum-known-n
 enum-known-n c = search needs
 
--- src/write_query.rt:33:13
+tell-requires : tie.Need-tell-requires
+tell-requires c κs = search needs
+
 same-length : tie.Need-same-length
 same-length c = search needs
 
--- src/write_query.rt:33:13
 same-length-2 : tie.Need-same-length-2
 same-length-2 c = search needs
 
--- src/write_query.rt:33:13
 returns : tie.Need-returns
-returns c = (written-accepted _ _ (c .before .before .before .before .before .before .before .write-query .ensures .0) (c .before .n .given .1), c .before .before .before .before .before .before .before .write-query .ensures .1)
+returns c =
+    let r = c .before .before .before .before .before .before .before .before .before .before .before .write-query in
+    (written-accepted _ _ (r .ensures .0) (c .before .before .before .before .before .n .given .1) (c .tell .ensures), r .ensures .1)
 
--- src/write_query.rt:35:31
 enum-known-refusal : tie.Need-enum-known-refusal
 enum-known-refusal c = search needs
 
--- src/write_query.rt:40:13
+tell-requires-2 : tie.Need-tell-requires-2
+tell-requires-2 c κs = search needs
+
 same-length-3 : tie.Need-same-length-3
 same-length-3 c = search needs
 
--- src/write_query.rt:40:13
 same-length-4 : tie.Need-same-length-4
 same-length-4 c = search needs
 
--- src/write_query.rt:40:13
 returns-2 : tie.Need-returns-2
-returns-2 c = (written-refused _ _ (c .before .before .before .before .before .before .before .write-query .ensures .0) (c .before .refusal .given .1), c .before .before .before .before .before .before .before .write-query .ensures .1)
+returns-2 c =
+    let r = c .before .before .before .before .before .before .before .before .before .before .before .write-query in
+    (written-refused _ _ (r .ensures .0) (c .before .before .before .before .before .refusal .given .1) (c .tell2 .ensures), r .ensures .1)
 
 pub hifmuneth-write-query-spec : {M : Type 1} → statement M
 hifmuneth-write-query-spec =
@@ -48,10 +47,12 @@ hifmuneth-write-query-spec =
     (tie.spec
     write-query-requires
     enum-known-n
+    tell-requires
     same-length
     same-length-2
     returns
     enum-known-refusal
+    tell-requires-2
     same-length-3
     same-length-4
     returns-2)
