@@ -9,4 +9,5 @@ pub mod PieceLaws
 pub mod PieceTests
 pub mod FormLaws
 pub mod ListLaws
+pub mod EndLaws
 pub mod OnwardLaws

@@ -32,10 +32,10 @@ use Rattle.items.proofs.FormLaws.{form-list, form-lists}
 use Rattle.items.proofs.PieceLaws.{first-word, first-name, first-value, end-next}
 
 -- (ATTR VALUE)...
-entryItems : ListOf Item → Maybe Entry
+pub entryItems : ListOf Item → Maybe Entry
 entryItems is = first asName is (λ n is. first asValue is (λ v is. atEnd is (record { attr = n; value = v })))
 
-first-then : {A B C : Type 0} (reading : Item → Maybe A) (is : ListOf Item) (k : A → ListOf Item → Maybe B) (c : B → Maybe C)
+pub first-then : {A B C : Type 0} (reading : Item → Maybe A) (is : ListOf Item) (k : A → ListOf Item → Maybe B) (c : B → Maybe C)
     → andThen (first reading is k) c ≡ first reading is (λ a is. andThen (k a is) c)
 unfolding first andThen
 first-then reading [] k c = refl
@@ -66,7 +66,7 @@ module _ {B : Type 0} (s : Bytes) where
       first-value d false s b (λ e v is. andThen (atEnd is (record { attr = partOf s a (b - a); value = v })) (λ x. k x e)) ∙ entry-shut d a b (valueNext d false s b) k g
 
   -- the items of an entry, and what is made of it and of the place behind
-  entry-items : (d : ℕ) (p : ℕ) (k : Entry → ℕ → Maybe B) (g : ℕ → Maybe B)
+  pub entry-items : (d : ℕ) (p : ℕ) (k : Entry → ℕ → Maybe B) (g : ℕ → Maybe B)
       → restAt d true p s (λ e is. andThen (entryItems is) (λ x. k x e)) ≡ onEntry s (entryNamed d s (namePlaces (nameNext d true s p))) k g
   unfolding entryItems
   entry-items d p k g =
@@ -127,7 +127,7 @@ module _ {B : Type 0} (d : ℕ) (s : Bytes) (k : Claim → ℕ → Maybe B) (g :
   claim-actor (name.Name a b) =
       first-name d false s b (λ e m is. andThen (atEnd is (record { actor = partOf s a (b - a); node = m })) (λ x. k x e)) ∙ claim-node a b (nameNext d false s b)
 
-  claim-rest : (i : ℕ) → restAt d false i s (λ e is. first asName is (λ a is. first asName is (λ n is. andThen (atEnd is (record { actor = a; node = n })) (λ x. k x e)))) ≡ onClaim s (claimRest d s i) k g
+  pub claim-rest : (i : ℕ) → restAt d false i s (λ e is. first asName is (λ a is. first asName is (λ n is. andThen (atEnd is (record { actor = a; node = n })) (λ x. k x e)))) ≡ onClaim s (claimRest d s i) k g
   unfolding claimRest
   claim-rest i = first-name d false s i (λ e a is. first asName is (λ n is. andThen (atEnd is (record { actor = a; node = n })) (λ x. k x e))) ∙ claim-actor (nameNext d false s i)
 

@@ -12,7 +12,7 @@ use Rattle.text.specs.declared.End.{End}
 use Rattle.text.specs.declared.End.the-variants as end
 use Rattle.text.specs.declared.NumberRead.{NumberRead}
 use Rattle.text.specs.declared.NumberRead.the-variants as number
-use Rattle.text.specs.Places.{peekAt, past, isSpace}
+use Rattle.text.specs.Places.{peekAt, past, isSpace, endOf}
 use Rattle.items.specs.declared.ItemRead.{ItemRead}
 use Rattle.items.specs.declared.ItemRead.the-variants.{Word, Number, Text, Quoted, List, None}
 use Rattle.items.specs.declared.Next.{Next}
@@ -55,6 +55,10 @@ unfoldable pub nextAt : Bool → Bytes → ℕ → Next
 nextAt free s i =
     let p = past isSpace s i in
     pick (eqb (peekAt s p) 41) (next.Close (p + 1)) (pick (ltb i p) (next.Item p) (pick (free || eqb (peekAt s p) 40) (next.Item p) next.None))
+
+-- the place behind the list whose items stand from a place on, in which d lists may still be opened
+abbrev pub listEnd : ℕ → Bool → Bytes → ℕ → End
+listEnd d free s i = endOf i (listAt (itemAt d) free 0 (drop i s))
 
 -- the items that were read, or none
 unfoldable pub itemsOr : Maybe (Got Items) → Items

@@ -8,6 +8,7 @@ use crate::Next;
 use crate::Piece;
 use crate::ValueRead;
 use crate::pieces;
+use crate::read;
 use text::End;
 use text::bytes;
 use text::compare;
@@ -41,12 +42,15 @@ pub fn form_closes(s: &[u8], from: usize) -> bool
     only_spaces(s, e)
 }
 
-// The next (ATTR VALUE) of a form, or its closing bracket; in an entry `depth` lists may still be opened.
+// The next (ATTR VALUE) of a form, which ends where the list reader says, or the form's closing bracket; in an entry `depth` lists may still be opened.
 pub fn entry(s: &[u8], from: usize, depth: usize) -> EntryRead
     ensures { λ r. ⌜ r ≡ entryNext depth (now (s .entry)) from ⌝ }
 {
     match pieces::open_list(s, from) {
         Next::Item(i) => {
+            let End::At(next) = read::list(s, i, true, depth) else {
+                return EntryRead::None;
+            };
             let Piece::At(start, end) = pieces::name_places(pieces::next_name(s, i, true, depth))
             else {
                 return EntryRead::None;
@@ -54,25 +58,28 @@ pub fn entry(s: &[u8], from: usize, depth: usize) -> EntryRead
             let ValueRead::Value(value, q) = pieces::next_value(s, end, false, depth) else {
                 return EntryRead::None;
             };
-            let End::At(next) = pieces::close_list(s, q) else {
-                return EntryRead::None;
-            };
-            EntryRead::Entry {
-                start,
-                end,
-                value,
-                next,
+            if pieces::only_closes(s, q, next) {
+                return EntryRead::Entry {
+                    start,
+                    end,
+                    value,
+                    next,
+                };
             }
+            EntryRead::None
         }
         Next::Close(e) => EntryRead::Close(e),
         Next::None => EntryRead::None,
     }
 }
 
-// The two names of an (id ACTOR NODE) behind its first word, and its closing bracket.
+// The two names of an (id ACTOR NODE) behind its first word, up to where the list ends.
 pub fn claim_rest(s: &[u8], from: usize, depth: usize) -> ClaimRead
     ensures { λ r. ⌜ r ≡ claimRest depth (now (s .entry)) from ⌝ }
 {
+    let End::At(next) = read::list(s, from, false, depth) else {
+        return ClaimRead::None;
+    };
     let Piece::At(actor_start, actor_end) = pieces::name_places(pieces::next_name(
         s,
         from,
@@ -89,16 +96,16 @@ pub fn claim_rest(s: &[u8], from: usize, depth: usize) -> ClaimRead
     )) else {
         return ClaimRead::None;
     };
-    let End::At(next) = pieces::close_list(s, node_end) else {
-        return ClaimRead::None;
-    };
-    ClaimRead::Claim {
-        actor_start,
-        actor_end,
-        node_start,
-        node_end,
-        next,
+    if pieces::only_closes(s, node_end, next) {
+        return ClaimRead::Claim {
+            actor_start,
+            actor_end,
+            node_start,
+            node_end,
+            next,
+        };
     }
+    ClaimRead::None
 }
 
 // The next (id ACTOR NODE) of a form, or its closing bracket; in it `depth` lists may still be opened.

@@ -1,8 +1,11 @@
 // The next piece of a list: a word, a name, a value, a policy text, a list, or the closing bracket.
+ghost use Prim.Native.Nat.{_-_, _<_};
 ghost use mathlib.Core.Path.{_≡_};
 ghost use mathlib.Core.Bool.{true};
 ghost use lib.ListN.{drop};
+ghost use lib.Dec.{eqb};
 ghost use Rattle.model.specs.Items.{itemAt};
+ghost use Rattle.text.specs.Places.{past, isSpace};
 ghost use Rattle.items.specs.Reads.{readOf};
 ghost use Rattle.items.specs.Pieces.{itemPlace, wordEnd, quotedEnd, namePlaces, wordNext, quotedNext, nameNext, valuePiece, valueNext, openNext, closeNext};
 use crate::ItemRead;
@@ -15,6 +18,7 @@ use model::Value;
 use text::End;
 use text::bytes;
 use text::compare;
+use text::words;
 
 // The place of an item that follows.
 pub fn item_place(n: Next) -> End
@@ -168,4 +172,12 @@ pub fn close_list(s: &[u8], from: usize) -> End
         Next::Close(e) => End::At(e),
         Next::None => End::None,
     }
+}
+
+// Whether nothing but spaces stands from a place to the closing bracket before the end of a list.
+pub fn only_closes(s: &[u8], from: usize, end: usize) -> bool
+    requires { ⌜ 0 < end ⌝ }
+    ensures { λ r. ⌜ r ≡ eqb (past isSpace (now (s .entry)) from) (end - 1) ⌝ }
+{
+    words::spaces_end(s, from) == end - 1
 }

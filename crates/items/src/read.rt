@@ -1,12 +1,11 @@
 // The item reader and the list reader.
 ghost use mathlib.Core.Path.{_≡_};
-ghost use mathlib.Core.Bool.{true, _||_};
+ghost use mathlib.Core.Bool.{_||_};
 ghost use lib.ListN.{drop};
 ghost use lib.Dec.{eqb};
 ghost use Rattle.model.specs.Words.{isDigit};
-ghost use Rattle.model.specs.Items.{plainAt, listAt, itemAt};
-ghost use Rattle.text.specs.Places.{endOf};
-ghost use Rattle.items.specs.Reads.{onEnd, onNumber, endRead, readOf, nextAt};
+ghost use Rattle.model.specs.Items.{plainAt, itemAt};
+ghost use Rattle.items.specs.Reads.{onEnd, onNumber, endRead, readOf, nextAt, listEnd};
 ghost use Rattle.items.specs.declared.ItemRead.the-variants.{Word, Text, Quoted};
 use crate::ItemRead;
 use crate::Next;
@@ -134,7 +133,7 @@ pub fn item(s: &[u8], at: usize, depth: usize) -> ItemRead
         if depth == 0 {
             return ItemRead::None;
         }
-        let End::At(q) = list(s, at + 1, depth - 1) else {
+        let End::At(q) = list(s, at + 1, true, depth - 1) else {
             return ItemRead::None;
         };
         return ItemRead::List(q);
@@ -142,21 +141,21 @@ pub fn item(s: &[u8], at: usize, depth: usize) -> ItemRead
     plain(s, at)
 }
 
-// The end of the list whose items stand from a place on, where in it `depth` lists may still be opened.
-pub fn list(s: &[u8], from: usize, depth: usize) -> End
-    ensures { λ r. ⌜ r ≡ endOf from (listAt (itemAt depth) true 0 (drop from (now (s .entry)))) ⌝ }
+// The end of the list whose items stand from a place on, where in it `depth` lists may still be opened. `free`: as for `next`.
+pub fn list(s: &[u8], from: usize, free: bool, depth: usize) -> End
+    ensures { λ r. ⌜ r ≡ listEnd depth free (now (s .entry)) from ⌝ }
 {
     let mut i = from;
-    let mut free = true;
+    let mut free_here = free;
     while i < s.len() {
-        match next(s, i, free) {
+        match next(s, i, free_here) {
             Next::Item(p) => {
                 let opens = bytes::peek(s, p) == bytes::OPENING_BRACKET;
                 let End::At(q) = item_end(item(s, p, depth)) else {
                     return End::None;
                 };
                 i = q;
-                free = opens;
+                free_here = opens;
             }
             Next::Close(e) => {
                 return End::At(e);

@@ -1,7 +1,9 @@
 -- `items::forms::entry` meets its contract.
-use Rattle.items.proofs.ListLaws.{at-entry, entry-value, entry-close}
-use Rattle.items.specs.Pieces.{namePlaces, afterEnd}
+use Rattle.items.proofs.ListLaws.{at-entry, entry-value}
+use Rattle.items.proofs.EndLaws.{ends-shut, entry-nowhere, entry-there, entry-past}
+use Rattle.items.specs.Pieces.{namePlaces}
 use Rattle.items.specs.Forms.{entryNamed, entryValued, entryNext, entryAfter}
+use mathlib.Core.Bool.{true}
 use mathlib.Core.Path.{sym, ap, _∙_}
 use borrow.Author.Needs.{needs}
 use Rattle.items.proofs.forms.entry.Statement.{statement}
@@ -13,6 +15,18 @@ open-list-requires c κs = search needs
 enum-known-i : tie.Need-enum-known-i
 enum-known-i c = search needs
 
+list-requires : tie.Need-list-requires
+list-requires c κs = search needs
+
+enum-known-next : tie.Need-enum-known-next
+enum-known-next c = search needs
+
+enum-told : tie.Need-enum-told
+enum-told c = search needs
+
+returns : tie.Need-returns
+returns c = entry-nowhere (c .before .before .before .before .before .before .before .before .args .depth) (c .before .before .before .before .before .before .before .before .args .s .now) (c .before .before .before .before .before .before .before .before .args .from) (c .before .before .before .before .i .given .0 .0) (sym (c .before .before .before .before .i .given .1) ∙ c .before .before .before .before .before .before .open-list .ensures) (sym (c .enum-told .given .1) ∙ c .before .before .list .ensures)
+
 next-name-requires : tie.Need-next-name-requires
 next-name-requires c κs = search needs
 
@@ -22,12 +36,12 @@ name-places-requires c κs = search needs
 enum-known-start : tie.Need-enum-known-start
 enum-known-start c = search needs
 
-enum-told : tie.Need-enum-told
-enum-told c = search needs
+enum-told-2 : tie.Need-enum-told-2
+enum-told-2 c = search needs
 
-returns : tie.Need-returns
+returns-2 : tie.Need-returns-2
 unfolding entryNamed
-returns c = at-entry (c .before .before .before .before .before .before .before .before .before .args .depth) (c .before .before .before .before .before .before .before .before .before .args .s .now) (c .before .before .before .before .before .before .before .before .before .args .from) (c .before .before .before .before .before .i .given .0 .0) (sym (c .before .before .before .before .before .i .given .1) ∙ c .before .before .before .before .before .before .before .open-list .ensures) _ (sym (c .enum-told .given .1) ∙ c .before .before .name-places .ensures ∙ ap namePlaces (c .before .before .before .next-name .ensures))
+returns-2 c = at-entry (c .before .before .before .before .before .before .before .before .before .before .before .before .before .args .depth) (c .before .before .before .before .before .before .before .before .before .before .before .before .before .args .s .now) (c .before .before .before .before .before .before .before .before .before .before .before .before .before .args .from) (c .before .before .before .before .before .before .before .before .before .i .given .0 .0) (sym (c .before .before .before .before .before .before .before .before .before .i .given .1) ∙ c .before .before .before .before .before .before .before .before .before .before .before .open-list .ensures) _ (sym (c .enum-told2 .given .1) ∙ c .before .before .name-places .ensures ∙ ap namePlaces (c .before .before .before .next-name .ensures))
 
 next-value-requires : tie.Need-next-value-requires
 next-value-requires c κs = search needs
@@ -35,25 +49,18 @@ next-value-requires c κs = search needs
 enum-known-value : tie.Need-enum-known-value
 enum-known-value c = search needs
 
-enum-told-2 : tie.Need-enum-told-2
-enum-told-2 c = search needs
-
-returns-2 : tie.Need-returns-2
-unfolding entryValued
-returns-2 c = entry-value (c .before .before .before .before .before .before .before .before .before .before .before .before .before .args .depth) (c .before .before .before .before .before .before .before .before .before .before .before .before .before .args .s .now) (c .before .before .before .before .before .before .before .before .before .before .before .before .before .args .from) (c .before .before .before .before .before .before .before .before .before .i .given .0 .0) (sym (c .before .before .before .before .before .before .before .before .before .i .given .1) ∙ c .before .before .before .before .before .before .before .before .before .before .before .open-list .ensures) _ _ (sym (c .before .before .before .before .start .given .1) ∙ c .before .before .before .before .before .before .name-places .ensures ∙ ap namePlaces (c .before .before .before .before .before .before .before .next-name .ensures)) _ (sym (c .enum-told2 .given .1) ∙ c .before .before .next-value .ensures)
-
-close-list-requires : tie.Need-close-list-requires
-close-list-requires c κs = search needs
-
-enum-known-next : tie.Need-enum-known-next
-enum-known-next c = search needs
-
 enum-told-3 : tie.Need-enum-told-3
 enum-told-3 c = search needs
 
 returns-3 : tie.Need-returns-3
-unfolding afterEnd
-returns-3 c = entry-close (c .before .before .before .before .before .before .before .before .before .before .before .before .before .before .before .before .before .args .depth) (c .before .before .before .before .before .before .before .before .before .before .before .before .before .before .before .before .before .args .s .now) (c .before .before .before .before .before .before .before .before .before .before .before .before .before .before .before .before .before .args .from) (c .before .before .before .before .before .before .before .before .before .before .before .before .before .i .given .0 .0) (sym (c .before .before .before .before .before .before .before .before .before .before .before .before .before .i .given .1) ∙ c .before .before .before .before .before .before .before .before .before .before .before .before .before .before .before .open-list .ensures) _ _ (sym (c .before .before .before .before .before .before .before .before .start .given .1) ∙ c .before .before .before .before .before .before .before .before .before .before .name-places .ensures ∙ ap namePlaces (c .before .before .before .before .before .before .before .before .before .before .before .next-name .ensures)) _ _ (sym (c .before .before .before .before .value .given .1) ∙ c .before .before .before .before .before .before .next-value .ensures) _ (sym (c .enum-told3 .given .1) ∙ c .before .before .close-list .ensures)
+unfolding entryValued
+returns-3 c = entry-value (c .before .before .before .before .before .before .before .before .before .before .before .before .before .before .before .before .before .args .depth) (c .before .before .before .before .before .before .before .before .before .before .before .before .before .before .before .before .before .args .s .now) (c .before .before .before .before .before .before .before .before .before .before .before .before .before .before .before .before .before .args .from) (c .before .before .before .before .before .before .before .before .before .before .before .before .before .i .given .0 .0) (sym (c .before .before .before .before .before .before .before .before .before .before .before .before .before .i .given .1) ∙ c .before .before .before .before .before .before .before .before .before .before .before .before .before .before .before .open-list .ensures) _ _ (sym (c .before .before .before .before .start .given .1) ∙ c .before .before .before .before .before .before .name-places .ensures ∙ ap namePlaces (c .before .before .before .before .before .before .before .next-name .ensures)) _ (sym (c .enum-told3 .given .1) ∙ c .before .before .next-value .ensures)
+
+only-closes-requires : tie.Need-only-closes-requires
+only-closes-requires c κs = ends-shut (c .before .before .before .before .before .before .before .before .before .before .before .before .before .before .before .before .before .before .args .depth) true (c .before .before .before .before .before .before .before .before .before .before .before .before .before .before .before .before .before .before .args .s .now) (c .before .before .before .before .before .before .before .before .before .before .before .before .before .before .i .given .0 .0) (c .before .before .before .before .before .before .before .before .before .before .next .given .0 .0) (sym (c .before .before .before .before .before .before .before .before .before .before .next .given .1) ∙ c .before .before .before .before .before .before .before .before .before .before .before .before .list .ensures) .0
+
+returns-4 : tie.Need-returns-4
+returns-4 c = entry-there (c .before .before .before .before .before .before .before .before .before .before .before .before .before .before .before .before .before .before .before .before .args .depth) (c .before .before .before .before .before .before .before .before .before .before .before .before .before .before .before .before .before .before .before .before .args .s .now) (c .before .before .before .before .before .before .before .before .before .before .before .before .before .before .before .before .before .before .before .before .args .from) (c .before .before .before .before .before .before .before .before .before .before .before .before .before .before .before .before .i .given .0 .0) (sym (c .before .before .before .before .before .before .before .before .before .before .before .before .before .before .before .before .i .given .1) ∙ c .before .before .before .before .before .before .before .before .before .before .before .before .before .before .before .before .before .before .open-list .ensures) _ _ (sym (c .before .before .before .before .before .before .before .start .given .1) ∙ c .before .before .before .before .before .before .before .before .before .name-places .ensures ∙ ap namePlaces (c .before .before .before .before .before .before .before .before .before .before .next-name .ensures)) _ _ (sym (c .before .before .before .value .given .1) ∙ c .before .before .before .before .before .next-value .ensures) (c .before .before .before .before .before .before .before .before .before .before .before .before .next .given .0 .0) (sym (c .before .before .before .before .before .before .before .before .before .before .before .before .next .given .1) ∙ c .before .before .before .before .before .before .before .before .before .before .before .before .before .before .list .ensures) (sym (c .if1 .taken) ∙ c .before .only-closes .ensures)
 
 enum-known-e : tie.Need-enum-known-e
 enum-known-e c = search needs
@@ -61,17 +68,16 @@ enum-known-e c = search needs
 enum-told-4 : tie.Need-enum-told-4
 enum-told-4 c = search needs
 
-returns-4 : tie.Need-returns-4
-unfolding afterEnd
-returns-4 c = entry-close (c .before .before .before .before .before .before .before .before .before .before .before .before .before .before .before .before .before .before .args .depth) (c .before .before .before .before .before .before .before .before .before .before .before .before .before .before .before .before .before .before .args .s .now) (c .before .before .before .before .before .before .before .before .before .before .before .before .before .before .before .before .before .before .args .from) (c .before .before .before .before .before .before .before .before .before .before .before .before .before .before .i .given .0 .0) (sym (c .before .before .before .before .before .before .before .before .before .before .before .before .before .before .i .given .1) ∙ c .before .before .before .before .before .before .before .before .before .before .before .before .before .before .before .before .open-list .ensures) _ _ (sym (c .before .before .before .before .before .before .before .before .before .start .given .1) ∙ c .before .before .before .before .before .before .before .before .before .before .before .name-places .ensures ∙ ap namePlaces (c .before .before .before .before .before .before .before .before .before .before .before .before .next-name .ensures)) _ _ (sym (c .before .before .before .before .before .value .given .1) ∙ c .before .before .before .before .before .before .before .next-value .ensures) _ (sym (c .before .next .given .1) ∙ c .before .before .before .close-list .ensures)
-
 returns-5 : tie.Need-returns-5
-unfolding entryNext entryAfter
-returns-5 c = ap (entryAfter (c .before .before .before .before .before .args .depth) (c .before .before .before .before .before .args .s .now)) (sym (c .before .e .given .1) ∙ c .before .before .before .open-list .ensures)
+returns-5 c = entry-past (c .before .before .before .before .before .before .before .before .before .before .before .before .before .before .before .before .before .before .before .before .args .depth) (c .before .before .before .before .before .before .before .before .before .before .before .before .before .before .before .before .before .before .before .before .args .s .now) (c .before .before .before .before .before .before .before .before .before .before .before .before .before .before .before .before .before .before .before .before .args .from) (c .before .before .before .before .before .before .before .before .before .before .before .before .before .before .before .before .i .given .0 .0) (sym (c .before .before .before .before .before .before .before .before .before .before .before .before .before .before .before .before .i .given .1) ∙ c .before .before .before .before .before .before .before .before .before .before .before .before .before .before .before .before .before .before .open-list .ensures) _ _ (sym (c .before .before .before .before .before .before .before .start .given .1) ∙ c .before .before .before .before .before .before .before .before .before .name-places .ensures ∙ ap namePlaces (c .before .before .before .before .before .before .before .before .before .before .next-name .ensures)) _ _ (sym (c .before .before .before .value .given .1) ∙ c .before .before .before .before .before .next-value .ensures) (c .before .before .before .before .before .before .before .before .before .before .before .before .next .given .0 .0) (sym (c .before .before .before .before .before .before .before .before .before .before .before .before .next .given .1) ∙ c .before .before .before .before .before .before .before .before .before .before .before .before .before .before .list .ensures) (sym (c .if1 .left) ∙ c .before .only-closes .ensures)
 
 returns-6 : tie.Need-returns-6
 unfolding entryNext entryAfter
-returns-6 c = ap (entryAfter (c .before .before .before .before .args .depth) (c .before .before .before .before .args .s .now)) (sym (c .enum-told4 .given .1) ∙ c .before .before .open-list .ensures)
+returns-6 c = ap (entryAfter (c .before .before .before .before .before .args .depth) (c .before .before .before .before .before .args .s .now)) (sym (c .before .e .given .1) ∙ c .before .before .before .open-list .ensures)
+
+returns-7 : tie.Need-returns-7
+unfolding entryNext entryAfter
+returns-7 c = ap (entryAfter (c .before .before .before .before .args .depth) (c .before .before .before .before .args .s .now)) (sym (c .enum-told4 .given .1) ∙ c .before .before .open-list .ensures)
 
 pub entry-spec : {M : Type 1} → statement M
 entry-spec =
@@ -79,21 +85,23 @@ entry-spec =
     (tie.spec
     open-list-requires
     enum-known-i
+    list-requires
+    enum-known-next
+    enum-told
+    returns
     next-name-requires
     name-places-requires
     enum-known-start
-    enum-told
-    returns
-    next-value-requires
-    enum-known-value
     enum-told-2
     returns-2
-    close-list-requires
-    enum-known-next
+    next-value-requires
+    enum-known-value
     enum-told-3
     returns-3
+    only-closes-requires
+    returns-4
     enum-known-e
     enum-told-4
-    returns-4
     returns-5
-    returns-6)
+    returns-6
+    returns-7)

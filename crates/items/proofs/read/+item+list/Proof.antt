@@ -8,7 +8,6 @@ use Rattle.items.specs.Reads.{onEnd, endRead}
 use Rattle.text.proofs.PlaceLaws.{peek-in}
 use Rattle.model.specs.Items.{itemAt}
 use Prim.Native.Nat.{_≤_, _+_, _-_, _*_, ℕ, _<_}
-use mathlib.Core.Bool.{true}
 use lib.Dec.{eqb}
 use lib.ListN.{length, drop}
 use native.Mathlib.Omega.{arith}
@@ -158,10 +157,10 @@ item-returns-4 : (t : ℕ) → item-lts.Need-returns-4 (
 item-returns-4 t c = c .plain .ensures ∙ read-plain (c .before .before .before .before .args .depth) (c .before .before .before .before .args .s .now) (c .before .before .before .before .args .at) (λ h. c .before .if1 .left (c .before .before .peek .ensures ∙ h))
 
 abbrev list-Inv-loop : list-lts.InvT-loop
-list-Inv-loop s from depth i₀ free₀ i free = (from ≤ i) × (restAt depth free i s ends ≡ restAt depth true from s ends)
+list-Inv-loop s from free depth i₀ here₀ i here = (from ≤ i) × (restAt depth here i s ends ≡ restAt depth free from s ends)
 
 abbrev list-μ-loop : list-lts.MeasureT-loop
-list-μ-loop s from depth i₀ free₀ i free = length s - i
+list-μ-loop s from free depth i₀ here₀ i here = length s - i
 
 list-loop-holds : (t : ℕ) → list-lts.Need-loop-holds (
   next-reads.Asked,
@@ -221,7 +220,7 @@ list-item-requires : (t : ℕ) → list-lts.Need-item-requires (
   item-end-reads.Asked,
   item-end-reads.Learnt,
 ) (list-at t) list.Post list-Inv-loop list-μ-loop
-list-item-requires t c κs = (omega (arith, begins (c .before .before .before .before .before .before .loop .free) (c .before .before .before .before .before .before .before .before .args .s .now) (c .before .before .before .before .before .before .loop .i) (c .before .before .p .given .0 .0) (sym (c .before .before .p .given .1) ∙ c .before .before .before .before .next .ensures)), tt)
+list-item-requires t c κs = (omega (arith, begins (c .before .before .before .before .before .before .loop .free-here) (c .before .before .before .before .before .before .before .before .args .s .now) (c .before .before .before .before .before .before .loop .i) (c .before .before .p .given .0 .0) (sym (c .before .before .p .given .1) ∙ c .before .before .before .before .next .ensures)), tt)
 
 list-item-end-requires : (t : ℕ) → list-lts.Need-item-end-requires (
   next-reads.Asked,
@@ -270,10 +269,10 @@ list-returns : (t : ℕ) → list-lts.Need-returns (
   item-end-reads.Learnt,
 ) (list-at t) list.Post list-Inv-loop list-μ-loop
 unfolding toEnd
-list-returns t c = let b = begins (c .before .before .before .before .before .before .before .before .before .before .loop .free) (c .before .before .before .before .before .before .before .before .before .before .before .before .args .s .now) (c .before .before .before .before .before .before .before .before .before .before .loop .i) (c .before .before .before .before .before .before .p .given .0 .0) (sym (c .before .before .before .before .before .before .p .given .1) ∙ c .before .before .before .before .before .before .before .before .next .ensures) in
+list-returns t c = let b = begins (c .before .before .before .before .before .before .before .before .before .before .loop .free-here) (c .before .before .before .before .before .before .before .before .before .before .before .before .args .s .now) (c .before .before .before .before .before .before .before .before .before .before .loop .i) (c .before .before .before .before .before .before .p .given .0 .0) (sym (c .before .before .before .before .before .before .p .given .1) ∙ c .before .before .before .before .before .before .before .before .next .ensures) in
     ap toEnd (sym (ends-none (c .before .before .before .before .before .before .before .before .before .before .before .before .args .depth) (c .before .before .before .before .before .before .before .before .before .before .before .before .args .s .now) (c .before .before .before .before .before .before .before .before .before .before .loop .i) (c .before .before .before .before .before .before .p .given .0 .0) b (sym (c .enum-told .given .1) ∙ c .before .before .item-end .ensures ∙ ap endRead (c .before .before .before .item .ensures) ∙ end-read (c .before .before .before .before .before .before .p .given .0 .0) (itemAt (c .before .before .before .before .before .before .before .before .before .before .before .before .args .depth) (drop (c .before .before .before .before .before .before .p .given .0 .0) (c .before .before .before .before .before .before .before .before .before .before .before .before .args .s .now)))))
-    ∙ sym (item-follows (c .before .before .before .before .before .before .before .before .before .before .before .before .args .depth) (c .before .before .before .before .before .before .before .before .before .before .before .before .args .s .now) ends (c .before .before .before .before .before .before .before .before .before .before .loop .free) (c .before .before .before .before .before .before .before .before .before .before .loop .i) (c .before .before .before .before .before .before .p .given .0 .0) (sym (c .before .before .before .before .before .before .p .given .1) ∙ c .before .before .before .before .before .before .before .before .next .ensures)) ∙ c .before .before .before .before .before .before .before .before .before .before .loop .inv .1)
-    ∙ list-end (c .before .before .before .before .before .before .before .before .before .before .before .before .args .depth) true (c .before .before .before .before .before .before .before .before .before .before .before .before .args .s .now) (c .before .before .before .before .before .before .before .before .before .before .before .before .args .from)
+    ∙ sym (item-follows (c .before .before .before .before .before .before .before .before .before .before .before .before .args .depth) (c .before .before .before .before .before .before .before .before .before .before .before .before .args .s .now) ends (c .before .before .before .before .before .before .before .before .before .before .loop .free-here) (c .before .before .before .before .before .before .before .before .before .before .loop .i) (c .before .before .before .before .before .before .p .given .0 .0) (sym (c .before .before .before .before .before .before .p .given .1) ∙ c .before .before .before .before .before .before .before .before .next .ensures)) ∙ c .before .before .before .before .before .before .before .before .before .before .loop .inv .1)
+    ∙ list-end (c .before .before .before .before .before .before .before .before .before .before .before .before .args .depth) (c .before .before .before .before .before .before .before .before .before .before .before .before .args .free) (c .before .before .before .before .before .before .before .before .before .before .before .before .args .s .now) (c .before .before .before .before .before .before .before .before .before .before .before .before .args .from)
 
 list-loop-less : (t : ℕ) → list-lts.Need-loop-less (
   next-reads.Asked,
@@ -285,7 +284,7 @@ list-loop-less : (t : ℕ) → list-lts.Need-loop-less (
   item-end-reads.Asked,
   item-end-reads.Learnt,
 ) (list-at t) list.Post list-Inv-loop list-μ-loop
-list-loop-less t c = let b = begins (c .before .before .before .before .before .before .before .before .before .before .before .loop .free) (c .before .before .before .before .before .before .before .before .before .before .before .before .before .args .s .now) (c .before .before .before .before .before .before .before .before .before .before .before .loop .i) (c .before .before .before .before .before .before .before .p .given .0 .0) (sym (c .before .before .before .before .before .before .before .p .given .1) ∙ c .before .before .before .before .before .before .before .before .before .next .ensures) in
+list-loop-less t c = let b = begins (c .before .before .before .before .before .before .before .before .before .before .before .loop .free-here) (c .before .before .before .before .before .before .before .before .before .before .before .before .before .args .s .now) (c .before .before .before .before .before .before .before .before .before .before .before .loop .i) (c .before .before .before .before .before .before .before .p .given .0 .0) (sym (c .before .before .before .before .before .before .before .p .given .1) ∙ c .before .before .before .before .before .before .before .before .before .next .ensures) in
     let a = ends-at (c .before .before .before .before .before .before .before .before .before .before .before .before .before .args .depth) (c .before .before .before .before .before .before .before .before .before .before .before .before .before .args .s .now) (c .before .before .before .before .before .before .before .before .before .before .before .loop .i) (c .before .before .before .before .before .before .before .p .given .0 .0) b (c .before .q .given .0 .0) (sym (c .before .q .given .1) ∙ c .before .before .before .item-end .ensures ∙ ap endRead (c .before .before .before .before .item .ensures) ∙ end-read (c .before .before .before .before .before .before .before .p .given .0 .0) (itemAt (c .before .before .before .before .before .before .before .before .before .before .before .before .before .args .depth) (drop (c .before .before .before .before .before .before .before .p .given .0 .0) (c .before .before .before .before .before .before .before .before .before .before .before .before .before .args .s .now)))) in
     omega (arith, a .0, b .after, c .before .before .before .before .before .before .before .before .before .before .loop-test .taken)
 
@@ -299,11 +298,11 @@ list-loop-again : (t : ℕ) → list-lts.Need-loop-again (
   item-end-reads.Asked,
   item-end-reads.Learnt,
 ) (list-at t) list.Post list-Inv-loop list-μ-loop
-list-loop-again t c = let b = begins (c .before .before .before .before .before .before .before .before .before .before .before .loop .free) (c .before .before .before .before .before .before .before .before .before .before .before .before .before .args .s .now) (c .before .before .before .before .before .before .before .before .before .before .before .loop .i) (c .before .before .before .before .before .before .before .p .given .0 .0) (sym (c .before .before .before .before .before .before .before .p .given .1) ∙ c .before .before .before .before .before .before .before .before .before .next .ensures) in
+list-loop-again t c = let b = begins (c .before .before .before .before .before .before .before .before .before .before .before .loop .free-here) (c .before .before .before .before .before .before .before .before .before .before .before .before .before .args .s .now) (c .before .before .before .before .before .before .before .before .before .before .before .loop .i) (c .before .before .before .before .before .before .before .p .given .0 .0) (sym (c .before .before .before .before .before .before .before .p .given .1) ∙ c .before .before .before .before .before .before .before .before .before .next .ensures) in
     let a = ends-at (c .before .before .before .before .before .before .before .before .before .before .before .before .before .args .depth) (c .before .before .before .before .before .before .before .before .before .before .before .before .before .args .s .now) (c .before .before .before .before .before .before .before .before .before .before .before .loop .i) (c .before .before .before .before .before .before .before .p .given .0 .0) b (c .before .q .given .0 .0) (sym (c .before .q .given .1) ∙ c .before .before .before .item-end .ensures ∙ ap endRead (c .before .before .before .before .item .ensures) ∙ end-read (c .before .before .before .before .before .before .before .p .given .0 .0) (itemAt (c .before .before .before .before .before .before .before .before .before .before .before .before .before .args .depth) (drop (c .before .before .before .before .before .before .before .p .given .0 .0) (c .before .before .before .before .before .before .before .before .before .before .before .before .before .args .s .now)))) in (
       omega (arith, a .0, b .after, c .before .before .before .before .before .before .before .before .before .before .before .loop .inv .0),
       ap (λ (x : ℕ). restAt (c .before .before .before .before .before .before .before .before .before .before .before .before .before .args .depth) (eqb x 40) (c .before .q .given .0 .0) (c .before .before .before .before .before .before .before .before .before .before .before .before .before .args .s .now) ends) (c .before .before .before .before .before .peek .ensures) ∙ sym (a .1)
-          ∙ sym (item-follows (c .before .before .before .before .before .before .before .before .before .before .before .before .before .args .depth) (c .before .before .before .before .before .before .before .before .before .before .before .before .before .args .s .now) ends (c .before .before .before .before .before .before .before .before .before .before .before .loop .free) (c .before .before .before .before .before .before .before .before .before .before .before .loop .i) (c .before .before .before .before .before .before .before .p .given .0 .0) (sym (c .before .before .before .before .before .before .before .p .given .1) ∙ c .before .before .before .before .before .before .before .before .before .next .ensures)) ∙ c .before .before .before .before .before .before .before .before .before .before .before .loop .inv .1,
+          ∙ sym (item-follows (c .before .before .before .before .before .before .before .before .before .before .before .before .before .args .depth) (c .before .before .before .before .before .before .before .before .before .before .before .before .before .args .s .now) ends (c .before .before .before .before .before .before .before .before .before .before .before .loop .free-here) (c .before .before .before .before .before .before .before .before .before .before .before .loop .i) (c .before .before .before .before .before .before .before .p .given .0 .0) (sym (c .before .before .before .before .before .before .before .p .given .1) ∙ c .before .before .before .before .before .before .before .before .before .next .ensures)) ∙ c .before .before .before .before .before .before .before .before .before .before .before .loop .inv .1,
     )
 
 list-enum-known-e : (t : ℕ) → list-lts.Need-enum-known-e (
@@ -329,7 +328,7 @@ list-returns-2 : (t : ℕ) → list-lts.Need-returns-2 (
   item-end-reads.Learnt,
 ) (list-at t) list.Post list-Inv-loop list-μ-loop
 unfolding toEnd
-list-returns-2 t c = ap toEnd (sym (close-follows (c .before .before .before .before .before .before .before .args .depth) (c .before .before .before .before .before .before .before .args .s .now) ends (c .before .before .before .before .before .loop .free) (c .before .before .before .before .before .loop .i) (c .before .e .given .0 .0) (sym (c .before .e .given .1) ∙ c .before .before .before .next .ensures)) ∙ c .before .before .before .before .before .loop .inv .1) ∙ list-end (c .before .before .before .before .before .before .before .args .depth) true (c .before .before .before .before .before .before .before .args .s .now) (c .before .before .before .before .before .before .before .args .from)
+list-returns-2 t c = ap toEnd (sym (close-follows (c .before .before .before .before .before .before .before .args .depth) (c .before .before .before .before .before .before .before .args .s .now) ends (c .before .before .before .before .before .loop .free-here) (c .before .before .before .before .before .loop .i) (c .before .e .given .0 .0) (sym (c .before .e .given .1) ∙ c .before .before .before .next .ensures)) ∙ c .before .before .before .before .before .loop .inv .1) ∙ list-end (c .before .before .before .before .before .before .before .args .depth) (c .before .before .before .before .before .before .before .args .free) (c .before .before .before .before .before .before .before .args .s .now) (c .before .before .before .before .before .before .before .args .from)
 
 list-enum-told-2 : (t : ℕ) → list-lts.Need-enum-told-2 (
   next-reads.Asked,
@@ -354,7 +353,7 @@ list-returns-3 : (t : ℕ) → list-lts.Need-returns-3 (
   item-end-reads.Learnt,
 ) (list-at t) list.Post list-Inv-loop list-μ-loop
 unfolding toEnd
-list-returns-3 t c = ap toEnd (sym (none-follows (c .before .before .before .before .before .before .args .depth) (c .before .before .before .before .before .before .args .s .now) ends (c .before .before .before .before .loop .free) (c .before .before .before .before .loop .i) (sym (c .enum-told2 .given .1) ∙ c .before .before .next .ensures)) ∙ c .before .before .before .before .loop .inv .1) ∙ list-end (c .before .before .before .before .before .before .args .depth) true (c .before .before .before .before .before .before .args .s .now) (c .before .before .before .before .before .before .args .from)
+list-returns-3 t c = ap toEnd (sym (none-follows (c .before .before .before .before .before .before .args .depth) (c .before .before .before .before .before .before .args .s .now) ends (c .before .before .before .before .loop .free-here) (c .before .before .before .before .loop .i) (sym (c .enum-told2 .given .1) ∙ c .before .before .next .ensures)) ∙ c .before .before .before .before .loop .inv .1) ∙ list-end (c .before .before .before .before .before .before .args .depth) (c .before .before .before .before .before .before .args .free) (c .before .before .before .before .before .before .args .s .now) (c .before .before .before .before .before .before .args .from)
 
 list-returns-4 : (t : ℕ) → list-lts.Need-returns-4 (
   next-reads.Asked,
@@ -367,7 +366,7 @@ list-returns-4 : (t : ℕ) → list-lts.Need-returns-4 (
   item-end-reads.Learnt,
 ) (list-at t) list.Post list-Inv-loop list-μ-loop
 unfolding toEnd
-list-returns-4 t c = ap toEnd (sym (rest-end (c .before .before .before .args .depth) (c .before .loop .free) (c .before .before .before .args .s .now) (c .before .loop .i) ends (c .loop-test .left)) ∙ c .before .loop .inv .1) ∙ list-end (c .before .before .before .args .depth) true (c .before .before .before .args .s .now) (c .before .before .before .args .from)
+list-returns-4 t c = ap toEnd (sym (rest-end (c .before .before .before .args .depth) (c .before .loop .free-here) (c .before .before .before .args .s .now) (c .before .loop .i) ends (c .loop-test .left)) ∙ c .before .loop .inv .1) ∙ list-end (c .before .before .before .args .depth) (c .before .before .before .args .free) (c .before .before .before .args .s .now) (c .before .before .before .args .from)
 
 pub +item+list-spec : {M : Type 1} → statement M
 +item+list-spec = close μ-item μ-list (λ t. item-lts.spec (
