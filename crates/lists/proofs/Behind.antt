@@ -25,12 +25,13 @@ use Rattle.items.specs.declared.Piece.{Piece}
 use Rattle.items.specs.declared.Piece.the-variants as piece
 use Rattle.items.specs.declared.NameRead.{NameRead}
 use Rattle.items.specs.declared.NameRead.the-variants as name
-use Rattle.items.specs.Reads.{nextAt}
+use Rattle.items.specs.Reads.{nextAt, listEnd}
 use Rattle.items.specs.Rest.{restAt, formAt, onNext}
 use Rattle.items.specs.Pieces.{itemPlace, afterEnd, wordPiece, namePiece, readAt, namePlaces, wordNext, nameAfter, nameNext, openNext, closeAfter, closeNext, onPiece, onName, onPlace}
 use Rattle.items.proofs.RestLaws.{rest-same, rest-nothing, rest-end}
 use Rattle.items.proofs.PieceLaws.{first-word, each-name}
 use Rattle.items.proofs.FormLaws.{form-list}
+use Rattle.items.proofs.EndLaws.{ends-shut, ends-nowhere, ends-there, closes-there, closes-nowhere}
 use Rattle.lists.specs.Names.{NamesRead, namesBehind, oneMore, namesEnd, headPiece, headedAt, Left}
 
 -- what is made of what a rest gives
@@ -141,6 +142,29 @@ module _ (s : Bytes) (i : ℕ) where
       go false true c n = after (next.Item p) n p refl
       go false false true n = after (next.Item p) n p refl
       go false false false n = refl
+
+  -- names that are read end where the list reader says; where it gives no end, there are none
+  names-there : (q : ℕ) → end.At q ≡ namesEnd (namesBehind s i) → end.At q ≡ listEnd 2 false s i
+  unfolding namesEnd andThen
+  names-there q e = ends-there 2 false s i (each asName) q (rest-names s i (λ e ns. just e) ∙ go (namesBehind s i) e)
+    where
+      go : (o : Maybe NamesRead) → end.At q ≡ namesEnd o → andThen o (λ x. just (x .end)) ≡ just q
+      go nothing e = let z : _≡_ {A = ℕ} 0 1 = cc in absurd (omega arith)
+      go (just x) e = let w : x .end ≡ q = cc in cc
+
+  pub names-nowhere : end.None ≡ listEnd 2 false s i → end.None ≡ namesEnd (namesBehind s i)
+  unfolding namesBehind namesEnd
+  names-nowhere n = rw (ends-nowhere 2 false s i {B = NamesRead} (λ e is. andThen (each asName is) (λ ns. just (record { names = ns; end = e }))) n)
+
+-- what `only_closes` says where no name follows at the place j, z being the end that the list reader gave
+module _ (s : Bytes) (i z : ℕ) (l : end.At z ≡ listEnd 2 false s i) (j : ℕ) (n : piece.None ≡ namePlaces (nameNext 2 false s j)) (e : namesEnd (namesBehind s j) ≡ namesEnd (namesBehind s i)) where
+  pub names-shut : true ≡ eqb (past isSpace s j) (z - 1) → end.At z ≡ namesEnd (namesBehind s i)
+  names-shut t = let h = ends-shut 2 false s i z l in closes-there s j z (h .1) (h .0) t ∙ names-ended s j n ∙ e
+
+  pub names-past : false ≡ eqb (past isSpace s j) (z - 1) → end.None ≡ namesEnd (namesBehind s i)
+  names-past t =
+      let h = ends-shut 2 false s i z l in
+      closes-nowhere s j z (h .1) (h .0) (λ x k. names-there s i x (k ∙ names-ended s j n ∙ e) ∙ sym l) t ∙ names-ended s j n ∙ e
 
 -- what is said of the names from a place on
 module _ {A : Type 0} (f g : List Bytes → A) (s : Bytes) (from i : ℕ) where

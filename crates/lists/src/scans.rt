@@ -8,17 +8,24 @@ use crate::LIST_DEPTH;
 use crate::places;
 use items::Piece;
 use items::pieces;
+use items::read;
 use text::End;
 use text::compare;
 
-// The place behind the list whose names stand from a place on.
+// The place behind the list whose items stand from a place on, if all of them are names.
 pub fn names_end(s: &[u8], from: usize) -> End
     ensures { λ r. ⌜ r ≡ namesEnd (namesBehind (now (s .entry)) from) ⌝ }
 {
+    let End::At(end) = read::list(s, from, false, LIST_DEPTH) else {
+        return End::None;
+    };
     let mut i = from;
     while i < s.len() {
         let Piece::At(_, q) = places::next_name(s, i, LIST_DEPTH) else {
-            return pieces::close_list(s, i);
+            if pieces::only_closes(s, i, end) {
+                return End::At(end);
+            }
+            return End::None;
         };
         i = q;
     }
