@@ -1,4 +1,4 @@
--- Laws of the lists of a known form: entries, identities, and lists with a head.
+-- Laws of the lists of a known form: entries and identities.
 use Prim.Native.Nat.{ℕ, _-_}
 use mathlib.Core.Path.{_≡_, refl, ap, _∙_}
 use mathlib.Core.List.{List as ListOf, [], _∷_}
@@ -25,10 +25,10 @@ use Rattle.items.specs.declared.ValueRead.the-variants as read
 use Rattle.items.specs.declared.ClaimRead.the-variants as claim
 use Rattle.items.specs.declared.EntryRead.the-variants as entry
 use Rattle.items.specs.Rest.{restAt, spacesFrom, formAt, onNext}
-use Rattle.items.specs.Pieces.{wordNext, nameNext, valueNext, openNext, closeNext, onPiece, onName, onValue, onPlace, itemPlace, afterEnd, namePlaces}
-use Rattle.items.specs.Forms.{claimNode, claimActor, claimRest, claimHead, claimAfter, claimNext, onClaim, headEnd, headedNext, entryValued, entryNamed, entryAfter, entryNext, onEntry}
+use Rattle.items.specs.Pieces.{wordNext, nameNext, valueNext, openNext, closeNext, onPiece, onName, onValue, onPlace, afterEnd, namePlaces}
+use Rattle.items.specs.Forms.{claimNode, claimActor, claimRest, claimHead, claimAfter, claimNext, onClaim, entryValued, entryNamed, entryAfter, entryNext, onEntry}
 use Rattle.items.proofs.RestLaws.{rest-same, rest-nothing}
-use Rattle.items.proofs.FormLaws.{form-list, form-lists}
+use Rattle.items.proofs.FormLaws.{form-lists}
 use Rattle.items.proofs.PieceLaws.{first-word, first-name, first-value, end-next}
 
 -- (ATTR VALUE)...
@@ -174,41 +174,6 @@ form-claims s free i k =
     ∙ (λ t. onNext (openNext s i) (λ p. claim-items 2 s (λ x q. formAt true q s (λ is. andThen (each claimOf is) (λ l. k (x ∷ l)))) (λ e. pick (spacesFrom s e) (k []) nothing) p t) (λ e. pick (spacesFrom s e) (k []) nothing))
     ∙ after-claim 2 s (λ x q. formAt true q s (λ is. andThen (each claimOf is) (λ l. k (x ∷ l)))) (λ e. pick (spacesFrom s e) (k []) nothing) (openNext s i)
 
--- (HEAD ..)
-module _ {A B : Type 0} (h : ListOf Item → Maybe A) (d : ℕ) (s head : Bytes) (c : A → ℕ → Maybe B) where
-  headed-word : (w : Piece)
-      → onPiece w (λ p q. restAt d false q s (λ e is. andThen (pick (same (partOf s p (q - p)) head) (h is) nothing) (λ a. c a e)))
-      ≡ onPlace (headEnd s head w) (λ q. restAt d false q s (λ e is. andThen (h is) (λ a. c a e)))
-  unfolding onPiece headEnd onPlace andThen
-  headed-word piece.None = refl
-  headed-word (piece.At p q) = go (same (partOf s p (q - p)) head)
-    where
-      go : (x : Bool) → restAt d false q s (λ e is. andThen (pick x (h is) nothing) (λ a. c a e)) ≡ onPlace (pick x (end.At q) end.None) (λ q. restAt d false q s (λ e is. andThen (h is) (λ a. c a e)))
-      go true = refl
-      go false = rest-nothing d false q s
-
-  headed-items : (p : ℕ) → restAt d true p s (λ e is. andThen (first asWord is (λ w is. pick (same w head) (h is) nothing)) (λ a. c a e))
-      ≡ onPlace (headEnd s head (wordNext d true s p)) (λ q. restAt d false q s (λ e is. andThen (h is) (λ a. c a e)))
-  headed-items p =
-      rest-same d true p s _ _ (λ e is. first-then asWord is (λ w is. pick (same w head) (h is) nothing) (λ a. c a e))
-      ∙ first-word d true s p (λ e w is. andThen (pick (same w head) (h is) nothing) (λ a. c a e)) ∙ headed-word (wordNext d true s p)
-
-after-head : {B : Type 0} (n : Next) (f : ℕ → End) (g : ℕ → Maybe B) → onNext n (λ p. onPlace (f p) g) (λ e. nothing) ≡ onPlace (afterEnd (itemPlace n) f end.None) g
-unfolding onNext onPlace afterEnd
-after-head (next.Item p) f g = refl
-after-head (next.Close e) f g = refl
-after-head next.None f g = refl
-
--- a form that is asked for a list with a head goes on in it behind the head, then behind the list
-pub form-headed : {A B : Type 0} (head : Bytes) (h : ListOf Item → Maybe A) (s : Bytes) (free : Bool) (i : ℕ) (k : A → ListOf Item → Maybe B)
-    → formAt free i s (λ is. first (λ x. andThen (itemsOf x) (λ is. first asWord is (λ w is. pick (same w head) (h is) nothing))) is k)
-    ≡ onPlace (headedNext 2 s i head) (λ q. restAt 2 false q s (λ e is. andThen (h is) (λ a. formAt true e s (k a))))
-unfolding headedNext
-form-headed head h s free i k =
-    form-list free i s (λ is. first asWord is (λ w is. pick (same w head) (h is) nothing)) k
-    ∙ (λ t. onNext (openNext s i) (λ p. headed-items h 2 s head (λ a q. formAt true q s (k a)) p t) (λ e. nothing))
-    ∙ after-head (openNext s i) (λ p. headEnd s head (wordNext 2 true s p)) (λ q. restAt 2 false q s (λ e is. andThen (h is) (λ a. formAt true e s (k a))))
-
 -- what the tests of `entry` say
 module _ (d : ℕ) (s : Bytes) (i p : ℕ) (e : next.Item p ≡ openNext s i) where
   pub at-entry : (w : Piece) → w ≡ namePlaces (nameNext d true s p) → entryNamed d s w ≡ entryNext d s i
@@ -245,21 +210,3 @@ claim-yes d s p q h = rw h
 pub claim-no : (d : ℕ) (s : Bytes) (p q : ℕ) → same (partOf s p (q - p)) (bytesOf "id") ≡ false → claim.None ≡ claimHead d s (piece.At p q)
 unfolding claimHead
 claim-no d s p q h = rw h
-
--- what the tests of `open_headed` say
-module _ (d : ℕ) (s : Bytes) (i : ℕ) (head : Bytes) where
-  pub no-list : end.None ≡ itemPlace (openNext s i) → end.None ≡ headedNext d s i head
-  unfolding headedNext afterEnd
-  no-list e = ap (λ (x : End). afterEnd x (λ p. headEnd s head (wordNext d true s p)) end.None) e
-
-  pub at-head : (p : ℕ) → end.At p ≡ itemPlace (openNext s i) → (w : Piece) → w ≡ wordNext d true s p → headEnd s head w ≡ headedNext d s i head
-  unfolding headedNext afterEnd
-  at-head p e w h = ap (headEnd s head) h ∙ ap (λ (x : End). afterEnd x (λ p. headEnd s head (wordNext d true s p)) end.None) e
-
-pub head-yes : (s head : Bytes) (p q : ℕ) → same (partOf s p (q - p)) head ≡ true → end.At q ≡ headEnd s head (piece.At p q)
-unfolding headEnd
-head-yes s head p q h = rw h
-
-pub head-no : (s head : Bytes) (p q : ℕ) → same (partOf s p (q - p)) head ≡ false → end.None ≡ headEnd s head (piece.At p q)
-unfolding headEnd
-head-no s head p q h = rw h

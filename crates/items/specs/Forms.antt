@@ -21,7 +21,7 @@ use Rattle.items.specs.declared.EntryRead.the-variants as entry
 use Rattle.items.specs.declared.ClaimRead.{ClaimRead}
 use Rattle.items.specs.declared.ClaimRead.the-variants as claim
 use Rattle.items.specs.Rest.{spacesFrom}
-use Rattle.items.specs.Pieces.{itemPlace, afterEnd, namePlaces, wordNext, nameNext, valueNext, openNext, closeNext}
+use Rattle.items.specs.Pieces.{afterEnd, namePlaces, wordNext, nameNext, valueNext, openNext, closeNext}
 
 -- the next (ATTR VALUE), step by step
 unfoldable pub entryValued : Bytes → ℕ → ℕ → ValueRead → EntryRead
@@ -89,12 +89,3 @@ unfoldable pub onClaim : {B : Type 0} → Bytes → ClaimRead → (Claim → ℕ
 onClaim s (claim.Claim a b x y q) f g = f (record { actor = partOf s a (b - a); node = partOf s x (y - x) }) q
 onClaim s (claim.Close e) f g = g e
 onClaim s claim.None f g = nothing
-
--- the place behind a word, if it is this one
-unfoldable pub headEnd : Bytes → Bytes → Piece → End
-headEnd s head (piece.At p q) = pick (same (partOf s p (q - p)) head) (end.At q) end.None
-headEnd s head piece.None = end.None
-
--- the place behind the first word of the next item, if that is a list and the word is this one
-unfoldable pub headedNext : ℕ → Bytes → ℕ → Bytes → End
-headedNext d s i head = afterEnd (itemPlace (openNext s i)) (λ p. headEnd s head (wordNext d true s p)) end.None

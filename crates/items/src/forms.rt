@@ -1,7 +1,7 @@
 // The one list of a line: where it opens, its pieces that are lists of a known form, and that nothing but spaces follows it.
 ghost use mathlib.Core.Path.{_≡_};
 ghost use Rattle.items.specs.Rest.{spacesFrom};
-ghost use Rattle.items.specs.Forms.{entryNext, claimRest, claimNext, headedNext, formOpens, formCloses};
+ghost use Rattle.items.specs.Forms.{entryNext, claimRest, claimNext, formOpens, formCloses};
 use crate::ClaimRead;
 use crate::EntryRead;
 use crate::Next;
@@ -125,20 +125,4 @@ pub fn claim(s: &[u8], from: usize, depth: usize) -> ClaimRead
         Next::Close(e) => ClaimRead::Close(e),
         Next::None => ClaimRead::None,
     }
-}
-
-// The place behind the first word of the next item, if that is a list and the word is `head`.
-pub fn open_headed(s: &[u8], from: usize, depth: usize, head: &[u8]) -> End
-    ensures { λ r. ⌜ r ≡ headedNext depth (now (s .entry)) from (now (head .entry)) ⌝ }
-{
-    let End::At(i) = pieces::item_place(pieces::open_list(s, from)) else {
-        return End::None;
-    };
-    let Piece::At(p, q) = pieces::next_word(s, i, true, depth) else {
-        return End::None;
-    };
-    if compare::same_bytes(&s[p..q], head) {
-        return End::At(q);
-    }
-    End::None
 }
