@@ -31,10 +31,8 @@ use Rattle.items.specs.Rest.{restAt}
 use Rattle.items.specs.Pieces.{namePlaces, nameNext, valueNext, openNext, closeAfter, closeNext, afterEnd}
 use Rattle.items.specs.Forms.{entryNamed, entryNext, onEntry, claimRest, onClaim}
 use Rattle.items.proofs.RestLaws.{rest-same}
+use Rattle.items.proofs.OnwardLaws.{none-is}
 use Rattle.items.proofs.ListLaws.{entryItems, entry-items, at-entry, entry-close, first-then, claim-rest, at-shut}
-
-none-is : {A : Type 0} → _≡_ {A = ℕ} 0 1 → A
-none-is z = absurd (omega arith)
 
 -- the last byte of what was read of a list is a closing bracket
 Shut : Bytes → Maybe (Got Items) → Type 0
@@ -79,9 +77,11 @@ list-shut read free zero (b ∷ t) =
     go nothing r = tt
     go (just g) r = with-shut b t (g .got) (listAt read (isList (g .got)) (g .size - 1) t) (r (isList (g .got)) (g .size - 1))
 
-    bracket : (x : Bool) → eqb b 41 ≡ x → ((f : Bool) (k : ℕ) → Shut t (listAt read f k t)) → Shut (b ∷ t) (pick x closed (pick (free || eqb b 40) item nothing))
+    bracket : (x : Bool) → eqb b 41 ≡ x → ((f : Bool) (k : ℕ) → Shut t (listAt read f k t))
+        → Shut (b ∷ t) (pick x closed (pick (free || eqb b 40) item nothing))
     bracket true h r = (omega arith, eqb-true b 41 h)
-    bracket false h r = shut-pick (b ∷ t) (free || eqb b 40) item nothing (go (read (b ∷ t)) r) tt
+    bracket false h r = shut-pick (b ∷ t) (free || eqb b 40) item nothing
+        (go (read (b ∷ t)) r) tt
 
 module _ (d : ℕ) (free : Bool) (s : Bytes) (i : ℕ) where
   -- the end that the list reader gives stands right behind a closing bracket
@@ -107,7 +107,8 @@ module _ (d : ℕ) (free : Bool) (s : Bytes) (i : ℕ) where
       go (just g) e = none-is (cc)
 
   -- whatever is made of the items of a list, the end that goes with it is the one that the list reader gives
-  pub ends-there : {A : Type 0} (h : List Item → Maybe A) (q : ℕ) → restAt d free i s (λ e is. andThen (h is) (λ x. just e)) ≡ just q → end.At q ≡ listEnd d free s i
+  pub ends-there : {A : Type 0} (h : List Item → Maybe A) (q : ℕ)
+      → restAt d free i s (λ e is. andThen (h is) (λ x. just e)) ≡ just q → end.At q ≡ listEnd d free s i
   unfolding restAt andThen endOf
   ends-there {A} h q e = go (listAt (itemAt d) free 0 (drop i s)) e
     where
@@ -128,7 +129,8 @@ module _ (s : Bytes) (q z : ℕ) (h : peekAt s (z - 1) ≡ 41) (l : 0 < z) where
       let v : z - 1 + 1 ≡ z = omega arith in
       rw (w, eq-eqb (peekAt s (z - 1)) 41 h, v)
 
-  pub closes-nowhere : ((x : ℕ) → end.At x ≡ closeNext s q → end.At x ≡ end.At z) → false ≡ eqb (past isSpace s q) (z - 1) → end.None ≡ closeNext s q
+  pub closes-nowhere : ((x : ℕ) → end.At x ≡ closeNext s q → end.At x ≡ end.At z)
+      → false ≡ eqb (past isSpace s q) (z - 1) → end.None ≡ closeNext s q
   unfolding closeNext closeAfter nextAt
   closes-nowhere only t = go (eqb (peekAt s p) 41) (ltb q p) only
     where
@@ -151,19 +153,25 @@ module _ (d : ℕ) (s : Bytes) (i p : ℕ) (e : next.Item p ≡ openNext s i) wh
   unfolding onEntry
   entry-ends a b v q h =
       ends-there d true s p entryItems q
-      (entry-items s d p (λ x e. just e) (λ e. nothing) ∙ ap (λ (r : EntryRead). onEntry s r (λ x e. just e) (λ e. nothing)) (at-entry d s i p e _ refl ∙ sym h))
+      (entry-items s d p (λ x e. just e) (λ e. nothing)
+      ∙ ap (λ (r : EntryRead). onEntry s r (λ x e. just e) (λ e. nothing)) (at-entry d s i p e _ refl ∙ sym h))
 
   -- where the list reader gives no end, there is no entry
   pub entry-nowhere : end.None ≡ listEnd d true s p → entry.None ≡ entryNext d s i
   unfolding onEntry
-  entry-nowhere n = go (entryNext d s i) (ap (λ (r : EntryRead). onEntry s r (λ x e. just e) (λ e. just e)) (sym (at-entry d s i p e _ refl)) ∙ sym (entry-items s d p (λ x e. just e) (λ e. just e)) ∙ ends-nowhere d true s p (λ e is. andThen (entryItems is) (λ x. just e)) n)
+  entry-nowhere n =
+      go (entryNext d s i)
+      (ap (λ (r : EntryRead). onEntry s r (λ x e. just e) (λ e. just e)) (sym (at-entry d s i p e _ refl))
+      ∙ sym (entry-items s d p (λ x e. just e) (λ e. just e))
+      ∙ ends-nowhere d true s p (λ e is. andThen (entryItems is) (λ x. just e)) n)
     where
       go : (r : EntryRead) → onEntry s r (λ x e. just e) (λ e. just e) ≡ nothing → entry.None ≡ r
       go (entry.Entry a b v q) h = none-is (cc)
       go (entry.Close q) h = none-is (cc)
       go entry.None h = refl
 
-  module _ (a b : ℕ) (n : piece.At a b ≡ namePlaces (nameNext d true s p)) (v : ValueData) (q : ℕ) (w : read.Value v q ≡ valueNext d false s b) (z : ℕ) (l : end.At z ≡ listEnd d true s p) where
+  module _ (a b : ℕ) (n : piece.At a b ≡ namePlaces (nameNext d true s p)) (v : ValueData) (q : ℕ) (w : read.Value v q ≡ valueNext d false s b)
+      (z : ℕ) (l : end.At z ≡ listEnd d true s p) where
     pub entry-there : true ≡ eqb (past isSpace s q) (z - 1) → entry.Entry a b v z ≡ entryNext d s i
     unfolding afterEnd
     entry-there t = let h = ends-shut d true s p z l in entry-close d s i p e a b n v q w (end.At z) (closes-there s q z (h .1) (h .0) t)
@@ -180,7 +188,8 @@ module _ (d : ℕ) (s : Bytes) (i : ℕ) where
   claimNames : List Item → Maybe Claim
   claimNames is = first asName is (λ a is. first asName is (λ n is. atEnd is (record { actor = a; node = n })))
 
-  claim-made : {B : Type 0} (k : Claim → ℕ → Maybe B) (g : ℕ → Maybe B) → restAt d false i s (λ e is. andThen (claimNames is) (λ x. k x e)) ≡ onClaim s (claimRest d s i) k g
+  claim-made : {B : Type 0} (k : Claim → ℕ → Maybe B) (g : ℕ → Maybe B)
+      → restAt d false i s (λ e is. andThen (claimNames is) (λ x. k x e)) ≡ onClaim s (claimRest d s i) k g
   unfolding claimNames
   claim-made k g =
       rest-same d false i s _ _ (λ e is.
@@ -192,19 +201,23 @@ module _ (d : ℕ) (s : Bytes) (i : ℕ) where
   claim-ends : (a b x y q : ℕ) → claim.Claim a b x y q ≡ claimRest d s i → end.At q ≡ listEnd d false s i
   unfolding onClaim
   claim-ends a b x y q h =
-      ends-there d false s i claimNames q (claim-made (λ x e. just e) (λ e. nothing) ∙ ap (λ (r : ClaimRead). onClaim s r (λ x e. just e) (λ e. nothing)) (sym h))
+      ends-there d false s i claimNames q
+      (claim-made (λ x e. just e) (λ e. nothing) ∙ ap (λ (r : ClaimRead). onClaim s r (λ x e. just e) (λ e. nothing)) (sym h))
 
   -- where the list reader gives no end, there is no identity
   pub claim-nowhere : end.None ≡ listEnd d false s i → claim.None ≡ claimRest d s i
   unfolding onClaim
-  claim-nowhere n = go (claimRest d s i) (sym (claim-made (λ x e. just e) (λ e. just e)) ∙ ends-nowhere d false s i (λ e is. andThen (claimNames is) (λ x. just e)) n)
+  claim-nowhere n =
+      go (claimRest d s i)
+      (sym (claim-made (λ x e. just e) (λ e. just e)) ∙ ends-nowhere d false s i (λ e is. andThen (claimNames is) (λ x. just e)) n)
     where
       go : (r : ClaimRead) → onClaim s r (λ x e. just e) (λ e. just e) ≡ nothing → claim.None ≡ r
       go (claim.Claim a b x y q) h = none-is (cc)
       go (claim.Close q) h = none-is (cc)
       go claim.None h = refl
 
-  module _ (a b : ℕ) (n : piece.At a b ≡ namePlaces (nameNext d false s i)) (x y : ℕ) (w : piece.At x y ≡ namePlaces (nameNext d false s b)) (z : ℕ) (l : end.At z ≡ listEnd d false s i) where
+  module _ (a b : ℕ) (n : piece.At a b ≡ namePlaces (nameNext d false s i)) (x y : ℕ) (w : piece.At x y ≡ namePlaces (nameNext d false s b))
+      (z : ℕ) (l : end.At z ≡ listEnd d false s i) where
     pub claim-there : true ≡ eqb (past isSpace s y) (z - 1) → claim.Claim a b x y z ≡ claimRest d s i
     unfolding afterEnd
     claim-there t = let h = ends-shut d false s i z l in at-shut d s i a b n x y w (end.At z) (closes-there s y z (h .1) (h .0) t)

@@ -39,7 +39,8 @@ pub record Onward (s : Bytes) (i q : ℕ) : Type 0 where
   pub after : i < q
   pub inside : q ≤ length s
 
-none-is : {A : Type 0} → _≡_ {A = ℕ} 0 1 → A
+-- what follows from two answers of different kinds being equal
+pub none-is : {A : Type 0} → _≡_ {A = ℕ} 0 1 → A
 none-is z = absurd (omega arith)
 
 -- the closing bracket

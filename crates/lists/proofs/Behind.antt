@@ -31,6 +31,7 @@ use Rattle.items.specs.Pieces.{itemPlace, afterEnd, wordPiece, namePiece, readA
 use Rattle.items.proofs.RestLaws.{rest-same, rest-nothing, rest-end}
 use Rattle.items.proofs.PieceLaws.{first-word, each-name}
 use Rattle.items.proofs.FormLaws.{form-list}
+use Rattle.items.proofs.ListLaws.{first-then}
 use Rattle.items.proofs.EndLaws.{ends-shut, ends-nowhere, ends-there, closes-there, closes-nowhere}
 use Rattle.lists.specs.Names.{NamesRead, namesBehind, oneMore, namesEnd, headPiece, headedAt, Left}
 
@@ -192,16 +193,6 @@ pub left-start : {A : Type 0} (f : List Bytes → A) (s : Bytes) (from : ℕ) �
 left-start f s from x e = (x, e, refl)
 
 -- the list that a head word begins
-pub first-then : {A B C : Type 0} (reading : Item → Maybe A) (is : List Item) (g : A → List Item → Maybe B) (k : B → Maybe C)
-    → andThen (first reading is g) k ≡ first reading is (λ a is. andThen (g a is) k)
-unfolding first andThen
-first-then reading [] g k = refl
-first-then reading (x ∷ is) g k = go (reading x)
-  where
-    go : (o : Maybe _) → andThen (andThen o (λ a. g a is)) k ≡ andThen o (λ a. andThen (g a is) k)
-    go nothing = refl
-    go (just a) = refl
-
 module _ {B : Type 0} (head s : Bytes) (k : List Bytes → List Item → Maybe B) where
   -- what follows the names
   abbrev goOn : NamesRead → Maybe B
