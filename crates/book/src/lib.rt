@@ -8,6 +8,7 @@ pub mod load;
 
 use model::BookRead;
 use model::Refusal;
+use model::limits::WORK_WORDS;
 use tables::BookCounts;
 
 // What reading a book into the working memory gives: the counts of its tables, or a refusal.
@@ -15,9 +16,6 @@ pub enum BookLoad {
     Loaded(BookCounts),
     Refused(Refusal),
 }
-
-// "Working memory: 16,384 words of 32 bits".
-pub const WORK_WORDS: usize = 16384;
 
 // "working memory is under 16,384 words".
 pub const TOO_LITTLE: u32 = 15;

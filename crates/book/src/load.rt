@@ -15,12 +15,10 @@ ghost use Rattle.book.specs.Loaded.{LineAsked, Loaded};
 use crate::BookLoad;
 use lines::LineStep;
 use model::Refusal;
+use model::limits::MAX_BOOK_BYTES;
 use tables::BookCounts;
 use tables::no_counts;
 use text::BytesRead;
-
-// "Book 65,536 bytes".
-pub const MAX_BOOK_BYTES: usize = 65536;
 
 // The book is text 1.
 pub const BOOK: u32 = 1;

@@ -2,21 +2,14 @@
 // `print` and the functions that try something only print, and no contract can say what reached the output; those that put bytes into a text
 // are held to what the program prints.
 use model::BookRead;
+use model::limits::MAX_BOOK_BYTES;
+use model::limits::MAX_DECLARED;
+use model::limits::MAX_NODES;
+use model::limits::MAX_RELATIONSHIPS;
+use model::limits::WORK_WORDS;
 
 // Room for the longest text tried.
 const TEXT_BYTES: usize = 65600;
-
-// The working memory that the service asks.
-const WORK_WORDS: usize = 16384;
-
-// The limits, in the paper's words: "256 nodes, 1,024 relationships, 2,048 attribute entries, 32 names each".
-const NAMES: usize = 32;
-
-const NODES: usize = 256;
-
-const RELATIONSHIPS: usize = 1024;
-
-const BYTES: usize = 65536;
 
 // Enough nodes for 1,025 relationships, and 64 nodes of 32 entries each.
 const ENDS: usize = 33;
@@ -82,13 +75,13 @@ fn put_relationships(text: &mut [u8], count: usize) -> usize {
 // A node of the 32 attributes.
 fn put_owner(text: &mut [u8], at: usize, n: usize) -> usize {
     let named = put_line(text, at, b"(node n", n, b"");
-    let listed = put_lines(text, named, NAMES, b"(a", b" 1)");
+    let listed = put_lines(text, named, MAX_DECLARED, b"(a", b" 1)");
     put(text, listed, b")\n")
 }
 
 // 32 attributes, and 64 nodes that have them all.
 fn put_entries(text: &mut [u8]) -> usize {
-    let mut next = put_lines(text, 0, NAMES, b"(vattr a", b" int)\n");
+    let mut next = put_lines(text, 0, MAX_DECLARED, b"(vattr a", b" int)\n");
     for i in 0..OWNERS {
         next = put_owner(text, next, i);
     }
@@ -189,12 +182,12 @@ fn try_memory(name: &[u8]) {
 }
 
 fn try_names() {
-    try_lines(b"32 vattr", NAMES, b"(vattr a", b" int)\n");
-    try_lines(b"33 vattr", NAMES + 1, b"(vattr a", b" int)\n");
-    try_lines(b"32 eattr", NAMES, b"(eattr a", b" str)\n");
-    try_lines(b"33 eattr", NAMES + 1, b"(eattr a", b" str)\n");
-    try_lines(b"32 label", NAMES, b"(label a", b")\n");
-    try_lines(b"33 label", NAMES + 1, b"(label a", b")\n");
+    try_lines(b"32 vattr", MAX_DECLARED, b"(vattr a", b" int)\n");
+    try_lines(b"33 vattr", MAX_DECLARED + 1, b"(vattr a", b" int)\n");
+    try_lines(b"32 eattr", MAX_DECLARED, b"(eattr a", b" str)\n");
+    try_lines(b"33 eattr", MAX_DECLARED + 1, b"(eattr a", b" str)\n");
+    try_lines(b"32 label", MAX_DECLARED, b"(label a", b")\n");
+    try_lines(b"33 label", MAX_DECLARED + 1, b"(label a", b")\n");
 }
 
 fn try_numbers() {
@@ -205,15 +198,15 @@ fn try_numbers() {
 }
 
 fn main() {
-    try_lines(b"256 nodes", NODES, b"(node n", b")\n");
-    try_lines(b"257 nodes", NODES + 1, b"(node n", b")\n");
-    try_relationships(b"1024 relationships", RELATIONSHIPS);
-    try_relationships(b"1025 relationships", RELATIONSHIPS + 1);
+    try_lines(b"256 nodes", MAX_NODES, b"(node n", b")\n");
+    try_lines(b"257 nodes", MAX_NODES + 1, b"(node n", b")\n");
+    try_relationships(b"1024 relationships", MAX_RELATIONSHIPS);
+    try_relationships(b"1025 relationships", MAX_RELATIONSHIPS + 1);
     try_entries(b"2048 entries", b"");
     try_entries(b"2049 entries", b"(node m (a0000 1))\n");
     try_names();
-    try_bytes(b"65536 bytes", BYTES);
-    try_bytes(b"65537 bytes", BYTES + 1);
+    try_bytes(b"65536 bytes", MAX_BOOK_BYTES);
+    try_bytes(b"65537 bytes", MAX_BOOK_BYTES + 1);
     try_numbers();
     try_memory(b"16383 words");
 }

@@ -7,9 +7,9 @@ ghost use Rattle.entries.specs.Faults.{entryFault, lower};
 ghost use Rattle.entries.specs.Known.{EntryAsked, EntryAdded, EntryPutAsked, EntryPut};
 use model::Part;
 use model::Value;
+use model::limits::MAX_DECLARED;
+use model::limits::MAX_ENTRIES;
 use tables::BookCounts;
-use tables::MAX_ENTRIES;
-use tables::MAX_NAMES;
 
 // The faults of an entry, in the paper's numbers: "a name is not declared", "given a second time", "value not of the declared type".
 pub const NOT_DECLARED: u32 = 4;
@@ -98,7 +98,7 @@ pub fn add_entry(
             count: known.count + 1,
         };
     }
-    let kind = words[offset + MAX_NAMES + attribute];
+    let kind = words[offset + MAX_DECLARED + attribute];
     let own = entry_fault(
         bits::has(known.seen, attribute),
         tables::values::of_kind(kind, value),

@@ -4,11 +4,11 @@ ghost use Prim.Native.Nat.{_<_};
 ghost use Rattle.library.specs.Words.{relationWord, valueRow, requirementRow, conditionRow, conditionWord, conditionWords};
 use model::Clause;
 use model::Condition;
-use model::MAX_CONDITIONS;
 use model::Pattern;
 use model::Relation;
 use model::Requirement;
 use model::Value;
+use model::limits::MAX_CONDITIONS;
 
 // Which condition it is, the first vertex or the owner, the second vertex or the attribute, the relation, the value's type and its two words.
 const CONDITION_WORDS: usize = 7;

@@ -3,11 +3,11 @@ ghost use mathlib.Core.Path.{_≡_};
 ghost use Prim.Native.Nat.{_<_};
 ghost use Rattle.library.specs.Words.{vertexRow, edgeRow, vertexWord, edgeWord, returnWord, vertexWords, edgeWords, returnWords};
 use model::Edge;
-use model::MAX_EDGES;
-use model::MAX_RETURNS;
-use model::MAX_VERTICES;
 use model::Part;
 use model::Pattern;
+use model::limits::MAX_EDGES;
+use model::limits::MAX_RETURNS;
+use model::limits::MAX_VERTICES;
 
 // Start and length of each vertex's name.
 const VERTEX_WORDS: usize = 2;

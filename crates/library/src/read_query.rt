@@ -10,7 +10,7 @@ use crate::pattern_words;
 use crate::pattern_words::ALL_EDGE_WORDS;
 use crate::pattern_words::ALL_VERTEX_WORDS;
 use crate::tell::tell;
-use model::MAX_RETURNS;
+use model::limits::MAX_RETURNS;
 
 // Reads a query: true and its pattern, or false and the refusal. Beside the counts each vertex has two words, each edge five, each condition
 // seven and each Return name one, as `specs/Words.antt` sets out. What does not apply is 0. The working memory ends all ones.

@@ -8,8 +8,8 @@ ghost use Rattle.library.specs.Words.{identityRow, identityWord, identit
 ghost use Rattle.library.specs.Told.{RequestTold};
 use crate::tell::tell;
 use model::Identity;
-use model::MAX_IDENTITIES;
 use model::RequestRead;
+use model::limits::MAX_IDENTITIES;
 
 // Start, length and node of each identity.
 const IDENTITY_WORDS: usize = 3;

@@ -17,12 +17,12 @@ ghost use Rattle.lines.specs.Steps.{NameAsked, Stepped, stepOf, ownerFau
 use crate::LineStep;
 use entries::EntriesRead;
 use model::Part;
+use model::limits::MAX_DECLARED;
+use model::limits::MAX_ENTRIES;
+use model::limits::MAX_NODES;
+use model::limits::MAX_RELATIONSHIPS;
 use tables::BookCounts;
 use tables::EATTR_NAMES;
-use tables::MAX_ENTRIES;
-use tables::MAX_NAMES;
-use tables::MAX_NODES;
-use tables::MAX_RELATIONSHIPS;
 use tables::VATTR_NAMES;
 use tables::names::NAME_LENGTHS;
 use tables::relationships::NODE_PAIRS;
@@ -79,7 +79,7 @@ pub fn add_vattr(
     if tables::names::find_vattr(text, words, counts, &text[start..end]) < count {
         return LineStep::Fault(SECOND_TIME);
     }
-    if MAX_NAMES <= count {
+    if MAX_DECLARED <= count {
         return LineStep::Fault(LIMIT_PASSED);
     }
     tables::stores::store_attr(words, VATTR_NAMES, count, name_word(name), kind);
@@ -110,7 +110,7 @@ pub fn add_eattr(
     if tables::names::find_eattr(text, words, counts, &text[start..end]) < count {
         return LineStep::Fault(SECOND_TIME);
     }
-    if MAX_NAMES <= count {
+    if MAX_DECLARED <= count {
         return LineStep::Fault(LIMIT_PASSED);
     }
     tables::stores::store_attr(words, EATTR_NAMES, count, name_word(name), kind);
@@ -133,7 +133,7 @@ pub fn add_label(text: &[u8], words: &mut [u32], counts: BookCounts, name: Part)
     if label_number(text, words, counts, name) < count {
         return LineStep::Fault(SECOND_TIME);
     }
-    if MAX_NAMES <= count {
+    if MAX_DECLARED <= count {
         return LineStep::Fault(LIMIT_PASSED);
     }
     LineStep::Known(tables::stores::store_label(words, counts, name_word(name)))

@@ -1,15 +1,19 @@
 // The list program: reads book.txt, rules.txt, query.txt and request.txt in the current folder, and prints the list of their rows, or the refusal.
 // A file that cannot be read to its end is told on standard error, and no list is printed; so is an output that does not take the whole list.
+use model::limits::MAX_BOOK_BYTES;
+use model::limits::MAX_QUERY_BYTES;
+use model::limits::MAX_REQUEST_BYTES;
+use model::limits::MAX_RULES_BYTES;
 use showing::files;
 
 // Each text has room for one byte more than its limit, so that a file past the limit is seen to be too long.
-const BOOK_BYTES: usize = 65537;
+const BOOK_BYTES: usize = MAX_BOOK_BYTES + 1;
 
-const RULES_BYTES: usize = 16385;
+const RULES_BYTES: usize = MAX_RULES_BYTES + 1;
 
-const QUERY_BYTES: usize = 2049;
+const QUERY_BYTES: usize = MAX_QUERY_BYTES + 1;
 
-const REQUEST_BYTES: usize = 2049;
+const REQUEST_BYTES: usize = MAX_REQUEST_BYTES + 1;
 
 fn main() {
     let mut book = [0u8; BOOK_BYTES];

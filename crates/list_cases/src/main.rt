@@ -2,6 +2,10 @@
 // Prints of each case its name, the answers of the book, rules and request readers, what the query writer writes, the list, and the list's answer where no row words are lent.
 ghost use Rattle.io.specs.Counts.{Counts};
 use libc::STDOUT_FILENO;
+use model::limits::MAX_BOOK_BYTES;
+use model::limits::MAX_QUERY_BYTES;
+use model::limits::MAX_REQUEST_BYTES;
+use model::limits::MAX_RULES_BYTES;
 use writer::bytes::put_byte;
 use writer::bytes::put_bytes;
 
@@ -10,13 +14,13 @@ const CASES: usize = 40;
 
 const NAME_BYTES: usize = 256;
 
-const BOOK_BYTES: usize = 65537;
+const BOOK_BYTES: usize = MAX_BOOK_BYTES + 1;
 
-const RULES_BYTES: usize = 16385;
+const RULES_BYTES: usize = MAX_RULES_BYTES + 1;
 
-const QUERY_BYTES: usize = 2049;
+const QUERY_BYTES: usize = MAX_QUERY_BYTES + 1;
 
-const REQUEST_BYTES: usize = 2049;
+const REQUEST_BYTES: usize = MAX_REQUEST_BYTES + 1;
 
 // Room for a path: the folder's number, a slash, a file's name.
 const PATH_BYTES: usize = 32;

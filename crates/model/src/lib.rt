@@ -1,18 +1,13 @@
 // Plain data that the services' answers are made of. What each means is set out in specs/Answers.antt.
 ghost use mathlib.Core.Path.{_≡_};
 
-// "A query or policy: 8 vertices, 16 edges, 16 exclusions, 16 requirements, 4 Return names."
-// The limits of specs/Limits.antt; exclusions and requirements together are the conditions.
-pub const MAX_VERTICES: usize = 8;
+pub mod limits; // limits.rt: how much fits
 
-pub const MAX_EDGES: usize = 16;
-
-pub const MAX_CONDITIONS: usize = 32;
-
-pub const MAX_RETURNS: usize = 4;
-
-// "8 actors each": a request gives at most one identity to each.
-pub const MAX_IDENTITIES: usize = 8;
+use crate::limits::MAX_CONDITIONS;
+use crate::limits::MAX_EDGES;
+use crate::limits::MAX_IDENTITIES;
+use crate::limits::MAX_RETURNS;
+use crate::limits::MAX_VERTICES;
 
 // A refusal: number, text and line, as the table of document 01 has them.
 pub struct Refusal {

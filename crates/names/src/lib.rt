@@ -11,9 +11,9 @@ ghost use Rattle.tables.specs.Fits.{Fits};
 ghost use Rattle.names.specs.Names.{nameByte, nameBytes, namesLeft};
 use book::BookLoad;
 use book::TOO_LITTLE;
-use book::WORK_WORDS;
 use model::BookRead;
 use model::Refusal;
+use model::limits::WORK_WORDS;
 use tables::BookCounts;
 
 // "A name is a word of 1 to 24 bytes"; here it is followed by a zero.

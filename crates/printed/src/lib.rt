@@ -7,8 +7,8 @@ ghost use Rattle.tables.specs.View.{bookAt};
 ghost use Rattle.tables.specs.Fits.{Fits};
 ghost use Rattle.printing.specs.Printing.{Prints};
 use book::BookLoad;
-use book::WORK_WORDS;
 use model::RowsListed;
+use model::limits::WORK_WORDS;
 use tables::BookCounts;
 
 // "The program lends 16,384 row words."

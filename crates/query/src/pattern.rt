@@ -11,12 +11,12 @@ use model::Clause;
 use model::Condition;
 use model::Counts;
 use model::Edge;
-use model::MAX_CONDITIONS;
-use model::MAX_EDGES;
-use model::MAX_RETURNS;
-use model::MAX_VERTICES;
 use model::Part;
 use model::Pattern;
+use model::limits::MAX_CONDITIONS;
+use model::limits::MAX_EDGES;
+use model::limits::MAX_RETURNS;
+use model::limits::MAX_VERTICES;
 use tables::BookCounts;
 
 // The empty pattern.

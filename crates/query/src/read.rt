@@ -7,12 +7,10 @@ use faults::faulty;
 use model::QueryRead;
 use model::Refusal;
 use model::Verdict;
+use model::limits::MAX_QUERY_BYTES;
 use tables::BookCounts;
 use text::BytesRead;
 use text::lines;
-
-// "Query 2,048 bytes".
-pub const MAX_QUERY_BYTES: usize = 2048;
 
 // The query is text 3; its faults but the first stand at line 1.
 pub const QUERY: u32 = 3;

@@ -11,7 +11,7 @@ use crate::vertices;
 use crate::vertices::Vertices;
 use faults::NameOf;
 use faults::scan;
-use model::MAX_RETURNS;
+use model::limits::MAX_RETURNS;
 use pieces::Piece;
 use pieces::PieceRead;
 use pieces::reading;

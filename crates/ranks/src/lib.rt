@@ -6,11 +6,6 @@ pub mod names;
 pub mod policies;
 pub mod stores;
 
-// "16 categories, 8 actors each", "at most one [policy] per category".
-pub const MAX_CATEGORIES: usize = 16;
-
-pub const MAX_ACTORS: usize = 8;
-
 // The names of the categories, then the words of each category, then those of each policy.
 pub const CATEGORY_NAMES: usize = 0;
 

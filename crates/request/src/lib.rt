@@ -6,7 +6,7 @@ pub mod read;
 pub mod stores;
 
 use model::Identity;
-use model::MAX_IDENTITIES;
+use model::limits::MAX_IDENTITIES;
 
 // Identities, of which so many are counted.
 pub struct Identities {

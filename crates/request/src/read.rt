@@ -11,17 +11,15 @@ use crate::faults;
 use crate::forms;
 use crate::stores;
 use items::Piece;
-use model::MAX_IDENTITIES;
 use model::Refusal;
 use model::RequestRead;
 use model::Verdict;
+use model::limits::MAX_IDENTITIES;
+use model::limits::MAX_REQUEST_BYTES;
 use ranks::CATEGORY_NAMES;
 use ranks::RulesCounts;
 use tables::BookCounts;
 use text::BytesRead;
-
-// "Query, policy text and request 2,048 bytes each."
-pub const MAX_REQUEST_BYTES: usize = 2048;
 
 // The request is text 4.
 pub const REQUEST: u32 = 4;

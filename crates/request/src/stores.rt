@@ -12,8 +12,8 @@ use crate::ClaimAt;
 use crate::Identities;
 use crate::claims;
 use model::Identity;
-use model::MAX_IDENTITIES;
 use model::Part;
+use model::limits::MAX_IDENTITIES;
 use tables::BookCounts;
 
 // No identity.

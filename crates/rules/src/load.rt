@@ -23,13 +23,11 @@ use crate::policies::NO_FORM;
 use crate::steps;
 use faults::faulty;
 use model::Refusal;
+use model::limits::MAX_RULES_BYTES;
 use ranks::RulesCounts;
 use ranks::no_counts;
 use tables::BookCounts;
 use text::BytesRead;
-
-// "Rules 16,384".
-pub const MAX_RULES_BYTES: usize = 16384;
 
 // The rules are text 2.
 pub const RULES: u32 = 2;

@@ -18,13 +18,11 @@ ghost use Rattle.rules.specs.Policies.{lineNumber, policyOn, combined, P
 use crate::tests::LIMIT_PASSED;
 use crate::tests::NOT_DECLARED;
 use crate::tests::SECOND_TIME;
+use model::limits::MAX_POLICY_BYTES;
 use ranks::CATEGORY_NAMES;
 use ranks::RulesCounts;
 use ranks::policies;
 use ranks::stores;
-
-// "Query, policy text and request 2,048 bytes each."
-pub const MAX_POLICY_BYTES: usize = 2048;
 
 // The faults of a text as a query, in the paper's numbers: no query, a value or relation of another type.
 pub const NO_FORM: u32 = 3;

@@ -23,12 +23,12 @@ use items::Piece;
 use lists::LIST_DEPTH;
 use lists::places;
 use lists::scans;
+use model::limits::MAX_ACTORS;
+use model::limits::MAX_CATEGORIES;
 use ranks::ACTORS;
 use ranks::CATEGORIES;
 use ranks::CATEGORY_NAMES;
 use ranks::CATEGORY_WORDS;
-use ranks::MAX_ACTORS;
-use ranks::MAX_CATEGORIES;
 use ranks::RulesCounts;
 
 // The faults of a line, in the paper's numbers.

@@ -6,13 +6,13 @@ ghost use Rattle.model.specs.Service.{ones, rulesService, queryService, request
 ghost use Rattle.model.specs.Answers.{bookOf, rulesAnswer, queryAnswer, requestAnswer, writerAnswer};
 ghost use Rattle.model.specs.RequestAnswer.{requestRead};
 use book::TOO_LITTLE;
-use book::WORK_WORDS;
 use model::QueryRead;
 use model::QueryWritten;
 use model::Refusal;
 use model::RequestRead;
 use model::RowsListed;
 use model::RulesRead;
+use model::limits::WORK_WORDS;
 ghost use Rattle.model.specs.Demands.{ListCalled};
 ghost use Rattle.model.specs.WholeAnswers.{queryRead};
 

@@ -10,9 +10,8 @@ pub mod readers; // readers.rt: the readers' answers
 use libc::STDOUT_FILENO;
 use model::Refusal;
 use model::RowsListed;
+use model::limits::WORK_WORDS;
 use printed::LIST_BYTES;
-
-const WORK_WORDS: usize = 16384;
 
 // Room for a header or a refusal, which have at most 13 and 38 bytes.
 const LINE_BYTES: usize = 38;

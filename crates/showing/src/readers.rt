@@ -3,18 +3,15 @@ use book::read_book;
 use libc::STDOUT_FILENO;
 use model::BookRead;
 use model::Identity;
-use model::MAX_IDENTITIES;
 use model::Part;
 use model::QueryWritten;
 use model::Refusal;
 use model::RequestRead;
 use model::RulesRead;
 use model::Verdict;
-
-// "Query 2,048 bytes": so many may be written.
-const WRITTEN_BYTES: usize = 2048;
-
-const WORK_WORDS: usize = 16384;
+use model::limits::MAX_IDENTITIES;
+use model::limits::MAX_QUERY_BYTES;
+use model::limits::WORK_WORDS;
 
 // Prints what the book reader answers: the counts of nodes, relationships and entries.
 pub fn print_book(book: &[u8]) {
@@ -107,7 +104,7 @@ fn print_refused(name: &[u8], refusal: Refusal) {
 // Prints what the query writer writes.
 pub fn print_written(book: &[u8], rules: &[u8], query: &[u8]) {
     let mut work = [0u32; WORK_WORDS];
-    let mut text = [0u8; WRITTEN_BYTES];
+    let mut text = [0u8; MAX_QUERY_BYTES];
     match service::write_query(book, rules, query, &mut text, &mut work) {
         QueryWritten::Length(length) => {
             crate::print_front(&text, length);

@@ -7,15 +7,6 @@ pub mod relationships;
 pub mod stores;
 pub mod values;
 
-// "32 names each of vattr, eattr and label", "256 nodes, 1,024 relationships, 2,048 attribute entries".
-pub const MAX_NAMES: usize = 32;
-
-pub const MAX_NODES: usize = 256;
-
-pub const MAX_RELATIONSHIPS: usize = 1024;
-
-pub const MAX_ENTRIES: usize = 2048;
-
 // The tables, one after another. The types of attributes stand behind their names.
 pub const VATTR_NAMES: usize = 0;
 

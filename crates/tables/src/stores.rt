@@ -9,8 +9,6 @@ use crate::ENTRIES;
 use crate::FROM_HEADS;
 use crate::FROM_LINKS;
 use crate::LABEL_NAMES;
-use crate::MAX_NAMES;
-use crate::MAX_NODES;
 use crate::NODE_ENTRIES;
 use crate::NODE_HEADS;
 use crate::NODE_LINKS;
@@ -20,6 +18,8 @@ use crate::RELATIONSHIPS;
 use crate::names;
 use crate::relationships::NODES;
 use chains::slots::SLOTS;
+use model::limits::MAX_DECLARED;
+use model::limits::MAX_NODES;
 
 // An owner's entries are one word: their start times 4096 and how many they are.
 pub const ENTRY_COUNTS: usize = 4096;
@@ -42,7 +42,7 @@ pub fn store_attr(words: &mut [u32], offset: usize, count: usize, name: u32, kin
     ensures { λ _. ⌜ now (words .exit) ≡ withAttr (now (words .entry)) offset count name kind ⌝ }
 {
     words[offset + count] = name;
-    words[offset + MAX_NAMES + count] = kind;
+    words[offset + MAX_DECLARED + count] = kind;
 }
 
 // A label.

@@ -6,7 +6,7 @@ ghost use Rattle.woven.specs.Tables.{vertexOfWord, nodeIn};
 ghost use Rattle.weave.specs.Identities.{identityOf, identitiesIn, IdentitiesReady, IdentitiesGiven};
 use crate::marks;
 use model::Identity;
-use model::MAX_IDENTITIES;
+use model::limits::MAX_IDENTITIES;
 use woven::IDENTITIES;
 use woven::NO_NODE;
 use woven::names;

@@ -10,11 +10,11 @@ use crate::CLAUSE_WORDS;
 use crate::CLAUSES;
 use model::Clause;
 use model::Condition;
-use model::MAX_CONDITIONS;
-use model::MAX_VERTICES;
 use model::Relation;
 use model::Requirement;
 use model::Value;
+use model::limits::MAX_CONDITIONS;
+use model::limits::MAX_VERTICES;
 
 // The half of a whole number's 64 bits.
 const HALF: u64 = 4294967296;

@@ -7,8 +7,8 @@ use crate::EDGE_NAMES;
 use crate::EDGES;
 use crate::names;
 use model::Edge;
-use model::MAX_EDGES;
-use model::MAX_VERTICES;
+use model::limits::MAX_EDGES;
+use model::limits::MAX_VERTICES;
 
 // An edge word is label * LABEL_UNIT + from * FROM_UNIT + to, as a relationship's.
 const LABEL_UNIT: usize = 65536;

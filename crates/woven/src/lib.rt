@@ -14,15 +14,6 @@ pub struct WovenCounts {
     pub returns: usize,
 }
 
-// "Woven: 24 vertices, 48 of each other kind."
-pub const MAX_WOVEN_VERTICES: usize = 24;
-
-pub const MAX_WOVEN_EDGES: usize = 48;
-
-pub const MAX_WOVEN_EXCLUSIONS: usize = 48;
-
-pub const MAX_WOVEN_REQUIREMENTS: usize = 48;
-
 // The words of the tables, and where each table but that of the vertices begins. What a word says is set out in specs/Tables.antt.
 pub const WOVEN_WORDS: usize = 512;
 

@@ -3,8 +3,8 @@ ghost use Prim.Native.Nat.{_≤_};
 ghost use lib.ListN.{length};
 ghost use Rattle.woven.specs.Steps.{ReturnsReady, ReturnsAdded};
 use crate::RETURNS;
-use model::MAX_RETURNS;
-use model::MAX_VERTICES;
+use model::limits::MAX_RETURNS;
+use model::limits::MAX_VERTICES;
 
 // Makes a text's Return vertices those of the woven pattern.
 pub fn add_returns(

@@ -3,10 +3,10 @@ ghost use Prim.Native.Nat.{_<_, _≤_};
 ghost use lib.ListN.{length, drop};
 ghost use Rattle.woven.specs.Tables.{textOf, actorsAt};
 ghost use Rattle.woven.specs.Steps.{VertexPlaced, VerticesReady, VerticesAdded, textVertices};
-use crate::MAX_WOVEN_VERTICES;
 use crate::names;
-use model::MAX_VERTICES;
 use model::Part;
+use model::limits::MAX_VERTICES;
+use model::limits::MAX_WOVEN_VERTICES;
 
 // Where a vertex has its place, and how many vertices there are then: past the limit where there is no room.
 pub struct Placed {

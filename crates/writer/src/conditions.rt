@@ -12,11 +12,11 @@ use crate::values;
 use model::Clause;
 use model::Condition;
 use model::Edge;
-use model::MAX_CONDITIONS;
-use model::MAX_EDGES;
-use model::MAX_VERTICES;
 use model::Part;
 use model::Requirement;
+use model::limits::MAX_CONDITIONS;
+use model::limits::MAX_EDGES;
+use model::limits::MAX_VERTICES;
 use tables::EATTR_NAMES;
 use tables::VATTR_NAMES;
 

@@ -8,6 +8,7 @@ ghost use Rattle.writer.specs.Putting.{Puts};
 ghost use Rattle.writer.specs.Pieces.{patternText};
 ghost use Rattle.writer.specs.Writable.{arrayLimits, PatternFits, Writable, Writes};
 use model::Pattern;
+use model::limits::MAX_QUERY_BYTES;
 use tables::BookCounts;
 
 pub mod bytes; // bytes.rt: putting bytes, texts and names
@@ -15,9 +16,6 @@ mod conditions;
 mod matches;
 mod returns;
 pub mod values; // values.rt: putting numbers, texts and truth values
-
-// "A written query: 2,048 bytes."
-pub const MAX_WRITTEN: usize = 2048;
 
 // What writing a query gives: the length of its text, or that the text does not fit.
 pub enum Written {
@@ -39,7 +37,7 @@ pub fn write_query(
         (now (out .entry)) (now (out .exit)) r ⌝ }
 {
     let length = put_query(book, words, query, pattern, &mut out[..0], 0);
-    if MAX_WRITTEN < length {
+    if MAX_QUERY_BYTES < length {
         return Written::TooLong;
     }
     if out.len() < length {

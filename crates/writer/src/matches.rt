@@ -8,9 +8,9 @@ ghost use Rattle.writer.specs.Pieces.{before, vertexPiece, edgePiece, ve
 ghost use Rattle.writer.specs.Writable.{arrayLimits, EdgeFits, EdgesFit};
 use crate::bytes;
 use model::Edge;
-use model::MAX_EDGES;
-use model::MAX_VERTICES;
 use model::Part;
+use model::limits::MAX_EDGES;
+use model::limits::MAX_VERTICES;
 use tables::LABEL_NAMES;
 
 // Puts a Match for each vertex.

@@ -6,9 +6,9 @@ ghost use Rattle.writer.specs.Putting.{Puts};
 ghost use Rattle.writer.specs.Pieces.{before, returnsText};
 ghost use Rattle.writer.specs.Writable.{arrayLimits, ReturnsFit};
 use crate::bytes;
-use model::MAX_RETURNS;
-use model::MAX_VERTICES;
 use model::Part;
+use model::limits::MAX_RETURNS;
+use model::limits::MAX_VERTICES;
 
 // Puts the names of all Return vertices.
 pub fn put_returns(
