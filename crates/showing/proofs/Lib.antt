@@ -1,2 +1,3 @@
 -- Laws of what the programs share.
+pub mod RequestLaws
 pub mod WrittenLaws

@@ -1,5 +1,5 @@
 // What the programs share: reading texts from files, printing the list and the readers' answers.
-// No contract can say what reached the output, so the functions that only print have none: print_list, print_in_no_words, print_refusal,
+// No contract can say what reached the output, so the functions that only print promise nothing: print_list, print_in_no_words, print_refusal,
 // print_header and print_front here, and all of readers.rt. What the list and a refusal are made of is proved in the crates printed and printing.
 ghost use Prim.Native.Nat.{_≤_};
 ghost use lib.ListN.{length};

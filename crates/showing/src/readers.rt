@@ -1,4 +1,5 @@
 // Printing the answers of the readers and of the query writer. These functions only print: no contract can say what reached the output.
+ghost use Rattle.showing.specs.Identities.{Inside, IdentitiesInside};
 use book::read_book;
 use libc::STDOUT_FILENO;
 use model::BookRead;
@@ -52,7 +53,9 @@ pub fn print_request(book: &[u8], rules: &[u8], request: &[u8]) {
 }
 
 // Prints an accepted request.
-fn print_accepted(request: &[u8], read: RequestRead) {
+fn print_accepted(request: &[u8], read: RequestRead)
+    requires { ⌜ IdentitiesInside (now request) (read .identities) (read .count) ⌝ }
+{
     let identities = read.identities;
     print_number(b"(request ", read.category);
     print_identities(request, identities, read.count);
@@ -60,17 +63,19 @@ fn print_accepted(request: &[u8], read: RequestRead) {
 }
 
 // Prints so many identities.
-fn print_identities(request: &[u8], identities: [Identity; MAX_IDENTITIES], count: usize) {
-    for i in 0..MAX_IDENTITIES {
-        if i < count {
-            let identity = identities[i];
-            print_identity(request, identity);
-        }
+fn print_identities(request: &[u8], identities: [Identity; MAX_IDENTITIES], count: usize)
+    requires { ⌜ IdentitiesInside (now request) identities count ⌝ }
+{
+    for i in 0..count {
+        let identity = identities[i];
+        print_identity(request, identity);
     }
 }
 
 // Prints an actor and the number of its node.
-fn print_identity(request: &[u8], identity: Identity) {
+fn print_identity(request: &[u8], identity: Identity)
+    requires { ⌜ Inside (now request) (identity .actor) ⌝ }
+{
     let actor = identity.actor;
     io::write_all(STDOUT_FILENO, b" (");
     print_part(request, actor);
@@ -78,15 +83,13 @@ fn print_identity(request: &[u8], identity: Identity) {
     io::write_all(STDOUT_FILENO, b")");
 }
 
-// Prints a part of a text, if it lies in the text.
-fn print_part(text: &[u8], part: Part) {
+// Prints a part of a text.
+fn print_part(text: &[u8], part: Part)
+    requires { ⌜ Inside (now text) part ⌝ }
+{
     let start = part.start;
     let length = part.length;
-    if start <= text.len() {
-        if length <= text.len() - start {
-            io::write_all(STDOUT_FILENO, &text[start..start + length]);
-        }
-    }
+    io::write_all(STDOUT_FILENO, &text[start..start + length]);
 }
 
 // Prints a number behind a text.

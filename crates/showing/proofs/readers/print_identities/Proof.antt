@@ -1,14 +1,14 @@
--- `print_identities` ends and reads no identity past the last.
+-- `print_identities` ends, reads no slot past the last, and prints actors of its text alone.
 use Prim.Native.Nat.{_≤_, _-_}
 use borrow.Author.Needs.{needs}
 use Rattle.showing.proofs.readers.print_identities.Statement.{statement}
 use Rattle.showing.proofs.readers.print_identities.Tie as tie
 
 abbrev Inv-loop : tie.InvT-loop
-Inv-loop request count identities i₀ i = i ≤ 8
+Inv-loop request count identities i₀ i = i ≤ count
 
 abbrev μ-loop : tie.MeasureT-loop
-μ-loop request count identities i₀ i = 8 - i
+μ-loop request count identities i₀ i = count - i
 
 loop-holds : tie.Need-loop-holds Inv-loop μ-loop
 loop-holds c = search needs
@@ -20,7 +20,7 @@ array-copy-out-identity : tie.Need-array-copy-out-identity Inv-loop μ-loop
 array-copy-out-identity c = search needs
 
 print-identity-requires : tie.Need-print-identity-requires Inv-loop μ-loop
-print-identity-requires c κs = search needs
+print-identity-requires c κs = c .before .before .before .before .pre .actors (c .before .before .loop .i)
 
 add-i : tie.Need-add-i Inv-loop μ-loop
 add-i c = search needs

@@ -1,0 +1,2 @@
+-- What the contracts of the printing functions speak of.
+pub mod Identities
