@@ -1,4 +1,5 @@
-// Texts from files. No contract can say what a file holds; these say that the bytes counted are in the buffer.
+// Texts from files. No contract can say what a file holds, nor what the system told of it (at_end, and FileRead's whole); these say that the bytes
+// counted are in the buffer.
 ghost use Rattle.io.specs.Counts.{Counts};
 
 // A file's bytes in front of a buffer: how many, and whether they are the whole file, or as much of it as the buffer takes.
