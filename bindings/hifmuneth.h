@@ -5,6 +5,10 @@
  * every other number is 0. Whatever it answers, the working memory ends all ones. No function keeps a pointer, allocates memory or fails
  * in any other way.
  *
+ * How long a call takes: a text within its limits is read or refused in under a millisecond on a machine of today, whatever it says (measured; see
+ * docs/SPEED.md). A list searches besides, and the search has no bound yet: a dense book and a query of many vertices that hardly narrow each
+ * other can keep it busy for long. Call it where a slow answer holds up nothing else.
+ *
  * What a caller owes: every pointer is valid, aligned, and not NULL (also where its length is 0); no two of the buffers and numbers
  * that a call writes overlap, and none overlaps a text; no other thread uses them during the call. The deepest search was measured to
  * need about 120 KB of stack.
@@ -47,6 +51,23 @@ extern "C" {
 #define HIFMUNETH_QUERY 3
 #define HIFMUNETH_REQUEST 4
 #define HIFMUNETH_WOVEN 5
+
+/* The numbers of a refusal: what *number says is wrong. docs/REFUSALS.md has a text that gets each, and what to do. */
+#define HIFMUNETH_TOO_LONG 1             /* the text is too long */
+#define HIFMUNETH_BYTE_NOT_ALLOWED 2     /* a byte that is not allowed */
+#define HIFMUNETH_GRAMMAR_BROKEN 3       /* the grammar is broken */
+#define HIFMUNETH_NOT_DECLARED 4         /* a name is not declared */
+#define HIFMUNETH_SECOND_TIME 5          /* a second time */
+#define HIFMUNETH_OTHER_TYPE 6           /* not of the declared type */
+#define HIFMUNETH_LIMIT_PASSED 7         /* a count passes its limit */
+#define HIFMUNETH_EXCLUDED_FROM_ITSELF 8 /* a vertex excluded from itself */
+#define HIFMUNETH_ACTOR_MISSING 9        /* a category without an actor that it needs */
+#define HIFMUNETH_POLICY_MISSING 10      /* a category without a policy */
+#define HIFMUNETH_NO_REQUESTOR 11        /* no identity for requestor */
+#define HIFMUNETH_WOVEN_TOO_LARGE 12     /* the woven pattern passes a limit */
+#define HIFMUNETH_VERTEX_UNTIED 13       /* a vertex hangs on nothing */
+#define HIFMUNETH_NO_SPACE 14            /* what is to be given does not fit the buffer */
+#define HIFMUNETH_MEMORY_MISSING 15      /* working memory is missing */
 
 /* Which condition it is: the first of its words. */
 #define HIFMUNETH_DIFFER 1

@@ -6,13 +6,15 @@
 //! let names = hifmuneth::node_names(book)?;
 //! for row in hifmuneth::list(book, rules, query, request, 1024)? { .. names[row[0] as usize] .. }
 //! ```
-use std::{error, fmt, ops::Range};
+use std::ops::Range;
 
 pub mod lent;
 pub mod pattern;
 pub mod raw;
+pub mod refusal;
 
 pub use pattern::{Condition, Edge, Pattern, Relation, Requirement, Value};
+pub use refusal::Refusal;
 
 /// Working memory, in words of 32 bits. With fewer words every function refuses with 15.
 pub const WORK_WORDS: usize = 16_384;
@@ -23,22 +25,6 @@ pub const QUERY_BYTES: usize = 2_048;
 pub const REQUEST_BYTES: usize = 2_048;
 /// A row word past the rows: all ones, which is no node.
 pub const NO_NODE: u32 = u32::MAX;
-
-/// Why a service refuses: the number of the table, the text (1 book, 2 rules, 3 query, 4 request, 5 woven pattern), the line.
-#[derive(Clone, Copy, Debug, PartialEq, Eq)]
-pub struct Refusal {
-    pub number: u32,
-    pub text: u32,
-    pub line: u32,
-}
-
-impl fmt::Display for Refusal {
-    fn fmt(&self, f: &mut fmt::Formatter) -> fmt::Result {
-        write!(f, "(refused {} text {} line {})", self.number, self.text, self.line)
-    }
-}
-
-impl error::Error for Refusal {}
 
 /// What a book has.
 #[derive(Clone, Copy, Debug, PartialEq, Eq)]

@@ -5,7 +5,7 @@ use std::{fs, path::Path};
 fn line(name: &str, answer: Result<String, Refusal>) -> String {
     match answer {
         Ok(t) => t + "\n",
-        Err(r) => format!("{name} {r}\n"),
+        Err(r) => format!("{name} {}\n", r.printed()),
     }
 }
 
@@ -49,7 +49,7 @@ fn shown_counts(line: &str) -> Option<[usize; 4]> {
 
 fn rows(book: &[u8], list: Result<Vec<Vec<u32>>, Refusal>) -> String {
     match list {
-        Err(r) => format!("{r}\n"),
+        Err(r) => format!("{}\n", r.printed()),
         Ok(rows) => {
             let names = plain::book::read_book(book).expect("an accepted book").nodes;
             let mut t = format!("(rows {})\n", rows.len());

@@ -1,0 +1,121 @@
+//! The wrapper itself: what it makes of the library's numbers, words and bytes.
+use hifmuneth::{lent, refusal, Condition, Refusal, Relation, Value};
+
+const BOOK: &[u8] = b"(vattr kind str)\n(vattr rate int)\n(eattr since int)\n(label runs)\n(label feeds)\n(node ana)\n(node hub (kind 'hub'))\n\
+(node S5 (rate 40))\n(node S6)\n(rel runs ana hub (since -7))\n(rel feeds S5 hub)\n(rel feeds S6 hub)\n";
+const RULES: &[u8] = b"(category view (actors requestor) (over))\n(policy view \"Match (requestor)-[r:runs]->(h) Return h\")\n";
+const QUERY: &[u8] = b"Match (requestor)-[a:runs]->(h)<-[b:feeds]-(s) Where s.rate < 50 AND a.since >= -7 AND h.kind <> '' AND s <> h Return s, h";
+const REQUEST: &[u8] = b"(request view (id requestor ana))\n";
+
+fn refused<T: std::fmt::Debug>(answer: Result<T, Refusal>) -> Refusal {
+    answer.expect_err("it is to be refused")
+}
+
+#[test]
+fn counts_of_a_book_and_of_rules() {
+    let book = hifmuneth::read_book(BOOK).unwrap();
+    assert_eq!((book.nodes, book.relationships, book.entries), (4, 3, 3));
+    let rules = hifmuneth::read_rules(BOOK, RULES).unwrap();
+    assert_eq!((rules.categories, rules.policies), (1, 1));
+}
+
+#[test]
+fn names_by_number() {
+    assert_eq!(hifmuneth::node_names(BOOK).unwrap(), ["ana", "hub", "S5", "S6"]);
+    let longest = b"(label l)\n(node abcdefghijklmnopqrstuvwx)\n";
+    assert_eq!(hifmuneth::node_names(longest).unwrap(), ["abcdefghijklmnopqrstuvwx"]);
+}
+
+#[test]
+fn a_pattern_with_its_names_and_values() {
+    let p = hifmuneth::read_query(BOOK, QUERY).unwrap();
+    assert_eq!(p.vertices, ["requestor", "h", "s"]);
+    let edges: Vec<_> = p.edges.iter().map(|e| (e.name, e.label, e.from, e.to)).collect();
+    assert_eq!(edges, [("a", 0, 0, 1), ("b", 1, 2, 1)]);
+    assert_eq!(p.returns, [2, 1]);
+    assert_eq!(p.conditions.len(), 4);
+    match &p.conditions[0] {
+        Condition::OfVertex(2, r) => assert_eq!((r.attribute, r.relation, &r.value), (1, Relation::Less, &Value::Number(50))),
+        other => panic!("{other:?}"),
+    }
+    match &p.conditions[1] {
+        Condition::OfEdge(0, r) => assert_eq!((r.attribute, r.relation, &r.value), (0, Relation::AtLeast, &Value::Number(-7))),
+        other => panic!("{other:?}"),
+    }
+    match &p.conditions[2] {
+        Condition::OfVertex(1, r) => assert_eq!((r.attribute, r.relation, &r.value), (0, Relation::Differs, &Value::Text(""))),
+        other => panic!("{other:?}"),
+    }
+    assert!(matches!(p.conditions[3], Condition::Differ(2, 1)));
+}
+
+#[test]
+fn identities_of_a_request() {
+    let r = hifmuneth::read_request(BOOK, RULES, REQUEST).unwrap();
+    assert_eq!((r.category, r.identities.len()), (0, 1));
+    assert_eq!((&REQUEST[r.identities[0].actor.clone()], r.identities[0].node), (&b"requestor"[..], 0));
+}
+
+#[test]
+fn a_written_query_reads_back() {
+    let written = hifmuneth::write_query(BOOK, RULES, QUERY).unwrap();
+    assert_eq!(hifmuneth::write_query(BOOK, RULES, &written).unwrap(), written);
+    assert_eq!(hifmuneth::read_query(BOOK, &written).unwrap().vertices, ["requestor", "h", "s"]);
+}
+
+#[test]
+fn rows_by_their_width() {
+    let rows = hifmuneth::list(BOOK, RULES, QUERY, REQUEST, 1024).unwrap();
+    assert_eq!(rows, [[2, 1]]);
+    let all = b"Match (requestor)-[a:runs]->(h)<-[b:feeds]-(s) Return s";
+    assert_eq!(hifmuneth::list(BOOK, RULES, all, REQUEST, 2).unwrap(), [[2], [3]]);
+    assert_eq!(refused(hifmuneth::list(BOOK, RULES, all, REQUEST, 1)).number, refusal::NO_SPACE);
+    let none = b"Match (requestor)-[a:feeds]->(h) Return h";
+    assert!(hifmuneth::list(BOOK, RULES, none, REQUEST, 0).unwrap().is_empty());
+}
+
+#[test]
+fn lent_buffers_end_as_promised() {
+    let (mut rows, mut work) = (vec![7; 5], vec![7; hifmuneth::WORK_WORDS]);
+    let counts = lent::list(BOOK, RULES, QUERY, REQUEST, &mut rows, &mut work).unwrap();
+    assert_eq!((counts.rows, counts.width), (1, 2));
+    assert_eq!(rows, [2, 1, hifmuneth::NO_NODE, hifmuneth::NO_NODE, hifmuneth::NO_NODE]);
+    assert!(work.iter().all(|w| *w == u32::MAX));
+    let mut text = *b"untouched";
+    assert_eq!(refused(lent::write_query(BOOK, RULES, QUERY, &mut text, &mut work)).number, refusal::NO_SPACE);
+    assert_eq!(&text, b"untouched");
+}
+
+#[test]
+fn a_refusal_in_words() {
+    let shown = |r: Refusal| r.to_string();
+    assert_eq!(shown(refused(hifmuneth::read_book(b"(label l)\n(node l\n"))), "book, line 2: the grammar is broken (refused 3 text 1 line 2)");
+    assert_eq!(shown(refused(hifmuneth::read_book(&[b' '; 65_537]))), "book: the text is too long (refused 1 text 1 line 0)");
+    assert_eq!(shown(refused(lent::read_book(BOOK, &mut [0; 9]))), "working memory is missing (refused 15 text 0 line 0)");
+    let untied = b"Match (requestor) Match (t) Return t";
+    let r = refused(hifmuneth::list(BOOK, RULES, untied, REQUEST, 9));
+    assert_eq!((r.number, shown(r)), (refusal::VERTEX_UNTIED, "woven pattern: a vertex hangs on nothing (refused 13 text 5 line 0)".to_string()));
+    let odd = Refusal { number: 99, text: 99, line: 1 };
+    assert_eq!(shown(odd), "refused (refused 99 text 99 line 1)");
+}
+
+/// Every number has its words in the table that people read, and the C header has the same numbers.
+#[test]
+fn numbers_and_names_agree() {
+    let header = include_str!("../../hifmuneth.h");
+    let table = include_str!("../../../docs/REFUSALS.md");
+    let named = [
+        ("TOO_LONG", refusal::TOO_LONG), ("BYTE_NOT_ALLOWED", refusal::BYTE_NOT_ALLOWED), ("GRAMMAR_BROKEN", refusal::GRAMMAR_BROKEN),
+        ("NOT_DECLARED", refusal::NOT_DECLARED), ("SECOND_TIME", refusal::SECOND_TIME), ("OTHER_TYPE", refusal::OTHER_TYPE),
+        ("LIMIT_PASSED", refusal::LIMIT_PASSED), ("EXCLUDED_FROM_ITSELF", refusal::EXCLUDED_FROM_ITSELF), ("ACTOR_MISSING", refusal::ACTOR_MISSING),
+        ("POLICY_MISSING", refusal::POLICY_MISSING), ("NO_REQUESTOR", refusal::NO_REQUESTOR), ("WOVEN_TOO_LARGE", refusal::WOVEN_TOO_LARGE),
+        ("VERTEX_UNTIED", refusal::VERTEX_UNTIED), ("NO_SPACE", refusal::NO_SPACE), ("MEMORY_MISSING", refusal::MEMORY_MISSING),
+    ];
+    for (name, number) in named {
+        let line = format!("#define HIFMUNETH_{name} {number} ");
+        assert!(header.lines().any(|l| (l.to_string() + " ").starts_with(&line)), "the header lacks {line}");
+        assert!(table.contains(&format!("## {number}: ")), "docs/REFUSALS.md lacks {number}");
+        let meaning = Refusal { number, text: 0, line: 0 }.meaning();
+        assert!(header.contains(&format!("/* {meaning} */")), "the header lacks {meaning}");
+    }
+}
