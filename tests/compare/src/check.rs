@@ -2,6 +2,7 @@
 use crate::cases::Texts;
 use crate::random::Random;
 use crate::tally::Tally;
+use crate::timed::within;
 use crate::words::{identity_words, name_bytes, pattern_words};
 use hifmuneth::lent::{PatternWords, IDENTITY_WORDS, NAME_BYTES};
 use hifmuneth::raw;
@@ -104,16 +105,16 @@ impl Check<'_> {
             let (mut work, mut l) = (self.random.words(words), noise(self.random));
             let [x, y, z, _] = &mut l.counts;
             let Refusal { number, text, line } = &mut l.refusal;
-            let ok = unsafe { raw::hifmuneth_read_book(t.book.as_ptr(), t.book.len(), work.as_mut_ptr(), words, x, y, z, number, text, line) };
+            let ok = within("book", || unsafe { raw::hifmuneth_read_book(t.book.as_ptr(), t.book.len(), work.as_mut_ptr(), words, x, y, z, number, text, line) });
             told("book", ok, &l, 3, given(words, e.book.as_ref().map(|b| vec![b.nodes.len(), b.rels.len(), b.entries()]).map_err(|r| *r)));
             all_ones("book", &work);
 
             let (mut work, mut l) = (self.random.words(words), noise(self.random));
             let [x, y, _, _] = &mut l.counts;
             let Refusal { number, text, line } = &mut l.refusal;
-            let ok = unsafe {
+            let ok = within("rules", || unsafe {
                 raw::hifmuneth_read_rules(t.book.as_ptr(), t.book.len(), t.rules.as_ptr(), t.rules.len(), work.as_mut_ptr(), words, x, y, number, text, line)
-            };
+            });
             told("rules", ok, &l, 2, given(words, e.rules.as_ref().map(|r| vec![r.categories.len(), r.policies.len()]).map_err(|r| *r)));
             all_ones("rules", &work);
 
@@ -128,9 +129,9 @@ impl Check<'_> {
         let (mut work, mut l) = (self.random.words(words), noise(self.random));
         let mut names: [u8; NAME_BYTES] = self.random.bytes(NAME_BYTES).try_into().unwrap();
         let Refusal { number, text, line } = &mut l.refusal;
-        let ok = unsafe {
+        let ok = within("names", || unsafe {
             raw::hifmuneth_node_names(t.book.as_ptr(), t.book.len(), work.as_mut_ptr(), words, &mut l.counts[0], &mut names, number, text, line)
-        };
+        });
         let expected = given(words, e.book.clone());
         told("names", ok, &l, 1, expected.as_ref().map(|b| vec![b.nodes.len()]).map_err(|r| *r));
         all_ones("names", &work);
@@ -146,12 +147,12 @@ impl Check<'_> {
         };
         let [x, y, z, w] = &mut l.counts;
         let Refusal { number, text, line } = &mut l.refusal;
-        let ok = unsafe {
+        let ok = within("query", || unsafe {
             raw::hifmuneth_read_query(
                 t.book.as_ptr(), t.book.len(), t.query.as_ptr(), t.query.len(), work.as_mut_ptr(), words, x, y, z, w,
                 &mut p.vertices, &mut p.edges, &mut p.conditions, &mut p.returns, number, text, line,
             )
-        };
+        });
         let expected = given(words, e.query.clone());
         told("query", ok, &l, 4, expected.as_ref().map(|q| vec![q.vertices.len(), q.edges.len(), q.clauses.len(), q.returns.len()]).map_err(|r| *r));
         all_ones("query", &work);
@@ -164,12 +165,12 @@ impl Check<'_> {
         let mut ids = [0; IDENTITY_WORDS].map(|_| self.random.word() as usize);
         let [x, y, _, _] = &mut l.counts;
         let Refusal { number, text, line } = &mut l.refusal;
-        let ok = unsafe {
+        let ok = within("request", || unsafe {
             raw::hifmuneth_read_request(
                 t.book.as_ptr(), t.book.len(), t.rules.as_ptr(), t.rules.len(), t.request.as_ptr(), t.request.len(),
                 work.as_mut_ptr(), words, x, y, &mut ids, number, text, line,
             )
-        };
+        });
         let expected = given(words, e.request.clone());
         told("request", ok, &l, 2, expected.as_ref().map(|x| vec![x.category, x.identities.len()]).map_err(|r| *r));
         all_ones("request", &work);
@@ -193,12 +194,12 @@ impl Check<'_> {
         let (mut work, before, mut l) = (self.random.words(words), self.random.bytes(room), noise(self.random));
         let mut out = before.clone();
         let Refusal { number, text, line } = &mut l.refusal;
-        let ok = unsafe {
+        let ok = within("write", || unsafe {
             raw::hifmuneth_write_query(
                 t.book.as_ptr(), t.book.len(), t.rules.as_ptr(), t.rules.len(), t.query.as_ptr(), t.query.len(),
                 out.as_mut_ptr(), room, work.as_mut_ptr(), words, &mut l.counts[0], number, text, line,
             )
-        };
+        });
         let fits = |w: &Vec<u8>| if w.len() > room || w.len() > 2048 { refuse(14, 3, 1) } else { Ok(w.clone()) };
         let expected = given(words, self.expected.written.clone().and_then(|w| fits(&w)));
         told("write", ok, &l, 1, expected.as_ref().map(|w| vec![w.len()]).map_err(|r| *r));

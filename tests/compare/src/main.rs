@@ -1,13 +1,16 @@
 //! Compares the proved library with plain Rust.
 //!
-//! `compare [SEED] [COUNT]`: random cases. `compare vectors FOLDER`: the sets of a folder of vectors.
+//! `compare [SEED] [COUNT]`: texts that are made to be slow, then random cases. `compare vectors FOLDER`: the sets of a folder of vectors.
+//! It fails where the two differ, and where a text takes long to read or to refuse (`timed::LIMIT`), the search of a list aside.
 mod cases;
 mod check;
 mod damage;
 mod limits;
 mod patterns;
 mod random;
+mod slow;
 mod tally;
+mod timed;
 mod vectors;
 mod words;
 mod world;
@@ -45,6 +48,9 @@ fn main() {
     let seed = args.first().map_or(1, |s| s.parse().expect("a seed"));
     let count = args.get(1).map_or(CASES, |s| s.parse().expect("a count"));
     let (start, mut tally) = (Instant::now(), tally::Tally::default());
+    if !slow::run() {
+        process::exit(1);
+    }
     for i in seed..seed + count {
         let began = Instant::now();
         if !run(i, &mut tally) {

@@ -80,7 +80,7 @@ fn same(at: &Path) -> bool {
     }));
     let written = hifmuneth::write_query(&book, &rules, &query);
     if let Err(r) = &written {
-        out += &format!("write {r}\n");
+        out += &format!("write {}\n", r.printed());
     }
     let list = rows(&book, hifmuneth::list(&book, &rules, &query, &request, 16_384));
     out == readers && written.unwrap_or_default() == read("write.out") && list == text("list.out")

@@ -1,0 +1,163 @@
+//! Texts that are made to be slow: as long as they may be, and of one kind throughout. Each is read by every reader, which must agree with plain
+//! Rust and end within the limit of `timed`.
+use crate::cases::Texts;
+use crate::timed::{timed, LIMIT};
+use hifmuneth::Refusal;
+use std::time::Duration;
+
+const BOOK: &str = "(vattr k str)\n(eattr e int)\n(label l)\n(node n)\n";
+const RULES: &str = "(category view (actors requestor) (over))\n(policy view \"Match (requestor)-[r:l]->(h) Return h\")\n";
+const QUERY: &str = "Match (requestor)-[a:l]->(h) Return h";
+const REQUEST: &str = "(request view (id requestor n))\n";
+
+/// A beginning, a piece again and again while the whole has at most so many bytes, an end.
+fn filled(begin: &str, end: &str, bytes: usize, piece: impl Fn(usize) -> String) -> String {
+    let mut out = begin.to_string();
+    for i in 0.. {
+        let p = piece(i);
+        if out.len() + p.len() + end.len() > bytes {
+            break;
+        }
+        out += &p;
+    }
+    out + end
+}
+
+/// Queries of at most so many bytes.
+fn queries(bytes: usize) -> Vec<String> {
+    let start = "Match (requestor)";
+    let fill = |begin: &str, end: &str, piece: &dyn Fn(usize) -> String| filled(begin, end, bytes, piece);
+    vec![
+        fill(start, " Return v0", &|i| format!("-[e{i}:l]->(v{i})")),
+        fill(start, " Return v", &|_| "-[e:l]->(v)".into()),
+        fill(start, " Return v", &|i| format!("-[e{i}:l]->(v)")),
+        fill(start, " Return v0", &|i| format!(" Match (v{i})")),
+        fill(start, " Return requestor", &|_| " Match (requestor)".into()),
+        fill("Match (requestor)-[e:l]->(v) Where v <> v", " Return v", &|_| " AND v <> requestor".into()),
+        fill("Match (requestor)-[e:l]->(v) Where v.k = 'x'", " Return v", &|i| format!(" AND v.k <> '{i}'")),
+        fill("Match (requestor)-[e:l]->(v) Where e.e = 0", " Return v", &|i| format!(" AND e.e <> -{}", i + 1)),
+        fill("Match (requestor)-[e:l]->(v) Where w.k = 'x'", " Return v", &|i| format!(" AND w{i}.k = ''")),
+        fill("Match (requestor)-[e:l]->(v) Return v", "", &|i| format!(", v{i}")),
+        fill("Match (requestor)-[e:l]->(v) Return v", "", &|_| ", v".into()),
+        fill(start, " Return v", &|_| " ".into()),
+        fill(start, " Return v", &|_| "\n".into()),
+        fill("Match (", ") Return v", &|_| "v".into()),
+        fill(start, "", &|_| "<-[e:l]-(v)".into()),
+        fill("", "", &|_| "-".into()),
+        fill("", "", &|_| "'".into()),
+    ]
+}
+
+fn rules() -> Vec<String> {
+    let policy = |q: &String| format!("(category view (actors requestor) (over))\n(policy view \"{q}\")\n");
+    let long = queries(16_384 - policy(&String::new()).len());
+    let fill = |begin: &str, end: &str, piece: &dyn Fn(usize) -> String| filled(begin, end, 16_384, piece);
+    let mut all: Vec<String> = long.iter().map(|q| policy(&q.replace('\n', " "))).collect();
+    all.push(fill("(category view (actors requestor", ") (over))\n", &|i| format!(" a{i}")));
+    all.push(fill("(category view (actors requestor", ") (over))\n", &|_| " requestor".into()));
+    all.push(fill("(category view (actors requestor) (over", "))\n", &|i| format!(" c{i}")));
+    all.push(fill("(category view (actors requestor) (over))\n", "", &|_| "(policy view \"Match (requestor)-[r:l]->(h) Return h\")\n".into()));
+    all.push(fill("", "", &|i| format!("(category c{i} (actors requestor) (over))\n")));
+    all.push(fill("(category view ", "\n", &|_| "(".into()));
+    all.push(fill("(category view (actors requestor) (over))", "\n", &|_| " ".into()));
+    all.push(fill("", "", &|_| "\n".into()));
+    all
+}
+
+/// Names of 24 bytes whose bytes are those of one another in another order, or differ by case only.
+fn alike(i: usize) -> String {
+    let letters: String = (0..8).map(|bit| if i >> bit & 1 == 1 { "aB" } else { "Ba" }).collect();
+    letters + "_______x"
+}
+
+fn books() -> Vec<String> {
+    let fill = |begin: &str, end: &str, piece: &dyn Fn(usize) -> String| filled(begin, end, 65_536, piece);
+    let attributes: String = (0..32).map(|i| format!("(vattr attribute_number_{i} int)\n")).collect();
+    let entries: String = (0..32).map(|i| format!(" (attribute_number_{i} -{})", i + 1)).collect();
+    let nodes: String = (0..256).map(|i| format!("(node {})\n", alike(i))).collect();
+    let cased: String = (0..256).map(|i| format!("(node {})\n", (0..8).map(|b| if i >> b & 1 == 1 { 'a' } else { 'A' }).collect::<String>())).collect();
+    let labels: String = (0..32).map(|i| format!("(label label_number_{i})\n")).collect();
+    let from_one: String = (0..1024).map(|i| format!("(rel label_number_{} {} {})\n", i / 256, alike(0), alike(i % 256))).collect();
+    vec![
+        fill(&attributes, "", &|i| format!("(node n{i}{entries})\n")),
+        fill(&attributes, "", &|i| format!("(node n{i} (attribute_number_31 1))\n")),
+        fill(&(attributes.clone() + "(node n"), ")\n", &|_| " (attribute_number_31 1)".into()),
+        fill(&(nodes.clone() + &labels + &from_one), "", &|_| format!("(rel label_number_3 {} {})\n", alike(0), alike(255))),
+        fill(&(nodes.clone() + &labels), "", &|i| format!("(rel label_number_31 {} {})\n", alike(i / 256 % 256), alike(i % 256))),
+        fill(&(cased + "(label l)\n"), "", &|i| format!("(rel l aaaaaaaa {})\n", if i % 2 == 0 { "AAAAAAAA" } else { "AaAaAaAa" })),
+        fill("(node n (k ", ")\n", &|_| "(".into()),
+        fill("(node n (k '", "'))\n", &|_| "x".into()),
+        fill("(node n (k ", "))\n", &|_| "9".into()),
+        fill("(node ", ")\n", &|_| "n".into()),
+        fill("(node n", ")\n", &|_| " ".into()),
+        fill("", "", &|i| format!("(node n{i})\n")),
+        fill("", "", &|_| "\n".into()),
+        fill("", "\x7f", &|_| "(label l)".into()),
+    ]
+}
+
+fn requests() -> Vec<String> {
+    let fill = |begin: &str, end: &str, piece: &dyn Fn(usize) -> String| filled(begin, end, 2_048, piece);
+    vec![
+        fill("(request view", ")\n", &|_| " (id requestor n)".into()),
+        fill("(request view", ")\n", &|i| format!(" (id a{i} n{i})")),
+        fill("(request view (id requestor n)", ")\n", &|_| " ".into()),
+        fill("(request view ", "\n", &|_| "(".into()),
+    ]
+}
+
+fn texts() -> Vec<Texts> {
+    let set = |b: &str, r: &str, q: &str, x: &str| Texts { book: b.into(), rules: r.into(), query: q.into(), request: x.into() };
+    let mut all: Vec<Texts> = books().iter().map(|b| set(b, RULES, QUERY, REQUEST)).collect();
+    all.extend(rules().iter().map(|r| set(BOOK, r, QUERY, REQUEST)));
+    all.extend(queries(2_048).iter().map(|q| set(BOOK, RULES, q, REQUEST)));
+    all.extend(requests().iter().map(|x| set(BOOK, RULES, QUERY, x)));
+    all
+}
+
+/// The refusal of each reader, and how long it took; the least of three, since the first call of all meets cold memory.
+fn read(t: &Texts) -> Vec<(&'static str, Option<Refusal>, Duration)> {
+    let least = |name, call: &dyn Fn() -> Option<Refusal>| {
+        let runs: Vec<_> = (0..3).map(|_| timed(call)).collect();
+        (name, runs[0].0, runs.iter().map(|r| r.1).min().unwrap())
+    };
+    vec![
+        least("book", &|| hifmuneth::read_book(&t.book).err()),
+        least("names", &|| hifmuneth::node_names(&t.book).err()),
+        least("rules", &|| hifmuneth::read_rules(&t.book, &t.rules).err()),
+        least("query", &|| hifmuneth::read_query(&t.book, &t.query).err()),
+        least("request", &|| hifmuneth::read_request(&t.book, &t.rules, &t.request).err()),
+        least("write", &|| hifmuneth::write_query(&t.book, &t.rules, &t.query).err()),
+    ]
+}
+
+/// What plain Rust says of the texts that the three first readers read.
+fn expected(t: &Texts, name: &str) -> Option<Option<Refusal>> {
+    let refusal = |r: plain::text::Refusal| Refusal { number: r.number, text: r.text, line: r.line };
+    let book = plain::book::read_book(&t.book);
+    match name {
+        "book" | "names" => Some(book.err().map(refusal)),
+        "rules" => Some(book.and_then(|b| plain::rules::read_rules(&b, &t.rules)).err().map(refusal)),
+        "query" => Some(book.and_then(|b| plain::query::read_query(&b, &t.query)).err().map(refusal)),
+        _ => None,
+    }
+}
+
+pub fn run() -> bool {
+    let (mut fine, mut slowest, all) = (true, Duration::ZERO, texts());
+    for (i, t) in all.iter().enumerate() {
+        for (name, refusal, time) in read(t) {
+            slowest = slowest.max(time);
+            if time > LIMIT {
+                println!("slow text {i}: {name} took {time:?}");
+                fine = false;
+            }
+            if expected(t, name).is_some_and(|e| e != refusal) {
+                println!("slow text {i}: {name} differs, {refusal:?}");
+                fine = false;
+            }
+        }
+    }
+    println!("{} texts that are made to be slow: the slowest reading took {slowest:?}", all.len());
+    fine
+}
