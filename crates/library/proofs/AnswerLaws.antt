@@ -18,7 +18,7 @@ use Rattle.model.specs.declared.QueryWritten.the-variants as written
 use Rattle.model.specs.declared.RowsListed.{RowsListed}
 use Rattle.model.specs.declared.RowsListed.the-variants as listed
 use Rattle.model.specs.declared.RequestRead.{RequestRead}
-use Rattle.library.specs.Words.{vertexWords, edgeWords, conditionWords, returnWords, identityWords}
+use Rattle.answer_words.specs.Words.{vertexWords, edgeWords, conditionWords, returnWords, identityWords}
 use Rattle.library.specs.Told.{VerdictTold, BookTold, NamesTold, RulesTold, QueryTold, CountTold, RowsTold, RequestTold}
 use Rattle.library.proofs.ToldLaws.{accepted-told, accepted-value, refused-told, refused-value}
 

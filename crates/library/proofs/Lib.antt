@@ -1,4 +1,3 @@
 -- The reasoning behind the exported services' proofs.
 pub mod ToldLaws
 pub mod AnswerLaws
-pub mod RowLaws

@@ -10,7 +10,7 @@ use Rattle.model.specs.declared.Verdict.{Verdict}
 use Rattle.model.specs.declared.Verdict.the-variants as verdict
 use Rattle.model.specs.declared.QueryRead.{QueryRead}
 use Rattle.model.specs.declared.RequestRead.{RequestRead}
-use Rattle.library.specs.Words.{vertexWords, edgeWords, conditionWords, returnWords, identityWords}
+use Rattle.answer_words.specs.Words.{vertexWords, edgeWords, conditionWords, returnWords, identityWords}
 
 -- whether an outcome is accepted
 unfoldable pub accepts : {A : Type 0} → Outcome A → Bool

@@ -4,16 +4,16 @@ ghost use lib.ListN.{length};
 ghost use Rattle.model.specs.Service.{ones};
 ghost use Rattle.model.specs.WholeAnswers.{queryRead};
 ghost use Rattle.library.specs.Told.{QueryTold};
-use crate::condition_words;
-use crate::condition_words::ALL_CONDITION_WORDS;
-use crate::pattern_words;
-use crate::pattern_words::ALL_EDGE_WORDS;
-use crate::pattern_words::ALL_VERTEX_WORDS;
+use answer_words::conditions;
+use answer_words::conditions::ALL_CONDITION_WORDS;
+use answer_words::patterns;
+use answer_words::patterns::ALL_EDGE_WORDS;
+use answer_words::patterns::ALL_VERTEX_WORDS;
 use crate::tell::tell;
 use model::limits::MAX_RETURNS;
 
 // Reads a query: true and its pattern, or false and the refusal. Beside the counts each vertex has two words, each edge five, each condition
-// seven and each Return name one, as `specs/Words.antt` sets out. What does not apply is 0. The working memory ends all ones.
+// seven and each Return name one, as `answer_words/specs/Words.antt` sets out. What does not apply is 0. The working memory ends all ones.
 #[no_mangle]
 pub extern "C" fn hifmuneth_read_query(
     book: &[u8],
@@ -40,10 +40,10 @@ pub extern "C" fn hifmuneth_read_query(
     *edges = pattern.counts.edges;
     *conditions = pattern.counts.clauses;
     *returns = pattern.counts.returns;
-    *vertex_words = pattern_words::vertex_words(pattern);
-    *edge_words = pattern_words::edge_words(pattern);
-    *condition_words = condition_words::condition_words(pattern);
-    *return_words = pattern_words::return_words(pattern);
+    *vertex_words = patterns::vertex_words(pattern);
+    *edge_words = patterns::edge_words(pattern);
+    *condition_words = conditions::condition_words(pattern);
+    *return_words = patterns::return_words(pattern);
     let verdict = read.verdict;
     tell(verdict, number, text, line)
 }

@@ -4,17 +4,11 @@ ghost use Prim.Native.Nat.{_<_};
 ghost use lib.ListN.{length};
 ghost use Rattle.model.specs.Service.{ones};
 ghost use Rattle.model.specs.RequestAnswer.{requestRead};
-ghost use Rattle.library.specs.Words.{identityRow, identityWord, identityWords};
+ghost use Rattle.answer_words.specs.Words.{identityRow, identityWord, identityWords};
 ghost use Rattle.library.specs.Told.{RequestTold};
 use crate::tell::tell;
-use model::Identity;
-use model::RequestRead;
-use model::limits::MAX_IDENTITIES;
-
-// Start, length and node of each identity.
-const IDENTITY_WORDS: usize = 3;
-
-const ALL_IDENTITY_WORDS: usize = 24;
+use answer_words::identities::ALL_IDENTITY_WORDS;
+use answer_words::identities::identity_words;
 
 // Reads a request: true, the category's number and the identities, or false and the refusal. An identity has three words: where its actor's
 // name starts in the request, the name's length, and the node's number. What does not apply is 0. The working memory ends all ones.
@@ -40,39 +34,4 @@ pub extern "C" fn hifmuneth_read_request(
     *identities = identity_words(read);
     let verdict = read.verdict;
     tell(verdict, number, text, line)
-}
-
-// The words of a request's identities.
-fn identity_words(read: RequestRead) -> [usize; ALL_IDENTITY_WORDS]
-    ensures { λ r. ⌜ r ≡ identityWords read ⌝ }
-{
-    let given = read.identities;
-    let count = read.count;
-    let mut words = [0; ALL_IDENTITY_WORDS];
-    let mut k = 0;
-    while k < ALL_IDENTITY_WORDS {
-        words[k] = identity_word(given, count, k);
-        k += 1;
-    }
-    words
-}
-
-// One of those words.
-fn identity_word(given: [Identity; MAX_IDENTITIES], count: usize, k: usize) -> usize
-    requires { ⌜ k < 24 ⌝ }
-    ensures { λ r. ⌜ r ≡ identityWord given count k ⌝ }
-{
-    let i = k / IDENTITY_WORDS;
-    if count <= i {
-        return 0;
-    }
-    let row = identity_row(given[i]);
-    row[k % IDENTITY_WORDS]
-}
-
-// The words of one identity.
-fn identity_row(identity: Identity) -> [usize; IDENTITY_WORDS]
-    ensures { λ r. ⌜ r ≡ identityRow identity ⌝ }
-{
-    [identity.actor.start, identity.actor.length, identity.node]
 }

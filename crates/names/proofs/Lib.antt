@@ -1,3 +1,2 @@
 -- The reasoning behind the node names' service.
-pub mod PutLaws
 pub mod NameLaws

@@ -22,7 +22,7 @@ use Rattle.book.specs.declared.BookLoad.{BookLoad}
 use Rattle.book.specs.declared.BookLoad.the-variants as load
 use Rattle.book.specs.Loaded.{Loaded}
 use Rattle.names.specs.Names.{nameByte, nameBytes, namesLeft}
-use Rattle.names.proofs.PutLaws.{put-nothing}
+use Rattle.tables.proofs.PutLaws.{put-nothing}
 
 -- no names are bytes of 0
 pub no-names : replicate 6400 0 ≡ nameBytes []

@@ -7,3 +7,4 @@ pub mod AgreeLaws
 pub mod Grow
 pub mod Added
 pub mod Owners
+pub mod PutLaws

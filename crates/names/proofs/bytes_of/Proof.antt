@@ -6,7 +6,7 @@ use borrow.Author.Needs.{needs}
 use Rattle.model.specs.Book.{nodeNames}
 use Rattle.tables.specs.View.{bookAt}
 use Rattle.names.specs.Names.{nameByte, nameBytes}
-use Rattle.names.proofs.PutLaws.{PutSoFar, put-start, put-step, put-end}
+use Rattle.tables.proofs.PutLaws.{PutSoFar, put-start, put-step, put-end}
 use Rattle.names.proofs.bytes_of.Statement.{statement}
 use Rattle.names.proofs.bytes_of.Tie as tie
 

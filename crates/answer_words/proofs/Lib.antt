@@ -1,0 +1,2 @@
+-- The reasoning behind the words of answers.
+pub mod RowLaws

@@ -1,0 +1,55 @@
+-- All words of the identities. The loop's invariant: what is put so far is each place's word. The measure is what is left of them.
+use Prim.Native.Nat.{_-_}
+use mathlib.Core.Path.{refl}
+use native.Mathlib.Omega.{arith}
+use borrow.Author.Needs.{needs}
+use Rattle.tables.proofs.PutLaws.{PutSoFar, put-start, put-step, put-end}
+use Rattle.answer_words.specs.Words.{identityWord, identityWords}
+use Rattle.answer_words.proofs.identities.identity_words.Statement.{statement}
+use Rattle.answer_words.proofs.identities.identity_words.Tie as tie
+
+abbrev Inv-loop : tie.InvT-loop
+Inv-loop given count words₀ k₀ words k = PutSoFar (identityWord given count) 24 words k
+
+abbrev μ-loop : tie.MeasureT-loop
+μ-loop given count words₀ k₀ words k = 24 - k
+
+loop-holds : tie.Need-loop-holds Inv-loop μ-loop
+loop-holds c = put-start _ _ _ refl
+
+identity-word-requires : tie.Need-identity-word-requires Inv-loop μ-loop
+identity-word-requires c κs = search needs
+
+mul-words : tie.Need-mul-words Inv-loop μ-loop
+mul-words c = search needs
+
+array-write-words : tie.Need-array-write-words Inv-loop μ-loop
+array-write-words c = search needs
+
+add-k : tie.Need-add-k Inv-loop μ-loop
+add-k c = search needs
+
+loop-less : tie.Need-loop-less Inv-loop μ-loop
+loop-less c = omega arith
+
+loop-again : tie.Need-loop-again Inv-loop μ-loop
+loop-again c = put-step _ _ _ _ _ (c .before .loop-test .taken) (c .before .before .loop .inv) (c .identity-word .ensures)
+
+returns : tie.Need-returns Inv-loop μ-loop
+unfolding identityWords
+returns c = put-end _ _ _ _ (c .loop-test .left) (c .before .loop .inv)
+
+pub identity-words-spec : {M : Type 1} → statement M
+identity-words-spec =
+    tie.close
+    (tie.spec
+    Inv-loop
+    μ-loop
+    loop-holds
+    identity-word-requires
+    mul-words
+    array-write-words
+    add-k
+    loop-less
+    loop-again
+    returns)

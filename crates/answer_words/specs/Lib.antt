@@ -1,0 +1,2 @@
+-- What the words of answers are.
+pub mod Words
