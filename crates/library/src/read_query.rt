@@ -4,12 +4,12 @@ ghost use lib.ListN.{length};
 ghost use Rattle.model.specs.Service.{ones};
 ghost use Rattle.model.specs.WholeAnswers.{queryRead};
 ghost use Rattle.library.specs.Told.{QueryTold};
+use crate::tell::tell;
 use answer_words::conditions;
 use answer_words::conditions::ALL_CONDITION_WORDS;
 use answer_words::patterns;
 use answer_words::patterns::ALL_EDGE_WORDS;
 use answer_words::patterns::ALL_VERTEX_WORDS;
-use crate::tell::tell;
 use model::limits::MAX_RETURNS;
 
 // Reads a query: true and its pattern, or false and the refusal. Beside the counts each vertex has two words, each edge five, each condition
