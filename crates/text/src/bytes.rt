@@ -24,8 +24,6 @@ pub const ZERO: usize = 48;
 
 pub const NINE: usize = 57;
 
-pub const UNDERSCORE: usize = 95;
-
 // The byte at a place, or END past the last one.
 pub fn peek(s: &[u8], i: usize) -> usize
     ensures { λ r. ⌜ r ≡ peekAt (now (s .entry)) i ⌝ }
@@ -59,17 +57,14 @@ pub fn is_digit(b: usize) -> bool
     b <= NINE
 }
 
-// A letter, a digit or an underscore.
-pub fn is_word_byte(b: usize) -> bool
+// A letter, a digit or an underscore. Joined by `|`, not by branches: the machine then tests both ranges of letters at once.
+pub fn in_word(b: u8) -> bool
     ensures { λ r. ⌜ r ≡ isWordByte b ⌝ }
 {
-    if is_letter(b) {
-        return true;
-    }
-    if is_digit(b) {
-        return true;
-    }
-    b == UNDERSCORE
+    ((b'A' <= b) & (b <= b'Z'))
+        | ((b'a' <= b) & (b <= b'z'))
+        | ((b'0' <= b) & (b <= b'9'))
+        | (b == b'_')
 }
 
 // The place of the first such byte from a place on, or behind the last byte.

@@ -25,7 +25,10 @@ pub fn run_end(s: &[u8], from: usize) -> usize
     ensures { λ r. ⌜ r ≡ past isWordByte (now (s .entry)) from ⌝ }
 {
     let mut i = from;
-    while bytes::is_word_byte(bytes::peek(s, i)) {
+    while i < s.len() {
+        if !bytes::in_word(s[i]) {
+            return i;
+        }
         i += 1;
     }
     i

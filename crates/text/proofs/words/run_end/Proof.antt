@@ -1,12 +1,11 @@
 -- `text::words::run_end` meets its contract. The loop's invariant: the run of word bytes from i on ends where the one from the start ends.
-use Rattle.text.proofs.PlaceLaws.{test-in, past-step, past-stop}
-use Rattle.text.specs.Places.{past, peekAt}
-use Rattle.model.specs.Words.{isWordByte, isLetter, isDigit, between}
-use mathlib.Core.Bool.{true}
-use native.Mathlib.Omega.{arith}
+use Rattle.text.proofs.PlaceLaws.{past-step-in, past-stop-in, past-end}
+use Rattle.text.specs.Places.{past}
+use Rattle.model.specs.Words.{isWordByte}
+use borrow.Author.Tests.{not-true, not-false}
 use lib.ListN.{length}
 use Prim.Native.Nat.{_-_}
-use mathlib.Core.Path.{_≡_, refl, sym, ap, _∙_}
+use mathlib.Core.Path.{_≡_, refl, sym, _∙_}
 use borrow.Author.Needs.{needs}
 use Rattle.text.proofs.words.run_end.Statement.{statement}
 use Rattle.text.proofs.words.run_end.Tie as tie
@@ -17,32 +16,29 @@ Inv-loop s from i₀ i = past isWordByte s i ≡ past isWordByte s from
 abbrev μ-loop : tie.MeasureT-loop
 μ-loop s from i₀ i = length s - i
 
-passes : (c : tie.Then1 Inv-loop μ-loop) → isWordByte (peekAt (c .before .before .before .before .before .args .s .now) (c .before .before .before .loop .i)) ≡ true
-passes c = ap isWordByte (sym (c .before .before .peek .ensures)) ∙ sym (c .before .is-word-byte .ensures) ∙ c .if1 .taken
-
 loop-holds : tie.Need-loop-holds Inv-loop μ-loop
 loop-holds c = refl
 
-peek-requires : tie.Need-peek-requires Inv-loop μ-loop
-peek-requires c κs = search needs
+shared-slice-read-in-word : tie.Need-shared-slice-read-in-word Inv-loop μ-loop
+shared-slice-read-in-word c = search needs
 
-is-word-byte-requires : tie.Need-is-word-byte-requires Inv-loop μ-loop
-is-word-byte-requires c κs = search needs
-
-add-i : tie.Need-add-i Inv-loop μ-loop
-unfolding isWordByte isLetter isDigit between
-add-i c = omega (arith, test-in isWordByte (c .before .before .before .before .before .args .s .now) (c .before .before .before .loop .i) refl (passes c))
-
-loop-less : tie.Need-loop-less Inv-loop μ-loop
-unfolding isWordByte isLetter isDigit between
-loop-less c = omega (arith, test-in isWordByte (c .before .before .before .before .before .args .s .now) (c .before .before .before .loop .i) refl (passes c))
-
-loop-again : tie.Need-loop-again Inv-loop μ-loop
-unfolding isWordByte isLetter isDigit between
-loop-again c = sym (past-step isWordByte (c .before .before .before .before .before .args .s .now) (c .before .before .before .loop .i) refl (passes c)) ∙ c .before .before .before .loop .inv
+in-word-requires : tie.Need-in-word-requires Inv-loop μ-loop
+in-word-requires c κs = search needs
 
 returns : tie.Need-returns Inv-loop μ-loop
-returns c = sym (past-stop isWordByte (c .before .before .before .before .before .args .s .now) (c .before .before .before .loop .i) (ap isWordByte (sym (c .before .before .peek .ensures)) ∙ sym (c .before .is-word-byte .ensures) ∙ c .if1 .left)) ∙ c .before .before .before .loop .inv
+returns c = sym (past-stop-in isWordByte (c .before .before .before .before .before .before .args .s .now) (c .before .before .before .before .loop .i) (c .before .before .before .loop-test .taken) (sym (c .before .in-word .ensures) ∙ not-true _ (c .if1 .taken))) ∙ c .before .before .before .before .loop .inv
+
+add-i : tie.Need-add-i Inv-loop μ-loop
+add-i c = search needs
+
+loop-less : tie.Need-loop-less Inv-loop μ-loop
+loop-less c = search needs
+
+loop-again : tie.Need-loop-again Inv-loop μ-loop
+loop-again c = sym (past-step-in isWordByte (c .before .before .before .before .before .before .args .s .now) (c .before .before .before .before .loop .i) (c .before .before .before .loop-test .taken) (sym (c .before .in-word .ensures) ∙ not-false _ (c .if1 .left))) ∙ c .before .before .before .before .loop .inv
+
+returns-2 : tie.Need-returns-2 Inv-loop μ-loop
+returns-2 c = sym (past-end isWordByte (c .before .before .before .args .s .now) (c .before .loop .i) (c .loop-test .left)) ∙ c .before .loop .inv
 
 pub run-end-spec : {M : Type 1} → statement M
 run-end-spec =
@@ -51,9 +47,10 @@ run-end-spec =
     Inv-loop
     μ-loop
     loop-holds
-    peek-requires
-    is-word-byte-requires
+    shared-slice-read-in-word
+    in-word-requires
+    returns
     add-i
     loop-less
     loop-again
-    returns)
+    returns-2)
