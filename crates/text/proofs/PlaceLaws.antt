@@ -3,18 +3,18 @@ use Prim.Native.Nat.{ℕ, zero, suc, _+_, _-_, _≤_, _<_}
 use mathlib.Core.Path.{_≡_, refl, sym, ap, _∙_}
 use mathlib.Core.Logic.{_⊎_, inl, inr, ⊎-elim}
 use mathlib.Core.List.{List, [], _∷_}
-use mathlib.Core.Bool.{Bool, true, false}
+use mathlib.Core.Bool.{Bool, true, false, not, _||_}
 use native.Mathlib.Numerals.{add-one}
 use native.Mathlib.Omega.{arith}
 use lib.ListN.{length, getD, take, drop, drop-of-length-le, List·getD-eq-default, length-drop}
 use lib.Seq.{drop-cons, drop-drop, getD-drop, take-nil, take-take, length-take-le}
-use lib.Dec.{ltb}
+use lib.Dec.{ltb, eqb}
 use borrow.Author.Tests.{ltb-true, ltb-false}
 use Rattle.model.specs.Bytes.{Bytes}
 use Rattle.model.specs.Choice.{pick}
 use Rattle.model.specs.Words.{run}
 use Rattle.model.specs.Answers.{partOf}
-use Rattle.text.specs.Places.{peekAt, past}
+use Rattle.text.specs.Places.{peekAt, past, isOther, hasNear}
 
 pub below-or-not : (a b : ℕ) → (a < b) ⊎ (b ≤ a)
 below-or-not a b = go (ltb a b) refl
@@ -159,6 +159,19 @@ module _ (p : ℕ → Bool) (s : Bytes) (i : ℕ) where
   pub past-stops : past p s i < length s → p (getD s (past p s i) 0) ≡ false
   unfolding past
   past-stops h = rw (← getD-drop) (run-stops-in p (drop i s) (omega (arith, length-drop i s)))
+
+neither : (x y : Bool) → (x || y) ≡ false → (x ≡ false) × (y ≡ false)
+neither false y e = (refl, e)
+neither true y e = let z : _≡_ {A = ℕ} 0 1 = cc in absurd (omega arith)
+
+-- a run of other bytes goes on over bytes that are not the byte
+pub past-none : (s : Bytes) (i byte n : ℕ) → i + n < length s → hasNear s i byte n ≡ false → past (isOther byte) s i ≡ past (isOther byte) s (i + suc n)
+unfolding isOther
+past-none s i byte zero h e = past-step-in (isOther byte) s i (omega arith) (ap not e)
+past-none s i byte (suc n) h e =
+    let (f, g) = neither (hasNear s i byte n) (eqb (getD s (i + suc n) 0) byte) e in
+    let z : i + suc n + 1 ≡ i + suc (suc n) = omega arith in
+    past-none s i byte n (omega arith) f ∙ past-step-in (isOther byte) s (i + suc n) h (ap not g) ∙ ap (past (isOther byte) s) z
 
 drop-take : (p n : ℕ) (t : Bytes) → drop p (take n t) ≡ take (n - p) (drop p t)
 drop-take zero n t = let e : n ≡ n - 0 = omega arith in ap (λ (m : ℕ). take m t) e

@@ -1,5 +1,5 @@
 -- Places of a text: where a reading of the model ends, and where a run of bytes ends.
-use Prim.Native.Nat.{ℕ, _+_, _-_, _^_}
+use Prim.Native.Nat.{ℕ, zero, suc, _+_, _-_, _^_}
 use mathlib.Core.Bool.{Bool, not, _&&_, _||_}
 use lib.ListN.{length, getD, drop}
 use lib.Dec.{leb, eqb}
@@ -33,6 +33,11 @@ isInText b = not (eqb b 39) && not (eqb b 34 || eqb b 10)
 -- another byte than the first
 unfoldable pub isOther : ℕ → ℕ → Bool
 isOther a b = not (eqb b a)
+
+-- the byte stands at a place or at one of the n places behind it
+abbrev pub hasNear : Bytes → ℕ → ℕ → ℕ → Bool
+hasNear s i byte zero = eqb (getD s i 0) byte
+hasNear s i byte (suc n) = hasNear s i byte n || eqb (getD s (i + suc n) 0) byte
 
 -- a byte that may stand in a policy text
 abbrev pub isInQuoted : ℕ → Bool

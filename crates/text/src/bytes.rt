@@ -1,7 +1,9 @@
 // The byte at a place, and the kinds of bytes.
 ghost use mathlib.Core.Path.{_≡_};
+ghost use Prim.Native.Nat.{_+_, _≤_};
+ghost use lib.ListN.{length};
 ghost use Rattle.model.specs.Words.{isLetter, isDigit, isWordByte};
-ghost use Rattle.text.specs.Places.{peekAt, past, isOther};
+ghost use Rattle.text.specs.Places.{peekAt, past, isOther, hasNear};
 
 // What stands past the last byte of a text.
 pub const END: usize = 256;
@@ -67,8 +69,40 @@ pub fn in_word(b: u8) -> bool
         | (b == b'_')
 }
 
-// The place of the first such byte from a place on, or behind the last byte.
+// The place of the first such byte from a place on, or behind the last byte. Blocks of eight bytes without it are passed over whole.
 pub fn find(s: &[u8], from: usize, byte: u8) -> usize
+    ensures { λ r. ⌜ r ≡ past (isOther byte) (now (s .entry)) from ⌝ }
+{
+    if s.len() <= from {
+        return from;
+    }
+    let mut i = from;
+    while 8 <= s.len() - i {
+        if in_eight(s, i, byte) {
+            return find_near(s, i, byte);
+        }
+        i += 8;
+    }
+    find_near(s, i, byte)
+}
+
+// Whether one of the eight bytes from a place on is the byte.
+fn in_eight(s: &[u8], i: usize, byte: u8) -> bool
+    requires { ⌜ i + 8 ≤ length (now s) ⌝ }
+    ensures { λ r. ⌜ r ≡ hasNear (now (s .entry)) i byte 7 ⌝ }
+{
+    (s[i] == byte)
+        | (s[i + 1] == byte)
+        | (s[i + 2] == byte)
+        | (s[i + 3] == byte)
+        | (s[i + 4] == byte)
+        | (s[i + 5] == byte)
+        | (s[i + 6] == byte)
+        | (s[i + 7] == byte)
+}
+
+// The same as `find`, byte by byte.
+fn find_near(s: &[u8], from: usize, byte: u8) -> usize
     ensures { λ r. ⌜ r ≡ past (isOther byte) (now (s .entry)) from ⌝ }
 {
     let mut i = from;

@@ -1,30 +1,37 @@
--- `text::bytes::find` meets its contract. The loop's invariant: the next such byte from i on is the next one from the start.
-use Rattle.text.proofs.PlaceLaws.{past-step-in, past-stop-in, past-end}
+-- `text::bytes::find` meets its contract. The loop's invariant: the next such byte from i on, within the text, is the next one from the start.
+use Rattle.text.proofs.PlaceLaws.{past-none, past-end}
 use Rattle.text.specs.Places.{past, isOther}
-use borrow.Author.Tests.{eq-eqb, ne-eqb}
+use native.Mathlib.Omega.{arith}
 use lib.ListN.{length}
-use Prim.Native.Nat.{_-_}
-use mathlib.Core.Bool.{not}
-use mathlib.Core.Path.{_≡_, refl, sym, ap, _∙_}
+use Prim.Native.Nat.{_-_, _≤_}
+use mathlib.Core.Path.{_≡_, refl, sym, _∙_}
 use borrow.Author.Needs.{needs}
 use Rattle.text.proofs.bytes.find.Statement.{statement}
 use Rattle.text.proofs.bytes.find.Tie as tie
 
 abbrev Inv-loop : tie.InvT-loop
-Inv-loop s from byte i₀ i = past (isOther byte) s i ≡ past (isOther byte) s from
+Inv-loop s from byte i₀ i = (i ≤ length s) × (past (isOther byte) s i ≡ past (isOther byte) s from)
 
 abbrev μ-loop : tie.MeasureT-loop
 μ-loop s from byte i₀ i = length s - i
 
-loop-holds : tie.Need-loop-holds Inv-loop μ-loop
-loop-holds c = refl
-
-shared-slice-read-if1 : tie.Need-shared-slice-read-if1 Inv-loop μ-loop
-shared-slice-read-if1 c = search needs
-
 returns : tie.Need-returns Inv-loop μ-loop
-unfolding isOther
-returns c = sym (past-stop-in (isOther (c .before .before .before .before .args .byte)) (c .before .before .before .before .args .s .now) (c .before .before .before .loop .i) (c .before .before .loop-test .taken) (ap not (eq-eqb _ (c .before .before .before .before .args .byte) (c .if1 .taken)))) ∙ c .before .before .before .loop .inv
+returns c = let a = c .before .before .args in sym (past-end (isOther (a .byte)) (a .s .now) (a .from) (c .if1 .taken))
+
+loop-holds : tie.Need-loop-holds Inv-loop μ-loop
+loop-holds c = (omega arith, refl)
+
+sub-loop : tie.Need-sub-loop Inv-loop μ-loop
+sub-loop c = search needs
+
+in-eight-requires : tie.Need-in-eight-requires Inv-loop μ-loop
+in-eight-requires c κs = search needs
+
+find-near-requires : tie.Need-find-near-requires Inv-loop μ-loop
+find-near-requires c κs = search needs
+
+returns-2 : tie.Need-returns-2 Inv-loop μ-loop
+returns-2 c = c .find-near .ensures ∙ c .before .before .before .before .loop .inv .1
 
 add-i : tie.Need-add-i Inv-loop μ-loop
 add-i c = search needs
@@ -33,11 +40,15 @@ loop-less : tie.Need-loop-less Inv-loop μ-loop
 loop-less c = search needs
 
 loop-again : tie.Need-loop-again Inv-loop μ-loop
-unfolding isOther
-loop-again c = sym (past-step-in (isOther (c .before .before .before .before .args .byte)) (c .before .before .before .before .args .s .now) (c .before .before .before .loop .i) (c .before .before .loop-test .taken) (ap not (ne-eqb _ (c .before .before .before .before .args .byte) (c .if1 .left)))) ∙ c .before .before .before .loop .inv
+loop-again c =
+    let a = c .before .before .before .before .before .before .args in let l = c .before .before .before .loop in
+    (omega arith, sym (past-none (a .s .now) (l .i) (a .byte) 7 (omega arith) (sym (c .before .in-eight .ensures) ∙ c .if2 .left)) ∙ l .inv .1)
 
-returns-2 : tie.Need-returns-2 Inv-loop μ-loop
-returns-2 c = sym (past-end (isOther (c .before .before .args .byte)) (c .before .before .args .s .now) (c .before .loop .i) (c .loop-test .left)) ∙ c .before .loop .inv
+find-near-requires-2 : tie.Need-find-near-requires-2 Inv-loop μ-loop
+find-near-requires-2 c κs = search needs
+
+returns-3 : tie.Need-returns-3 Inv-loop μ-loop
+returns-3 c = c .find-near2 .ensures ∙ c .before .before .loop .inv .1
 
 pub find-spec : {M : Type 1} → statement M
 find-spec =
@@ -45,10 +56,14 @@ find-spec =
     (tie.spec
     Inv-loop
     μ-loop
-    loop-holds
-    shared-slice-read-if1
     returns
+    loop-holds
+    sub-loop
+    in-eight-requires
+    find-near-requires
+    returns-2
     add-i
     loop-less
     loop-again
-    returns-2)
+    find-near-requires-2
+    returns-3)

@@ -1,0 +1,54 @@
+-- `text::bytes::find_near` meets its contract. The loop's invariant: the next such byte from i on is the next one from the start.
+use Rattle.text.proofs.PlaceLaws.{past-step-in, past-stop-in, past-end}
+use Rattle.text.specs.Places.{past, isOther}
+use borrow.Author.Tests.{eq-eqb, ne-eqb}
+use lib.ListN.{length}
+use Prim.Native.Nat.{_-_}
+use mathlib.Core.Bool.{not}
+use mathlib.Core.Path.{_≡_, refl, sym, ap, _∙_}
+use borrow.Author.Needs.{needs}
+use Rattle.text.proofs.bytes.find_near.Statement.{statement}
+use Rattle.text.proofs.bytes.find_near.Tie as tie
+
+abbrev Inv-loop : tie.InvT-loop
+Inv-loop s from byte i₀ i = past (isOther byte) s i ≡ past (isOther byte) s from
+
+abbrev μ-loop : tie.MeasureT-loop
+μ-loop s from byte i₀ i = length s - i
+
+loop-holds : tie.Need-loop-holds Inv-loop μ-loop
+loop-holds c = refl
+
+shared-slice-read-if1 : tie.Need-shared-slice-read-if1 Inv-loop μ-loop
+shared-slice-read-if1 c = search needs
+
+returns : tie.Need-returns Inv-loop μ-loop
+unfolding isOther
+returns c = sym (past-stop-in (isOther (c .before .before .before .before .args .byte)) (c .before .before .before .before .args .s .now) (c .before .before .before .loop .i) (c .before .before .loop-test .taken) (ap not (eq-eqb _ (c .before .before .before .before .args .byte) (c .if1 .taken)))) ∙ c .before .before .before .loop .inv
+
+add-i : tie.Need-add-i Inv-loop μ-loop
+add-i c = search needs
+
+loop-less : tie.Need-loop-less Inv-loop μ-loop
+loop-less c = search needs
+
+loop-again : tie.Need-loop-again Inv-loop μ-loop
+unfolding isOther
+loop-again c = sym (past-step-in (isOther (c .before .before .before .before .args .byte)) (c .before .before .before .before .args .s .now) (c .before .before .before .loop .i) (c .before .before .loop-test .taken) (ap not (ne-eqb _ (c .before .before .before .before .args .byte) (c .if1 .left)))) ∙ c .before .before .before .loop .inv
+
+returns-2 : tie.Need-returns-2 Inv-loop μ-loop
+returns-2 c = sym (past-end (isOther (c .before .before .args .byte)) (c .before .before .args .s .now) (c .before .loop .i) (c .loop-test .left)) ∙ c .before .loop .inv
+
+pub find-near-spec : {M : Type 1} → statement M
+find-near-spec =
+    tie.close
+    (tie.spec
+    Inv-loop
+    μ-loop
+    loop-holds
+    shared-slice-read-if1
+    returns
+    add-i
+    loop-less
+    loop-again
+    returns-2)
