@@ -7,8 +7,9 @@ use native.Mathlib.Omega.{arith}
 use lib.ListN.{length, getD, drop}
 use lib.Dec.{ltb, eqb}
 use borrow.Author.Tests.{eq-eqb, ne-eqb, lt-ltb, le-ltb, ltb-false}
-use Rattle.model.specs.Bytes.{Bytes, same}
+use Rattle.model.specs.Bytes.{Bytes, bytesOf, same}
 use Rattle.model.specs.Choice.{pick, Maybe, nothing, just}
+use Rattle.model.specs.Lists.{any}
 use Rattle.model.specs.Names.{mem}
 use Rattle.model.specs.Forms.{neverNames, nameOf}
 use Rattle.text.specs.declared.Order.the-variants.{Less, Equal, Greater}
@@ -98,6 +99,19 @@ same-equal (x ∷ a) (y ∷ b) e = go (eqb x y) refl e (same-equal a b)
     go : (t : Bool) → eqb x y ≡ t → pick t (same a b) false ≡ true → (same a b ≡ true → a ≡ b) → x ∷ a ≡ y ∷ b
     go true p e r = let w : x ≡ y = borrow.Author.Tests.eqb-true x y p in let v : a ≡ b = r e in cc
     go false p e r = let z : _≡_ {A = ℕ} 0 1 = cc in absurd (omega arith)
+
+-- a word of another length than the six is none of them
+pub name-by-length : (w : Bytes) → ((n : ℕ) → 3 ≤ n → n ≤ 6 → length w ≡ n → ⊥) → true ≡ not (mem w neverNames)
+unfolding mem any neverNames
+name-by-length w h =
+    rw (
+      same-lengths w (bytesOf "Match") (h 5 (omega arith) (omega arith)),
+      same-lengths w (bytesOf "Where") (h 5 (omega arith) (omega arith)),
+      same-lengths w (bytesOf "AND") (h 3 (omega arith) (omega arith)),
+      same-lengths w (bytesOf "Return") (h 6 (omega arith) (omega arith)),
+      same-lengths w (bytesOf "true") (h 4 (omega arith) (omega arith)),
+      same-lengths w (bytesOf "false") (h 5 (omega arith) (omega arith)),
+    )
 
 -- a word is a name if it is none of the six
 pub name-of : (w : Bytes) → nameOf w ≡ pick (not (mem w neverNames)) (just w) nothing
