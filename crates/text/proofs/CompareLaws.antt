@@ -1,8 +1,8 @@
 -- Laws of comparisons.
-use Prim.Native.Nat.{ℕ, suc, _+_, _≤_, _<_}
-use mathlib.Core.Path.{_≡_, refl, ap}
+use Prim.Native.Nat.{ℕ, zero, suc, _+_, _≤_, _<_}
+use mathlib.Core.Path.{_≡_, refl, ap, _∙_}
 use mathlib.Core.List.{[], _∷_}
-use mathlib.Core.Bool.{Bool, true, false, not}
+use mathlib.Core.Bool.{Bool, true, false, not, _&&_}
 use native.Mathlib.Omega.{arith}
 use lib.ListN.{length, getD, drop}
 use lib.Dec.{ltb, eqb}
@@ -13,7 +13,7 @@ use Rattle.model.specs.Lists.{any}
 use Rattle.model.specs.Names.{mem}
 use Rattle.model.specs.Forms.{neverNames, nameOf}
 use Rattle.text.specs.declared.Order.the-variants.{Less, Equal, Greater}
-use Rattle.text.specs.Compare.{compareBytes}
+use Rattle.text.specs.Compare.{compareBytes, sameNear}
 use Rattle.text.proofs.PlaceLaws.{drop-at, drop-end}
 
 -- texts of different lengths differ
@@ -65,6 +65,28 @@ module _ (a b : Bytes) (i : ℕ) where
     pub compare-step : getD b i 0 ≤ getD a i 0 → getD a i 0 ≤ getD b i 0 → compareBytes (drop i a) (drop i b) ≡ compareBytes (drop (i + 1) a) (drop (i + 1) b)
     unfolding compareBytes
     compare-step h k = rw (drop-at a i l, drop-at b i m, le-ltb (getD a i 0) (getD b i 0) h, le-ltb (getD b i 0) (getD a i 0) k)
+
+pick-both : (x y z : Bool) → pick x (pick y z false) false ≡ pick (x && y) z false
+pick-both true y z = refl
+pick-both false y z = refl
+
+-- the same from a place on: a row of the same bytes, and the same behind it
+same-row : (a b : Bytes) (i n : ℕ) → i + n < length a → i + n < length b
+    → same (drop i a) (drop i b) ≡ pick (sameNear a b i n) (same (drop (i + suc n) a) (drop (i + suc n) b)) false
+unfolding same
+same-row a b i zero l m = rw (drop-at a i (omega arith), drop-at b i (omega arith))
+same-row a b i (suc n) l m =
+    let e : i + suc n + 1 ≡ i + suc (suc n) = omega arith in
+    same-row a b i n (omega arith) (omega arith)
+    ∙ rw (drop-at a (i + suc n) l, drop-at b (i + suc n) m, e)
+    (pick-both (sameNear a b i n) (eqb (getD a (i + suc n) 0) (getD b (i + suc n) 0)) (same (drop (i + suc (suc n)) a) (drop (i + suc (suc n)) b)))
+
+module _ (a b : Bytes) (i n : ℕ) (l : i + n < length a) (m : i + n < length b) where
+  pub row-same : sameNear a b i n ≡ true → same (drop i a) (drop i b) ≡ same (drop (i + suc n) a) (drop (i + suc n) b)
+  row-same e = same-row a b i n l m ∙ rw e
+
+  pub row-differs : sameNear a b i n ≡ false → same (drop i a) (drop i b) ≡ false
+  row-differs e = same-row a b i n l m ∙ rw e
 
 -- equal exactly if the same bytes
 pub compare-itself : (a : Bytes) → compareBytes a a ≡ Equal

@@ -2,15 +2,15 @@
 ghost use mathlib.Core.Path.{_≡_};
 ghost use mathlib.Core.Bool.{not};
 ghost use Prim.Native.Nat.{_+_, _≤_};
-ghost use lib.ListN.{length};
+ghost use lib.ListN.{length, drop};
 ghost use Rattle.model.specs.Bytes.{same};
 ghost use Rattle.model.specs.Names.{mem};
 ghost use Rattle.model.specs.Forms.{neverNames};
 ghost use Rattle.model.specs.Answers.{partOf};
-ghost use Rattle.text.specs.Compare.{compareBytes};
+ghost use Rattle.text.specs.Compare.{compareBytes, sameNear};
 use crate::Order;
 
-// Whether two texts are the same bytes.
+// Whether two texts are the same bytes; compared four bytes at a time, and then one by one.
 pub fn same_bytes(a: &[u8], b: &[u8]) -> bool
     ensures { λ r. ⌜ r ≡ same (now (a .entry)) (now (b .entry)) ⌝ }
 {
@@ -18,6 +18,29 @@ pub fn same_bytes(a: &[u8], b: &[u8]) -> bool
         return false;
     }
     let mut i = 0;
+    while 4 <= a.len() - i {
+        if !same_four(a, b, i) {
+            return false;
+        }
+        i += 4;
+    }
+    same_from(a, b, i)
+}
+
+// Whether the four bytes of two texts from a place on are the same.
+fn same_four(a: &[u8], b: &[u8], i: usize) -> bool
+    requires { ⌜ (i + 4 ≤ length (now a)) × (i + 4 ≤ length (now b)) ⌝ }
+    ensures { λ r. ⌜ r ≡ sameNear (now (a .entry)) (now (b .entry)) i 3 ⌝ }
+{
+    (a[i] == b[i]) & (a[i + 1] == b[i + 1]) & (a[i + 2] == b[i + 2]) & (a[i + 3] == b[i + 3])
+}
+
+// Whether two texts of one length are the same bytes from a place on, byte by byte.
+fn same_from(a: &[u8], b: &[u8], from: usize) -> bool
+    requires { ⌜ length (now a) ≡ length (now b) ⌝ }
+    ensures { λ r. ⌜ r ≡ same (drop from (now (a .entry))) (drop from (now (b .entry))) ⌝ }
+{
+    let mut i = from;
     while i < a.len() {
         if a[i] != b[i] {
             return false;

@@ -1,34 +1,37 @@
 -- `text::compare::same_bytes` meets its contract. The loop's invariant: what is left of the two texts is the same exactly if the whole texts are.
-use Rattle.text.proofs.CompareLaws.{same-lengths, same-end, same-step, same-differs}
+use Rattle.text.proofs.CompareLaws.{same-lengths, row-same, row-differs}
 use Rattle.model.specs.Bytes.{same}
 use native.Mathlib.Omega.{arith}
 use lib.ListN.{length, drop}
-use Prim.Native.Nat.{_-_}
+use Prim.Native.Nat.{_-_, _≤_}
 use mathlib.Core.Path.{_≡_, refl, sym, _∙_}
 use borrow.Author.Needs.{needs}
+use borrow.Author.Tests.{not-true, not-false}
 use Rattle.text.proofs.compare.same_bytes.Statement.{statement}
 use Rattle.text.proofs.compare.same_bytes.Tie as tie
 
 abbrev Inv-loop : tie.InvT-loop
-Inv-loop a b i₀ i = same (drop i a) (drop i b) ≡ same a b
+Inv-loop a b i₀ i = (i ≤ length a) × (same (drop i a) (drop i b) ≡ same a b)
 
 abbrev μ-loop : tie.MeasureT-loop
 μ-loop a b i₀ i = length a - i
 
 returns : tie.Need-returns Inv-loop μ-loop
-returns c = sym (same-lengths (c .before .args .a .now) (c .before .args .b .now) (c .if1 .taken))
+returns c = let p = c .before .before .before .args in sym (same-lengths (p .a .now) (p .b .now) (c .if1 .taken))
 
 loop-holds : tie.Need-loop-holds Inv-loop μ-loop
-loop-holds c = refl
+loop-holds c = (omega arith, refl)
 
-shared-slice-read-if2 : tie.Need-shared-slice-read-if2 Inv-loop μ-loop
-shared-slice-read-if2 c = search needs
+sub-loop : tie.Need-sub-loop Inv-loop μ-loop
+sub-loop c = search needs
 
-shared-slice-read-if2-2 : tie.Need-shared-slice-read-if2-2 Inv-loop μ-loop
-shared-slice-read-if2-2 c = search needs
+same-four-requires : tie.Need-same-four-requires Inv-loop μ-loop
+same-four-requires c κs = search needs
 
 returns-2 : tie.Need-returns-2 Inv-loop μ-loop
-returns-2 c = sym (same-differs (c .before .before .before .before .before .before .args .a .now) (c .before .before .before .before .before .before .args .b .now) (c .before .before .before .before .loop .i) (omega arith) (omega arith) (c .if2 .taken)) ∙ c .before .before .before .before .loop .inv
+returns-2 c =
+    let p = c .before .before .before .before .before .before .before .args in let l = c .before .before .before .loop in
+    sym (row-differs (p .a .now) (p .b .now) (l .i) 3 (omega arith) (omega arith) (sym (c .before .same-four .ensures) ∙ not-true _ (c .if2 .taken))) ∙ l .inv .1
 
 add-i : tie.Need-add-i Inv-loop μ-loop
 add-i c = search needs
@@ -37,10 +40,17 @@ loop-less : tie.Need-loop-less Inv-loop μ-loop
 loop-less c = search needs
 
 loop-again : tie.Need-loop-again Inv-loop μ-loop
-loop-again c = sym (same-step (c .before .before .before .before .before .before .args .a .now) (c .before .before .before .before .before .before .args .b .now) (c .before .before .before .before .loop .i) (omega arith) (omega arith) (c .if2 .left)) ∙ c .before .before .before .before .loop .inv
+loop-again c =
+    let p = c .before .before .before .before .before .before .before .args in let l = c .before .before .before .loop in (
+      omega arith,
+      sym (row-same (p .a .now) (p .b .now) (l .i) 3 (omega arith) (omega arith) (sym (c .before .same-four .ensures) ∙ not-false _ (c .if2 .left))) ∙ l .inv .1,
+    )
+
+same-from-requires : tie.Need-same-from-requires Inv-loop μ-loop
+same-from-requires c κs = search needs
 
 returns-3 : tie.Need-returns-3 Inv-loop μ-loop
-returns-3 c = sym (same-end (c .before .before .before .args .a .now) (c .before .before .before .args .b .now) (c .before .loop .i) (omega arith) (omega arith)) ∙ c .before .loop .inv
+returns-3 c = c .same-from .ensures ∙ c .before .before .loop .inv .1
 
 pub same-bytes-spec : {M : Type 1} → statement M
 same-bytes-spec =
@@ -50,10 +60,11 @@ same-bytes-spec =
     μ-loop
     returns
     loop-holds
-    shared-slice-read-if2
-    shared-slice-read-if2-2
+    sub-loop
+    same-four-requires
     returns-2
     add-i
     loop-less
     loop-again
+    same-from-requires
     returns-3)
