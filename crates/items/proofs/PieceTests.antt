@@ -1,21 +1,23 @@
 -- What the tests of the readers of pieces say, and that a piece lies in the text.
-use Prim.Native.Nat.{ℕ, _+_, _-_, _≤_, _<_}
+use Prim.Native.Nat.{ℕ, zero, suc, _+_, _-_, _≤_, _<_}
 use mathlib.Core.Path.{_≡_, refl, sym, ap, _∙_}
-use mathlib.Core.Bool.{Bool, true, false, not}
+use mathlib.Core.Bool.{Bool, true, false, not, _||_}
 use native.Mathlib.Omega.{arith}
-use lib.ListN.{length}
-use borrow.Author.Tests.{eq-eqb, ne-eqb}
+use lib.ListN.{length, drop}
+use lib.Dec.{eqb}
+use borrow.Author.Tests.{eq-eqb, ne-eqb, eqb-true, eqb-false}
 use Rattle.model.specs.Bytes.{Bytes, bytesOf, same}
-use Rattle.model.specs.Choice.{pick}
+use Rattle.model.specs.Choice.{pick, Maybe, nothing, just}
 use Rattle.model.specs.Names.{mem}
-use Rattle.model.specs.Items.{Item}
+use Rattle.model.specs.Words.{Got, isLetter, isDigit, between, wordAt, wholeAt, textAt, quotedAt, readAs}
+use Rattle.model.specs.Items.{Item, word, whole, text, quoted, Items, plainAt, asList, listAt, itemAt}
 use Rattle.model.specs.Values.{Value}
 use Rattle.model.specs.Forms.{neverNames}
 use Rattle.model.specs.Answers.{partOf}
 use Rattle.model.specs.declared.Value.the-variants as value
 use Rattle.text.specs.declared.End.{End}
 use Rattle.text.specs.declared.End.the-variants as end
-use Rattle.text.specs.Places.{peekAt}
+use Rattle.text.specs.Places.{peekAt, endOf}
 use Rattle.items.specs.declared.ItemRead.{ItemRead}
 use Rattle.items.specs.declared.ItemRead.the-variants.{Word, Number, Text, Quoted, List, None}
 use Rattle.items.specs.declared.Next.{Next}
@@ -24,9 +26,9 @@ use Rattle.items.specs.declared.Piece.{Piece}
 use Rattle.items.specs.declared.Piece.the-variants as piece
 use Rattle.items.specs.declared.NameRead.the-variants as name
 use Rattle.items.specs.declared.ValueRead.the-variants as read
-use Rattle.items.specs.Reads.{nextAt}
-use Rattle.items.specs.Pieces.{itemPlace, wordEnd, quotedEnd, afterEnd, nameAfter, openAfter, wordPiece, quotedPiece, namePiece, truthPiece, valuePiece, readAt, wordNext, quotedNext, nameNext, valueNext}
-use Rattle.items.proofs.ReadLaws.{Within, read-within, word-small}
+use Rattle.items.specs.Reads.{kindAt, readOf, nextAt}
+use Rattle.items.specs.Pieces.{itemPlace, wordEnd, wordOf, quotedEnd, afterEnd, nameAfter, openAfter, wordPiece, quotedPiece, namePiece, truthPiece, valuePiece, readAt, wordNext, quotedNext, nameNext, valueNext}
+use Rattle.items.proofs.ReadLaws.{plain-word, plain-whole, plain-text, plain-quoted, plain-none, item-opened, item-deep, read-plain, Within, read-within, word-small}
 
 -- an item of a known kind lies in the text
 never : {A : Type 0} {q : ℕ} → end.At q ≡ end.None → A
@@ -62,6 +64,50 @@ module _ (d : ℕ) (s : Bytes) (p q : ℕ) where
       go (Quoted x) w e = read-within d s p q (Quoted x) w (sym e)
       go (List x) w e = never e
       go None w e = never e
+
+-- a word by its first byte, however many lists may be opened
+as-word : (at : ℕ) (o : Maybe (Got Bytes)) → endOf at o ≡ wordEnd (readOf at (readAs word o))
+unfolding endOf readOf readAs kindAt
+as-word at nothing = refl
+as-word at (just g) = refl
+
+as-other : {A : Type 0} (at : ℕ) (f : A → Item) (o : Maybe (Got A)) → ((a : A) (q : ℕ) → end.None ≡ wordEnd (kindAt (f a) q)) → end.None ≡ wordEnd (readOf at (readAs f o))
+unfolding readOf readAs
+as-other at f nothing h = refl
+as-other at f (just g) h = h (g .got) (at + g .size)
+
+as-listed : (at : ℕ) (o : Maybe (Got Items)) → end.None ≡ wordEnd (readOf at (asList o))
+unfolding readOf asList kindAt
+as-listed at nothing = refl
+as-listed at (just g) = refl
+
+module _ (s : Bytes) (p : ℕ) where
+  plain-of : wordOf s p ≡ wordEnd (readOf p (plainAt (drop p s)))
+  unfolding wordOf readOf kindAt
+  plain-of = go (isLetter b) (isDigit b || eqb b 45) (eqb b 39) (eqb b 34) refl refl refl refl
+    where
+      b : ℕ
+      b = peekAt s p
+
+      go : (w x y z : Bool) → isLetter b ≡ w → (isDigit b || eqb b 45) ≡ x → eqb b 39 ≡ y → eqb b 34 ≡ z → pick w (endOf p (wordAt (drop p s))) end.None ≡ wordEnd (readOf p (plainAt (drop p s)))
+      go true x y z h i j k = rw (plain-word s p h) (as-word p (wordAt (drop p s)))
+      go false true y z h i j k = rw (plain-whole s p h i) (as-other p whole (wholeAt (drop p s)) (λ a q. refl))
+      go false false true z h i j k = rw (plain-text s p h i (eqb-true b 39 j)) (as-other p text (textAt (drop (p + 1) s)) (λ a q. refl))
+      go false false false true h i j k = rw (plain-quoted s p h i (eqb-true b 34 k)) (as-other p quoted (quotedAt (drop (p + 1) s)) (λ a q. refl))
+      go false false false false h i j k = rw (plain-none s p h i (eqb-false b 39 j) (eqb-false b 34 k))
+
+  opened-of : (d : ℕ) → peekAt s p ≡ 40 → end.None ≡ wordEnd (readAt d s p)
+  unfolding readOf
+  opened-of zero e = rw (item-deep 0 s p refl e)
+  opened-of (suc d) e = rw (item-opened (suc d) d s p refl e) (as-listed p (listAt (itemAt d) true 0 (drop (p + 1) s)))
+
+  pub word-of : (d : ℕ) → wordOf s p ≡ wordEnd (readAt d s p)
+  unfolding wordOf isLetter between
+  word-of d = go (eqb (peekAt s p) 40) refl
+    where
+      go : (x : Bool) → eqb (peekAt s p) 40 ≡ x → wordOf s p ≡ wordEnd (readAt d s p)
+      go true h = rw (eqb-true (peekAt s p) 40 h) (opened-of d (eqb-true (peekAt s p) 40 h))
+      go false h = plain-of ∙ ap wordEnd (read-plain d s p (eqb-false (peekAt s p) 40 h))
 
 -- what the tests of the readers say
 module _ (d : ℕ) (free : Bool) (s : Bytes) (i : ℕ) where

@@ -6,6 +6,7 @@ use lib.Dec.{eqb}
 use Rattle.model.specs.Bytes.{Bytes, bytesOf, same}
 use Rattle.model.specs.Choice.{pick, Maybe, nothing}
 use Rattle.model.specs.Names.{mem}
+use Rattle.model.specs.Words.{isLetter, wordAt}
 use Rattle.model.specs.Items.{itemAt}
 use Rattle.model.specs.Values as values
 use Rattle.model.specs.Forms.{neverNames}
@@ -13,7 +14,7 @@ use Rattle.model.specs.Answers.{partOf, valueOf}
 use Rattle.model.specs.declared.Value.the-variants as value
 use Rattle.text.specs.declared.End.{End}
 use Rattle.text.specs.declared.End.the-variants as end
-use Rattle.text.specs.Places.{peekAt}
+use Rattle.text.specs.Places.{peekAt, endOf}
 use Rattle.items.specs.declared.ItemRead.{ItemRead}
 use Rattle.items.specs.declared.ItemRead.the-variants.{Word, Number, Text, Quoted, List, None}
 use Rattle.items.specs.declared.Next.{Next}
@@ -48,6 +49,10 @@ quotedEnd (Text q) = end.None
 quotedEnd (Quoted q) = end.At q
 quotedEnd (List q) = end.None
 quotedEnd None = end.None
+
+-- the end of the word at a place, where a letter stands
+unfoldable pub wordOf : Bytes → ℕ → End
+wordOf s p = pick (isLetter (peekAt s p)) (endOf p (wordAt (drop p s))) end.None
 
 -- f of an end, or x
 unfoldable pub afterEnd : {A : Type 0} → End → (ℕ → A) → A → A

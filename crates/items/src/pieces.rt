@@ -7,7 +7,7 @@ ghost use lib.Dec.{eqb};
 ghost use Rattle.model.specs.Items.{itemAt};
 ghost use Rattle.text.specs.Places.{past, isSpace};
 ghost use Rattle.items.specs.Reads.{readOf};
-ghost use Rattle.items.specs.Pieces.{itemPlace, wordEnd, quotedEnd, namePlaces, wordNext, quotedNext, nameNext, valuePiece, valueNext, openNext, closeNext};
+ghost use Rattle.items.specs.Pieces.{itemPlace, wordOf, quotedEnd, namePlaces, wordNext, quotedNext, nameNext, valuePiece, valueNext, openNext, closeNext};
 use crate::ItemRead;
 use crate::NameRead;
 use crate::Next;
@@ -31,18 +31,14 @@ pub fn item_place(n: Next) -> End
     }
 }
 
-// The end of an item, if it is a word.
-pub fn word_end(i: ItemRead) -> End
-    ensures { λ r. ⌜ r ≡ wordEnd i ⌝ }
+// The end of the word at a place. Its first byte decides: a word begins with a letter, and no other item does.
+pub fn word_at(s: &[u8], p: usize) -> End
+    ensures { λ r. ⌜ r ≡ wordOf (now (s .entry)) p ⌝ }
 {
-    match i {
-        ItemRead::Word(q) => End::At(q),
-        ItemRead::Number(_, _) => End::None,
-        ItemRead::Text(_) => End::None,
-        ItemRead::Quoted(_) => End::None,
-        ItemRead::List(_) => End::None,
-        ItemRead::None => End::None,
+    if bytes::is_letter(bytes::peek(s, p)) {
+        return words::word(s, p);
     }
+    End::None
 }
 
 // The end of an item, if it is a policy text.
@@ -66,7 +62,7 @@ pub fn next_word(s: &[u8], from: usize, free: bool, depth: usize) -> Piece
     let End::At(p) = item_place(read::next(s, from, free)) else {
         return Piece::None;
     };
-    let End::At(q) = word_end(read::item(s, p, depth)) else {
+    let End::At(q) = word_at(s, p) else {
         return Piece::None;
     };
     Piece::At(p, q)
@@ -91,7 +87,7 @@ pub fn next_name(s: &[u8], from: usize, free: bool, depth: usize) -> NameRead
 {
     match read::next(s, from, free) {
         Next::Item(p) => {
-            let End::At(q) = word_end(read::item(s, p, depth)) else {
+            let End::At(q) = word_at(s, p) else {
                 return NameRead::None;
             };
             if compare::is_name(&s[p..q]) {

@@ -1,6 +1,6 @@
 -- `items::pieces::next_name` meets its contract.
-use Rattle.items.proofs.PieceTests.{at-name, name-yes, name-no, word-within}
-use Rattle.items.specs.Pieces.{wordEnd, afterEnd, namePiece, nameNext, nameAfter}
+use Rattle.items.proofs.PieceTests.{word-of, at-name, name-yes, name-no, word-within}
+use Rattle.items.specs.Pieces.{afterEnd, namePiece, nameNext, nameAfter}
 use Rattle.model.specs.Answers.{partOf}
 use native.Mathlib.Omega.{arith}
 use mathlib.Core.Path.{sym, ap, _∙_}
@@ -14,11 +14,8 @@ next-requires c κs = search needs
 enum-known-p : tie.Need-enum-known-p
 enum-known-p c = search needs
 
-item-requires : tie.Need-item-requires
-item-requires c κs = search needs
-
-word-end-requires : tie.Need-word-end-requires
-word-end-requires c κs = search needs
+word-at-requires : tie.Need-word-at-requires
+word-at-requires c κs = search needs
 
 enum-known-q : tie.Need-enum-known-q
 enum-known-q c = search needs
@@ -28,23 +25,23 @@ enum-told c = search needs
 
 returns : tie.Need-returns
 unfolding afterEnd namePiece
-returns c = at-name (c .before .before .before .before .before .before .before .before .before .args .depth) (c .before .before .before .before .before .before .before .before .before .args .free) (c .before .before .before .before .before .before .before .before .before .args .s .now) (c .before .before .before .before .before .before .before .before .before .args .from) (c .before .before .before .before .before .p .given .0 .0) (sym (c .before .before .before .before .before .p .given .1) ∙ c .before .before .before .before .before .before .before .next .ensures) _ (sym (c .enum-told .given .1) ∙ c .before .before .word-end .ensures ∙ ap wordEnd (c .before .before .before .item .ensures))
+returns c = at-name (c .before .before .before .before .before .before .before .before .args .depth) (c .before .before .before .before .before .before .before .before .args .free) (c .before .before .before .before .before .before .before .before .args .s .now) (c .before .before .before .before .before .before .before .before .args .from) (c .before .before .before .before .p .given .0 .0) (sym (c .before .before .before .before .p .given .1) ∙ c .before .before .before .before .before .before .next .ensures) _ (sym (c .enum-told .given .1) ∙ c .before .before .word-at .ensures ∙ word-of (c .before .before .before .before .before .before .before .before .args .s .now) (c .before .before .before .before .p .given .0 .0) (c .before .before .before .before .before .before .before .before .args .depth))
 
 sub-is-name : tie.Need-sub-is-name
-sub-is-name c = omega (arith, word-within (c .before .before .before .before .before .before .before .before .before .before .args .depth) (c .before .before .before .before .before .before .before .before .before .before .args .s .now) (c .before .before .before .before .before .before .p .given .0 .0) (c .before .q .given .0 .0) (sym (c .before .q .given .1) ∙ c .before .before .before .word-end .ensures ∙ ap wordEnd (c .before .before .before .before .item .ensures)))
+sub-is-name c = omega (arith, word-within (c .before .before .before .before .before .before .before .before .before .args .depth) (c .before .before .before .before .before .before .before .before .before .args .s .now) (c .before .before .before .before .before .p .given .0 .0) (c .before .q .given .0 .0) (sym (c .before .q .given .1) ∙ c .before .before .before .word-at .ensures ∙ word-of (c .before .before .before .before .before .before .before .before .before .args .s .now) (c .before .before .before .before .before .p .given .0 .0) (c .before .before .before .before .before .before .before .before .before .args .depth)))
 
 part-is-name-start : tie.Need-part-is-name-start
-part-is-name-start c = omega (arith, word-within (c .before .before .before .before .before .before .before .before .before .before .args .depth) (c .before .before .before .before .before .before .before .before .before .before .args .s .now) (c .before .before .before .before .before .before .p .given .0 .0) (c .before .q .given .0 .0) (sym (c .before .q .given .1) ∙ c .before .before .before .word-end .ensures ∙ ap wordEnd (c .before .before .before .before .item .ensures)))
+part-is-name-start c = omega (arith, word-within (c .before .before .before .before .before .before .before .before .before .args .depth) (c .before .before .before .before .before .before .before .before .before .args .s .now) (c .before .before .before .before .before .p .given .0 .0) (c .before .q .given .0 .0) (sym (c .before .q .given .1) ∙ c .before .before .before .word-at .ensures ∙ word-of (c .before .before .before .before .before .before .before .before .before .args .s .now) (c .before .before .before .before .before .p .given .0 .0) (c .before .before .before .before .before .before .before .before .before .args .depth)))
 
 part-is-name-end : tie.Need-part-is-name-end
-part-is-name-end c = omega (arith, word-within (c .before .before .before .before .before .before .before .before .before .before .args .depth) (c .before .before .before .before .before .before .before .before .before .before .args .s .now) (c .before .before .before .before .before .before .p .given .0 .0) (c .before .q .given .0 .0) (sym (c .before .q .given .1) ∙ c .before .before .before .word-end .ensures ∙ ap wordEnd (c .before .before .before .before .item .ensures)))
+part-is-name-end c = omega (arith, word-within (c .before .before .before .before .before .before .before .before .before .args .depth) (c .before .before .before .before .before .before .before .before .before .args .s .now) (c .before .before .before .before .before .p .given .0 .0) (c .before .q .given .0 .0) (sym (c .before .q .given .1) ∙ c .before .before .before .word-at .ensures ∙ word-of (c .before .before .before .before .before .before .before .before .before .args .s .now) (c .before .before .before .before .before .p .given .0 .0) (c .before .before .before .before .before .before .before .before .before .args .depth)))
 
 is-name-requires : tie.Need-is-name-requires
 is-name-requires c κs = search needs
 
 returns-2 : tie.Need-returns-2
 unfolding afterEnd partOf
-returns-2 c = name-yes (c .before .before .before .before .before .before .before .before .before .before .before .before .before .args .s .now) (c .before .before .before .before .before .before .before .before .before .p .given .0 .0) (c .before .before .before .before .q .given .0 .0) (sym (c .before .is-name .ensures) ∙ c .if1 .taken) ∙ at-name (c .before .before .before .before .before .before .before .before .before .before .before .before .before .args .depth) (c .before .before .before .before .before .before .before .before .before .before .before .before .before .args .free) (c .before .before .before .before .before .before .before .before .before .before .before .before .before .args .s .now) (c .before .before .before .before .before .before .before .before .before .before .before .before .before .args .from) (c .before .before .before .before .before .before .before .before .before .p .given .0 .0) (sym (c .before .before .before .before .before .before .before .before .before .p .given .1) ∙ c .before .before .before .before .before .before .before .before .before .before .before .next .ensures) _ (sym (c .before .before .before .before .q .given .1) ∙ c .before .before .before .before .before .before .word-end .ensures ∙ ap wordEnd (c .before .before .before .before .before .before .before .item .ensures))
+returns-2 c = name-yes (c .before .before .before .before .before .before .before .before .before .before .before .before .args .s .now) (c .before .before .before .before .before .before .before .before .p .given .0 .0) (c .before .before .before .before .q .given .0 .0) (sym (c .before .is-name .ensures) ∙ c .if1 .taken) ∙ at-name (c .before .before .before .before .before .before .before .before .before .before .before .before .args .depth) (c .before .before .before .before .before .before .before .before .before .before .before .before .args .free) (c .before .before .before .before .before .before .before .before .before .before .before .before .args .s .now) (c .before .before .before .before .before .before .before .before .before .before .before .before .args .from) (c .before .before .before .before .before .before .before .before .p .given .0 .0) (sym (c .before .before .before .before .before .before .before .before .p .given .1) ∙ c .before .before .before .before .before .before .before .before .before .before .next .ensures) _ (sym (c .before .before .before .before .q .given .1) ∙ c .before .before .before .before .before .before .word-at .ensures ∙ word-of (c .before .before .before .before .before .before .before .before .before .before .before .before .args .s .now) (c .before .before .before .before .before .before .before .before .p .given .0 .0) (c .before .before .before .before .before .before .before .before .before .before .before .before .args .depth))
 
 enum-known-e : tie.Need-enum-known-e
 enum-known-e c = search needs
@@ -54,7 +51,7 @@ enum-told-2 c = search needs
 
 returns-3 : tie.Need-returns-3
 unfolding afterEnd partOf
-returns-3 c = name-no (c .before .before .before .before .before .before .before .before .before .before .before .before .before .args .s .now) (c .before .before .before .before .before .before .before .before .before .p .given .0 .0) (c .before .before .before .before .q .given .0 .0) (sym (c .before .is-name .ensures) ∙ c .if1 .left) ∙ at-name (c .before .before .before .before .before .before .before .before .before .before .before .before .before .args .depth) (c .before .before .before .before .before .before .before .before .before .before .before .before .before .args .free) (c .before .before .before .before .before .before .before .before .before .before .before .before .before .args .s .now) (c .before .before .before .before .before .before .before .before .before .before .before .before .before .args .from) (c .before .before .before .before .before .before .before .before .before .p .given .0 .0) (sym (c .before .before .before .before .before .before .before .before .before .p .given .1) ∙ c .before .before .before .before .before .before .before .before .before .before .before .next .ensures) _ (sym (c .before .before .before .before .q .given .1) ∙ c .before .before .before .before .before .before .word-end .ensures ∙ ap wordEnd (c .before .before .before .before .before .before .before .item .ensures))
+returns-3 c = name-no (c .before .before .before .before .before .before .before .before .before .before .before .before .args .s .now) (c .before .before .before .before .before .before .before .before .p .given .0 .0) (c .before .before .before .before .q .given .0 .0) (sym (c .before .is-name .ensures) ∙ c .if1 .left) ∙ at-name (c .before .before .before .before .before .before .before .before .before .before .before .before .args .depth) (c .before .before .before .before .before .before .before .before .before .before .before .before .args .free) (c .before .before .before .before .before .before .before .before .before .before .before .before .args .s .now) (c .before .before .before .before .before .before .before .before .before .before .before .before .args .from) (c .before .before .before .before .before .before .before .before .p .given .0 .0) (sym (c .before .before .before .before .before .before .before .before .p .given .1) ∙ c .before .before .before .before .before .before .before .before .before .before .next .ensures) _ (sym (c .before .before .before .before .q .given .1) ∙ c .before .before .before .before .before .before .word-at .ensures ∙ word-of (c .before .before .before .before .before .before .before .before .before .before .before .before .args .s .now) (c .before .before .before .before .before .before .before .before .p .given .0 .0) (c .before .before .before .before .before .before .before .before .before .before .before .before .args .depth))
 
 returns-4 : tie.Need-returns-4
 unfolding nameNext nameAfter
@@ -70,8 +67,7 @@ next-name-spec =
     (tie.spec
     next-requires
     enum-known-p
-    item-requires
-    word-end-requires
+    word-at-requires
     enum-known-q
     enum-told
     returns

@@ -1,6 +1,6 @@
 -- `items::pieces::next_word` meets its contract.
-use Rattle.items.proofs.PieceTests.{no-word, at-word}
-use Rattle.items.specs.Pieces.{itemPlace, wordEnd, afterEnd}
+use Rattle.items.proofs.PieceTests.{word-of, no-word, at-word}
+use Rattle.items.specs.Pieces.{itemPlace, afterEnd}
 use mathlib.Core.Path.{sym, ap, _∙_}
 use borrow.Author.Needs.{needs}
 use Rattle.items.proofs.pieces.next_word.Statement.{statement}
@@ -21,11 +21,8 @@ enum-told c = search needs
 returns : tie.Need-returns
 returns c = no-word (c .before .before .before .before .before .args .depth) (c .before .before .before .before .before .args .free) (c .before .before .before .before .before .args .s .now) (c .before .before .before .before .before .args .from) (sym (c .enum-told .given .1) ∙ c .before .before .item-place .ensures ∙ ap itemPlace (c .before .before .before .next .ensures))
 
-item-requires : tie.Need-item-requires
-item-requires c κs = search needs
-
-word-end-requires : tie.Need-word-end-requires
-word-end-requires c κs = search needs
+word-at-requires : tie.Need-word-at-requires
+word-at-requires c κs = search needs
 
 enum-known-q : tie.Need-enum-known-q
 enum-known-q c = search needs
@@ -35,11 +32,11 @@ enum-told-2 c = search needs
 
 returns-2 : tie.Need-returns-2
 unfolding afterEnd
-returns-2 c = at-word (c .before .before .before .before .before .before .before .before .before .before .args .depth) (c .before .before .before .before .before .before .before .before .before .before .args .free) (c .before .before .before .before .before .before .before .before .before .before .args .s .now) (c .before .before .before .before .before .before .before .before .before .before .args .from) (c .before .before .before .before .before .p .given .0 .0) (sym (c .before .before .before .before .before .p .given .1) ∙ c .before .before .before .before .before .before .before .item-place .ensures ∙ ap itemPlace (c .before .before .before .before .before .before .before .before .next .ensures)) _ (sym (c .enum-told2 .given .1) ∙ c .before .before .word-end .ensures ∙ ap wordEnd (c .before .before .before .item .ensures))
+returns-2 c = at-word (c .before .before .before .before .before .before .before .before .before .args .depth) (c .before .before .before .before .before .before .before .before .before .args .free) (c .before .before .before .before .before .before .before .before .before .args .s .now) (c .before .before .before .before .before .before .before .before .before .args .from) (c .before .before .before .before .p .given .0 .0) (sym (c .before .before .before .before .p .given .1) ∙ c .before .before .before .before .before .before .item-place .ensures ∙ ap itemPlace (c .before .before .before .before .before .before .before .next .ensures)) _ (sym (c .enum-told2 .given .1) ∙ c .before .before .word-at .ensures ∙ word-of (c .before .before .before .before .before .before .before .before .before .args .s .now) (c .before .before .before .before .p .given .0 .0) (c .before .before .before .before .before .before .before .before .before .args .depth))
 
 returns-3 : tie.Need-returns-3
 unfolding afterEnd
-returns-3 c = at-word (c .before .before .before .before .before .before .before .before .before .before .before .args .depth) (c .before .before .before .before .before .before .before .before .before .before .before .args .free) (c .before .before .before .before .before .before .before .before .before .before .before .args .s .now) (c .before .before .before .before .before .before .before .before .before .before .before .args .from) (c .before .before .before .before .before .before .p .given .0 .0) (sym (c .before .before .before .before .before .before .p .given .1) ∙ c .before .before .before .before .before .before .before .before .item-place .ensures ∙ ap itemPlace (c .before .before .before .before .before .before .before .before .before .next .ensures)) _ (sym (c .before .q .given .1) ∙ c .before .before .before .word-end .ensures ∙ ap wordEnd (c .before .before .before .before .item .ensures))
+returns-3 c = at-word (c .before .before .before .before .before .before .before .before .before .before .args .depth) (c .before .before .before .before .before .before .before .before .before .before .args .free) (c .before .before .before .before .before .before .before .before .before .before .args .s .now) (c .before .before .before .before .before .before .before .before .before .before .args .from) (c .before .before .before .before .before .p .given .0 .0) (sym (c .before .before .before .before .before .p .given .1) ∙ c .before .before .before .before .before .before .before .item-place .ensures ∙ ap itemPlace (c .before .before .before .before .before .before .before .before .next .ensures)) _ (sym (c .before .q .given .1) ∙ c .before .before .before .word-at .ensures ∙ word-of (c .before .before .before .before .before .before .before .before .before .before .args .s .now) (c .before .before .before .before .before .p .given .0 .0) (c .before .before .before .before .before .before .before .before .before .before .args .depth))
 
 pub next-word-spec : {M : Type 1} → statement M
 next-word-spec =
@@ -50,8 +47,7 @@ next-word-spec =
     enum-known-p
     enum-told
     returns
-    item-requires
-    word-end-requires
+    word-at-requires
     enum-known-q
     enum-told-2
     returns-2
