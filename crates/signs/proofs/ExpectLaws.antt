@@ -1,22 +1,22 @@
 -- Laws of what is expected next: by the first sign that is not broken.
-use Prim.Native.Nat.{ℕ, zero, suc, _<_}
+use Prim.Native.Nat.{ℕ, _<_}
 use mathlib.Core.Path.{_≡_, refl, sym, ap, _∙_, subst}
 use mathlib.Core.List.{List, [], _∷_, _++_}
-use mathlib.Core.Bool.{Bool, true, false, not, _&&_, _||_}
+use mathlib.Core.Bool.{Bool, true, false, not, _&&_}
 use native.Mathlib.Omega.{arith}
 use lib.Dec.{T, eqb}
-use borrow.Author.Tests.{eq-eqb, ne-eqb, eqb-true, eqb-false}
+use borrow.Author.Tests.{eq-eqb, ne-eqb, eqb-true}
 use Rattle.model.specs.Bytes.{Bytes, bytesOf, same}
 use Rattle.model.specs.Choice.{pick, Maybe, nothing, just, andThen}
 use Rattle.model.specs.Lists.{any}
 use Rattle.model.specs.Names.{mem}
 use Rattle.model.specs.Forms.{neverNames, nameOf, truthOf}
-use Rattle.model.specs.Values.{Value, int, str, bool}
-use Rattle.model.specs.Signs.{Sign, word, whole, text, mark, broken, isWord, isMark, chainBehind, wordy, signs, signName, signValue, next, expect}
+use Rattle.model.specs.Values.{Value}
+use Rattle.model.specs.Signs.{Sign, word, whole, text, mark, broken, isWord, isMark, chainBehind, wordy, signName, signValue, next, expect}
 use Rattle.model.specs.QueryText.{Relation}
 use Rattle.model.specs.Grammar.{signRelation}
-use Rattle.model.specs.Answers.{nameAt, relationOf, valueOf, partOf}
-use Rattle.model.specs.Places.{Bracket, none, bracketOf, Standing, variableAt}
+use Rattle.model.specs.Answers.{nameAt, relationOf, valueOf}
+use Rattle.model.specs.Places.{Bracket, none, bracketOf, variableAt}
 use Rattle.model.specs.declared.Part.{Part}
 use Rattle.model.specs.declared.Relation.{Relation as RelationData}
 use Rattle.model.specs.declared.Relation.the-variants.{Equal, Differs, Less, AtMost, Greater, AtLeast}
@@ -24,7 +24,6 @@ use Rattle.model.specs.declared.Value.the-variants as given
 use Rattle.model.proofs.Decides.{same→eq}
 use Rattle.text.specs.declared.End.{End}
 use Rattle.text.specs.declared.End.the-variants as end
-use Rattle.text.proofs.CompareLaws.{name-of}
 use Rattle.signs.specs.declared.Sign.{Sign as SignData}
 use Rattle.signs.specs.declared.Sign.the-variants as sign
 use Rattle.signs.specs.declared.SignRead.{SignRead}
@@ -36,10 +35,9 @@ use Rattle.signs.specs.declared.RelationRead.the-variants as relation
 use Rattle.signs.specs.declared.ValueRead.{ValueRead}
 use Rattle.signs.specs.declared.ValueRead.the-variants as value
 use Rattle.signs.specs.Marks.{markBytes}
-use Rattle.signs.specs.Reads.{signOf, isWordy, signsFrom, First, first, firstOf, NextSign, Behind, standingsFrom, standingOf, SignStands}
-use Rattle.signs.specs.Expected.{Then, codeOf, behindMark, MarkBehind, MarkNext, nameOr, behindName, NameBehind, NameNext, relationOr, behindRelation, RelationBehind, RelationNext, truthOr, behindValue, ValueBehind, valueStanding, ValueNext}
+use Rattle.signs.specs.Reads.{signOf, signsFrom, first, firstOf, NextSign, Behind, standingsFrom, standingOf, SignStands}
+use Rattle.signs.specs.Expected.{Then, codeOf, behindMark, MarkNext, nameOr, behindName, NameNext, relationOr, behindRelation, RelationNext, truthOr, behindValue, valueStanding, ValueNext}
 use Rattle.signs.proofs.MarkLaws.{same-marks}
-use Rattle.signs.proofs.SignLaws.{wordy-sign}
 
 -- a broken sign is never what is expected
 pub expect-first : {B : Type 0} (m : Bytes) (ts : List Sign) (f : List Sign → Maybe B) → expect m ts f ≡ andThen (first ts) (λ x. pick (isMark m (x .sign)) (f (x .rest)) nothing)
@@ -134,58 +132,39 @@ code-quiet o (sign.Text p) c h e = absurd (omega arith)
 code-quiet o (sign.Mark m) c h e = refl
 
 -- a mark that is expected
-module _ (chain close : Bool) (s : Bytes) (from c : ℕ) (p : 0 < c) where
-  pub mark-end : (r : SignRead) → NextSign chain close s from r → r ≡ read.None → MarkNext chain close s from c end.None
-  unfolding firstOf behindMark andThen
-  mark-end r h e = record { reads = expect-first (markBytes c) (signsFrom chain close s from) just ∙ rw (h .reads, e); moves = tt; stands = λ o. tt }
+module _ (chain close : Bool) (s : Bytes) (from c : ℕ) where
+  pub mark-end : first (signsFrom chain close s from) ≡ nothing → MarkNext chain close s from c end.None
+  unfolding behindMark andThen
+  mark-end h = record { reads = expect-first (markBytes c) (signsFrom chain close s from) just ∙ rw h; moves = tt; stands = λ o. tt }
 
-  module _ (r : SignRead) (h : NextSign chain close s from r) (t : SignData) (q : ℕ) (e : r ≡ read.Found t q) where
-    mark-stands : codeOf t ≡ c → (o : Bracket) → standingsFrom o chain close s from ≡ standingsFrom (bracketOf (mark (markBytes c))) chain false s q
-    unfolding wordy
-    mark-stands k o = subst (SignStands o chain close s from) e (h .stands o) ∙ rw (code-quiet o t c p k, code-is s t c p k, chain-mark chain (markBytes c))
-
-    pub mark-met : codeOf t ≡ c → MarkNext chain close s from c (end.At q)
-    unfolding firstOf behindMark andThen wordy
-    mark-met k = record {
-      reads = expect-first (markBytes c) (signsFrom chain close s from) just ∙ rw (h .reads, e, code-mark s t c p, eq-eqb (codeOf t) c k, code-is s t c p k, chain-mark chain (markBytes c));
-      moves = subst (Behind from) e (h .moves);
-      stands = mark-stands k;
-    }
-
-    pub mark-other : (codeOf t ≡ c → ⊥) → MarkNext chain close s from c end.None
-    unfolding firstOf behindMark andThen
-    mark-other k = record { reads = expect-first (markBytes c) (signsFrom chain close s from) just ∙ rw (h .reads, e, code-mark s t c p, ne-eqb (codeOf t) c k); moves = tt; stands = λ o. tt }
+  pub mark-met : (q : ℕ) → NextSign chain close s from (read.Found (sign.Mark c) q) → MarkNext chain close s from c (end.At q)
+  unfolding firstOf behindMark andThen signOf standingOf isMark wordy
+  mark-met q h = record {
+    reads = expect-first (markBytes c) (signsFrom chain close s from) just ∙ rw (h .reads, same-marks c c, eq-eqb c c refl, chain-mark chain (markBytes c));
+    moves = h .moves;
+    stands = λ o. h .stands o ∙ rw (chain-mark chain (markBytes c));
+  }
 
 -- a name that is expected
 module _ (chain close : Bool) (s : Bytes) (from : ℕ) where
   abbrev named : Bytes → List Sign → Maybe (Then Bytes)
   named v ts = just (record { got = v; rest = ts })
 
-  pub name-end : (r : SignRead) → NextSign chain close s from r → r ≡ read.None → NameNext chain close s from name.None
-  unfolding firstOf behindName andThen signName
-  name-end r h e = record { reads = next-first signName (signsFrom chain close s from) named refl ∙ rw (h .reads, e); moves = tt; stands = λ o. tt }
+  pub name-end : first (signsFrom chain close s from) ≡ nothing → NameNext chain close s from name.None
+  unfolding behindName andThen signName
+  name-end h = record { reads = next-first signName (signsFrom chain close s from) named refl ∙ rw h; moves = tt; stands = λ o. tt }
 
-  module _ (r : SignRead) (h : NextSign chain close s from r) (q : ℕ) where
-    pub name-other : (t : SignData) → signName (signOf s t) ≡ nothing → r ≡ read.Found t q → NameNext chain close s from name.None
-    unfolding firstOf behindName andThen signName
-    name-other t k e = record { reads = next-first signName (signsFrom chain close s from) named refl ∙ rw (h .reads, e, k); moves = tt; stands = λ o. tt }
-
-    name-stands : (p : Part) → r ≡ read.Found (sign.Word p) q → mem (nameAt s p) neverNames ≡ false → (o : Bracket)
-        → standingsFrom o chain close s from ≡ variableAt o p ++ standingsFrom none chain true s q
-    unfolding standingOf signOf wordy bracketOf isMark
-    name-stands p e k o = subst (SignStands o chain close s from) e (h .stands o) ∙ rw (chain-name chain (nameAt s p) k)
-
-    pub name-met : (p : Part) → r ≡ read.Found (sign.Word p) q → NameNext chain close s from (nameOr s p q)
-    unfolding nameOr signName signOf nameOf firstOf behindName andThen wordy
-    name-met p e = go (mem (nameAt s p) neverNames) refl
-      where
-        go : (x : Bool) → mem (nameAt s p) neverNames ≡ x → NameNext chain close s from (pick (not x) (name.Found p q) name.None)
-        go true k = name-other (sign.Word p) (rw k) e
-        go false k = record {
-          reads = next-first signName (signsFrom chain close s from) named refl ∙ rw (h .reads, e, k, chain-name chain (nameAt s p) k);
-          moves = subst (Behind from) e (h .moves);
-          stands = name-stands p e k;
-        }
+  pub name-met : (p : Part) (q : ℕ) → NextSign chain close s from (read.Found (sign.Word p) q) → NameNext chain close s from (nameOr s p q)
+  unfolding nameOr signName signOf nameOf firstOf behindName andThen standingOf wordy bracketOf isMark
+  name-met p q h = go (mem (nameAt s p) neverNames) refl
+    where
+      go : (x : Bool) → mem (nameAt s p) neverNames ≡ x → NameNext chain close s from (pick (not x) (name.Found p q) name.None)
+      go true k = record { reads = next-first signName (signsFrom chain close s from) named refl ∙ rw (h .reads, k); moves = tt; stands = λ o. tt }
+      go false k = record {
+        reads = next-first signName (signsFrom chain close s from) named refl ∙ rw (h .reads, k, chain-name chain (nameAt s p) k);
+        moves = h .moves;
+        stands = λ o. h .stands o ∙ rw (chain-name chain (nameAt s p) k);
+      }
 
 -- a relation that is expected
 abbrev related : Relation → List Sign → Maybe (Then Relation)

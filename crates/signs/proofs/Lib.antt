@@ -2,3 +2,4 @@ pub mod MarkLaws
 pub mod SignLaws
 pub mod PlacedLaws
 pub mod ExpectLaws
+pub mod FrontLaws

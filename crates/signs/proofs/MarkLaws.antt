@@ -103,7 +103,7 @@ mark-single b l e =
     let m : 40 ≤ b = leb→le 40 b (and-iff (memℕ b singles) (leb 40 b) .1 t .1) in
     rw (ne-eqb b 0 (λ z. omega arith), lt-ltb b 256 l)
 
-abbrev noSign : Got Sign
+abbrev pub noSign : Got Sign
 noSign = record { got = broken; size = 1 }
 
 singles-at : (b : ℕ) (t : Bytes) (ns : List ℕ) → markAt (map (λ n. n ∷ []) ns) (b ∷ t) ≡ pick (memℕ b ns) (record { got = mark (b ∷ []); size = 1 }) noSign

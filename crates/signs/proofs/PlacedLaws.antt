@@ -18,14 +18,14 @@ use Rattle.model.specs.declared.Part.{Part}
 use Rattle.model.proofs.Standings.{placed-skip}
 use Rattle.text.specs.Places.{peekAt, past, endOf, wordTo, textTo}
 use Rattle.text.specs.declared.End.the-variants as end
-use Rattle.text.proofs.PlaceLaws.{drop-peek}
+use Rattle.text.proofs.PlaceLaws.{drop-peek, past-on}
 use Rattle.text.proofs.WordLaws.{word-read}
 use Rattle.text.proofs.QuoteLaws.{text-read}
 use Rattle.signs.specs.declared.Sign.{Sign as SignData}
 use Rattle.signs.specs.declared.Sign.the-variants as sign
 use Rattle.signs.specs.declared.SignRead.the-variants as read
-use Rattle.signs.specs.Reads.{isBlank, isWordy, signOf, gotOf, standingsFrom, standingOf, PartAt}
-use Rattle.signs.proofs.SignLaws.{and-false, and-true, nil-length, no-blank, wordy-sign, sign-behind}
+use Rattle.signs.specs.Reads.{isBlank, isWordy, signOf, gotOf, standingsFrom, standingOf, PartAt, NextSign}
+use Rattle.signs.proofs.SignLaws.{and-false, and-true, nil-length, no-blank, wordy-sign, sign-behind, sign-first}
 
 -- a word is as long as its sign; a text value lacks its apostrophes
 word-long : (t : Bytes) (g : Got Bytes) → wordAt t ≡ just g → g .size ≡ length (g .got)
@@ -109,3 +109,10 @@ module _ (chain close : Bool) (s : Bytes) (from at : ℕ) (p : at ≡ past isBla
     pub sign-stands : PartAt s at t → (o : Bracket) → standingsFrom o chain close s from ≡ standingOf o t ++ standingsFrom (bracketOf x) (chainBehind chain x) (wordy x) s q
     unfolding standings
     sign-stands k o = ap (standings o) placed-first ∙ ap (λ l. standingAt x o at ++ standings (bracketOf x) l) placed-rest ∙ ap (λ l. l ++ standingsFrom (bracketOf x) (chainBehind chain x) (wordy x) s q) (part-standing s at o t k)
+
+    pub next-found : PartAt s at t → NextSign chain close s from (read.Found t q)
+    next-found k = record {
+      reads = sign-first chain close s from at p l t q e h;
+      moves = omega (arith, sign-behind chain close s from at p l t q e, p, past-on isBlank s from);
+      stands = sign-stands k;
+    }

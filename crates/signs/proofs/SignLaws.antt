@@ -170,7 +170,7 @@ module _ (chain close : Bool) (s : Bytes) (from at : ℕ) (p : at ≡ past isBla
     unfolding isBlank
     no-blank = rw p (past-test isBlank s from refl)
 
-    sign-at : signsFrom chain close s from ≡ (let g = signAt chain (peekAt s at) (drop (at + 1) s) in
+    pub sign-at : signsFrom chain close s from ≡ (let g = signAt chain (peekAt s at) (drop (at + 1) s) in
         pick (near && wordy (g .got)) broken (g .got) ∷ signs (chainBehind chain (g .got)) (wordy (g .got)) (g .size - 1) (drop (at + 1) s))
     unfolding signs
     sign-at = rw (blanks-at, drop-peek s at l, no-blank)

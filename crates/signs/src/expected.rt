@@ -8,13 +8,16 @@ use crate::RelationRead;
 use crate::Sign;
 use crate::SignRead;
 use crate::ValueRead;
+use crate::kinds;
 use crate::marks;
 use crate::reading;
 use model::Part;
 use model::Relation;
 use model::Value;
 use text::End;
+use text::bytes;
 use text::compare;
+use text::words;
 
 // The length bytes from a place on, as that very part of the text; fewer at its end.
 pub fn part(s: &[u8], start: usize, length: usize) -> &[u8]
@@ -43,18 +46,22 @@ pub fn mark_code(t: Sign) -> usize
     }
 }
 
-// The place behind a mark that is expected next.
+// The place behind a mark that is expected next. Its bytes decide, but for a minus before a digit: that is a number.
 pub fn mark_next(s: &[u8], from: usize, chain: bool, close: bool, code: usize) -> End
     requires { ⌜ 0 < code ⌝ }
     ensures { λ r. ⌜ MarkNext chain close (now (s .entry)) from code r ⌝ }
 {
-    let SignRead::Found(t, q) = reading::next_sign(s, from, chain, close) else {
+    let at = kinds::blanks_end(s, from);
+    if s.len() <= at {
         return End::None;
-    };
-    if mark_code(t) == code {
-        return End::At(q);
     }
-    End::None
+    if marks::mark_at(s, at, chain) != code {
+        return End::None;
+    }
+    if kinds::starts_number(s, at) {
+        return End::None;
+    }
+    End::At(at + marks::mark_size(code))
 }
 
 // A word that is a name, and the place behind it.
@@ -69,19 +76,28 @@ fn name_or(s: &[u8], p: Part, q: usize) -> NameRead
     NameRead::None
 }
 
-// The name that is expected next.
+// The name that is expected next. Its first byte decides: a word begins with a letter, and no other sign does.
 pub fn name_next(s: &[u8], from: usize, chain: bool, close: bool) -> NameRead
     ensures { λ r. ⌜ NameNext chain close (now (s .entry)) from r ⌝ }
 {
-    let SignRead::Found(t, q) = reading::next_sign(s, from, chain, close) else {
+    let at = kinds::blanks_end(s, from);
+    if !bytes::is_letter(bytes::peek(s, at)) {
+        return NameRead::None;
+    }
+    let End::At(q) = words::word(s, at) else {
         return NameRead::None;
     };
-    match t {
-        Sign::Word(p) => name_or(s, p, q),
-        Sign::Whole(_) => NameRead::None,
-        Sign::Text(_) => NameRead::None,
-        Sign::Mark(_) => NameRead::None,
+    if kinds::touches(close, from, at) {
+        return NameRead::None;
     }
+    name_or(
+        s,
+        Part {
+            start: at,
+            length: q - at,
+        },
+        q,
+    )
 }
 
 // The relation that a code is, and the place behind it.

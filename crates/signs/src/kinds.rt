@@ -59,14 +59,21 @@ pub fn is_wordy(t: Sign) -> bool
     }
 }
 
-// A word or a number stands right behind another.
-pub fn adjoins(close: bool, from: usize, at: usize, t: Sign) -> bool
-    ensures { λ r. ⌜ r ≡ (close && eqb at from && isWordy t) ⌝ }
+// A place lies right behind a word or number.
+pub fn touches(close: bool, from: usize, at: usize) -> bool
+    ensures { λ r. ⌜ r ≡ (close && eqb at from) ⌝ }
 {
     if !close {
         return false;
     }
-    if at != from {
+    at == from
+}
+
+// A word or a number stands right behind another.
+pub fn adjoins(close: bool, from: usize, at: usize, t: Sign) -> bool
+    ensures { λ r. ⌜ r ≡ (close && eqb at from && isWordy t) ⌝ }
+{
+    if !touches(close, from, at) {
         return false;
     }
     is_wordy(t)

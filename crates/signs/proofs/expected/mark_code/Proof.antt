@@ -6,38 +6,30 @@ use Rattle.signs.proofs.expected.mark_code.Tie as tie
 use Rattle.signs.proofs.expected.mark_code.Reads as reads
 use Rattle.signs.proofs.expected.mark_code.Lts as lts
 
--- src/expected.rt:39:26
 enum-told : tie.Need-enum-told
 enum-told c = search needs
 
--- src/expected.rt:40:27
 enum-told-2 : tie.Need-enum-told-2
 enum-told-2 c = search needs
 
--- src/expected.rt:41:26
 enum-told-3 : tie.Need-enum-told-3
 enum-told-3 c = search needs
 
--- src/expected.rt:42:20
 enum-known-t : tie.Need-enum-known-t
 enum-known-t c = search needs
 
--- src/expected.rt:35:1
 returns : tie.Need-returns
 unfolding codeOf
 returns c = sym (ap codeOf (c .enum-told .given .1))
 
--- src/expected.rt:35:1
 returns-2 : tie.Need-returns-2
 unfolding codeOf
 returns-2 c = sym (ap codeOf (c .enum-told2 .given .1))
 
--- src/expected.rt:35:1
 returns-3 : tie.Need-returns-3
 unfolding codeOf
 returns-3 c = sym (ap codeOf (c .enum-told3 .given .1))
 
--- src/expected.rt:35:1
 returns-4 : tie.Need-returns-4
 unfolding codeOf
 returns-4 c = sym (ap codeOf (c .before .t .given .1))

@@ -12,20 +12,16 @@ use Rattle.signs.proofs.expected.name_or.Lts as lts
 use Rattle.signs.proofs.expected.part.Reads as part-reads
 use Rattle.text.proofs.compare.is_name.Reads as is-name-reads
 
--- src/expected.rt:66:25
 part-requires : tie.Need-part-requires
 part-requires c κs = search needs
 
--- src/expected.rt:66:8
 is-name-requires : tie.Need-is-name-requires
 is-name-requires c κs = search needs
 
--- src/expected.rt:67:9
 returns : tie.Need-returns
 unfolding nameOr nameAt
 returns c = rw (ap (λ w. not (mem w neverNames)) (sym (c .before .before .part .ensures)) ∙ sym (c .before .is-name .ensures) ∙ c .if1 .taken)
 
--- src/expected.rt:61:1
 returns-2 : tie.Need-returns-2
 unfolding nameOr nameAt
 returns-2 c = rw (ap (λ w. not (mem w neverNames)) (sym (c .before .before .part .ensures)) ∙ sym (c .before .is-name .ensures) ∙ c .if1 .left)

@@ -11,54 +11,42 @@ use Rattle.signs.proofs.expected.part.Tie as tie
 use Rattle.signs.proofs.expected.part.Reads as reads
 use Rattle.signs.proofs.expected.part.Lts as lts
 
--- src/expected.rt:11:22
 sub-if2 : tie.Need-sub-if2
 sub-if2 c = search needs
 
--- src/expected.rt:12:23
 add-result : tie.Need-add-result
 add-result c = search needs
 
--- src/expected.rt:12:13
 sub-result : tie.Need-sub-result
 sub-result c = search needs
 
--- src/expected.rt:12:13
 part-result-start : tie.Need-part-result-start
 part-result-start c = search needs
 
--- src/expected.rt:12:13
 part-result-end : tie.Need-part-result-end
 part-result-end c = search needs
 
--- src/expected.rt:14:13
 sub-result-2 : tie.Need-sub-result-2
 sub-result-2 c = search needs
 
--- src/expected.rt:14:13
 part-result-start-2 : tie.Need-part-result-start-2
 part-result-start-2 c = search needs
 
--- src/expected.rt:14:13
 part-result-end-2 : tie.Need-part-result-end-2
 part-result-end-2 c = search needs
 
--- src/expected.rt:17:9
 slice-aggregate-result : tie.Need-slice-aggregate-result
 slice-aggregate-result c = search needs
 
--- src/expected.rt:7:1
 returns : tie.Need-returns
 unfolding partOf
 returns c = let a = c .before .before .before .args in
     ap (λ (k : ℕ). take k (drop (a .start) (now (a .s)))) (add-sub-cancel-left (a .start) (a .length))
 
--- src/expected.rt:7:1
 returns-2 : tie.Need-returns-2
 unfolding partOf
 returns-2 c = part-long (c .before .before .before .args .s .now) (c .before .before .before .args .start) (c .before .before .before .args .length) (c .before .if2 .left)
 
--- src/expected.rt:7:1
 returns-3 : tie.Need-returns-3
 unfolding partOf
 returns-3 c = part-none (c .before .before .args .s .now) (c .before .before .args .start) (c .before .before .args .length) (c .before .if1 .left)

@@ -11,31 +11,24 @@ use Rattle.signs.proofs.expected.mark_code.Reads as mark-code-reads
 use Rattle.signs.proofs.expected.relation_or.Reads as relation-or-reads
 use Rattle.signs.proofs.reading.next_sign.Reads as next-sign-reads
 
--- src/expected.rt:116:33
 next-sign-requires : tie.Need-next-sign-requires
 next-sign-requires c κs = search needs
 
--- src/expected.rt:116:25
 enum-known-t : tie.Need-enum-known-t
 enum-known-t c = search needs
 
--- src/expected.rt:117:9
 enum-told : tie.Need-enum-told
 enum-told c = search needs
 
--- src/expected.rt:117:9
 returns : tie.Need-returns
 returns c = relation-end (c .before .before .before .before .args .close) (c .before .before .before .before .args .s .now) (c .before .before .before .before .args .from) (c .before .before .next-sign .result) (c .before .before .next-sign .ensures) (c .enum-told .given .1)
 
--- src/expected.rt:119:17
 mark-code-requires : tie.Need-mark-code-requires
 mark-code-requires c κs = search needs
 
--- src/expected.rt:119:5
 relation-or-requires : tie.Need-relation-or-requires
 relation-or-requires c κs = search needs
 
--- src/expected.rt:113:1
 returns-2 : tie.Need-returns-2
 returns-2 c = subst (λ r. RelationNext (c .before .before .before .before .before .before .before .args .close) (c .before .before .before .before .before .before .before .args .s .now) (c .before .before .before .before .before .before .before .args .from) r) (sym (c .relation-or .ensures ∙ ap (λ (n : ℕ). relationOr n (c .before .before .before .t .given .0 .1 .0)) (c .before .mark-code .ensures))) (relation-met (c .before .before .before .before .before .before .before .args .close) (c .before .before .before .before .before .before .before .args .s .now) (c .before .before .before .before .before .before .before .args .from) (c .before .before .before .before .before .next-sign .result) (c .before .before .before .before .before .next-sign .ensures) (c .before .before .before .t .given .0 .0) (c .before .before .before .t .given .0 .1 .0) (c .before .before .before .t .given .1))
 

@@ -10,37 +10,29 @@ use Rattle.signs.proofs.expected.truth_or.Lts as lts
 use Rattle.signs.proofs.expected.part.Reads as part-reads
 use Rattle.text.proofs.compare.same_bytes.Reads as same-bytes-reads
 
--- src/expected.rt:128:9
 part-requires : tie.Need-part-requires
 part-requires c κs = search needs
 
--- src/expected.rt:129:34
 slice-aggregate-same-bytes : tie.Need-slice-aggregate-same-bytes
 slice-aggregate-same-bytes c = search needs
 
--- src/expected.rt:129:8
 same-bytes-requires : tie.Need-same-bytes-requires
 same-bytes-requires c κs = search needs
 
--- src/expected.rt:130:9
 returns : tie.Need-returns
 unfolding truthOr nameAt
 returns c = rw (ap (λ w. same w (bytesOf "true")) (sym (c .before .before .before .part .ensures)) ∙ sym (c .before .same-bytes .ensures) ∙ c .if1 .taken)
 
--- src/expected.rt:132:34
 slice-aggregate-same-bytes-2 : tie.Need-slice-aggregate-same-bytes-2
 slice-aggregate-same-bytes-2 c = search needs
 
--- src/expected.rt:132:8
 same-bytes-requires-2 : tie.Need-same-bytes-requires-2
 same-bytes-requires-2 c κs = search needs
 
--- src/expected.rt:133:9
 returns-2 : tie.Need-returns-2
 unfolding truthOr nameAt
 returns-2 c = rw (ap (λ w. same w (bytesOf "true")) (sym (c .before .before .before .before .before .before .part .ensures)) ∙ sym (c .before .before .before .before .same-bytes .ensures) ∙ c .before .before .before .if1 .left, ap (λ w. same w (bytesOf "false")) (sym (c .before .before .before .before .before .before .part .ensures)) ∙ sym (c .before .same-bytes2 .ensures) ∙ c .if2 .taken)
 
--- src/expected.rt:123:1
 returns-3 : tie.Need-returns-3
 unfolding truthOr nameAt
 returns-3 c = rw (ap (λ w. same w (bytesOf "true")) (sym (c .before .before .before .before .before .before .part .ensures)) ∙ sym (c .before .before .before .before .same-bytes .ensures) ∙ c .before .before .before .if1 .left, ap (λ w. same w (bytesOf "false")) (sym (c .before .before .before .before .before .before .part .ensures)) ∙ sym (c .before .same-bytes2 .ensures) ∙ c .if2 .left)

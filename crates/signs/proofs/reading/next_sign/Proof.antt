@@ -1,11 +1,7 @@
-use Rattle.signs.proofs.PlacedLaws.{sign-stands}
+use Rattle.signs.proofs.PlacedLaws.{next-found}
 use Rattle.signs.specs.declared.SignRead.{SignRead}
-use Rattle.signs.specs.Reads.{ReadPartAt}
-use Rattle.signs.proofs.SignLaws.{none-left, sign-none, sign-close, sign-first, sign-behind}
-use Rattle.signs.specs.Reads.{isBlank, gotOf, firstOf}
-use Rattle.text.proofs.PlaceLaws.{past-on}
-use native.Mathlib.Omega.{arith}
-use mathlib.Core.Bool.{true, false}
+use Rattle.signs.proofs.SignLaws.{none-left, sign-none, sign-close}
+use Rattle.signs.specs.Reads.{gotOf, ReadPartAt, firstOf}
 use mathlib.Core.Path.{sym, ap, _∙_, subst}
 use borrow.Author.Needs.{needs}
 use Rattle.signs.proofs.reading.next_sign.Statement.{statement}
@@ -53,10 +49,7 @@ returns-3 c = record { reads = sign-close (c .before .before .before .before .be
 
 -- src/reading.rt:95:1
 returns-4 : tie.Need-returns-4
-returns-4 c = let e = ap (gotOf (c .before .before .before .before .before .before .before .before .before .args .s .now) (c .before .before .before .before .before .before .before .blanks-end .result)) (sym (c .before .before .before .t .given .1)) ∙ c .before .before .before .before .before .sign-at .ensures .got in
-    let l = sign-behind (c .before .before .before .before .before .before .before .before .before .args .chain) (c .before .before .before .before .before .before .before .before .before .args .close) (c .before .before .before .before .before .before .before .before .before .args .s .now) (c .before .before .before .before .before .before .before .before .before .args .from) (c .before .before .before .before .before .before .before .blanks-end .result) (c .before .before .before .before .before .before .before .blanks-end .ensures) (c .before .before .before .before .before .before .if1 .left) (c .before .before .before .t .given .0 .0) (c .before .before .before .t .given .0 .1 .0) e in
-    let part = subst (λ (r : SignRead). ReadPartAt (c .before .before .before .before .before .before .before .before .before .args .s .now) (c .before .before .before .before .before .before .before .blanks-end .result) r) (c .before .before .before .t .given .1) (c .before .before .before .before .before .sign-at .ensures .part) in
-    record { reads = sign-first (c .before .before .before .before .before .before .before .before .before .args .chain) (c .before .before .before .before .before .before .before .before .before .args .close) (c .before .before .before .before .before .before .before .before .before .args .s .now) (c .before .before .before .before .before .before .before .before .before .args .from) (c .before .before .before .before .before .before .before .blanks-end .result) (c .before .before .before .before .before .before .before .blanks-end .ensures) (c .before .before .before .before .before .before .if1 .left) (c .before .before .before .t .given .0 .0) (c .before .before .before .t .given .0 .1 .0) e (sym (c .before .adjoins .ensures) ∙ c .if2 .left); moves = omega (arith, l, c .before .before .before .before .before .before .before .blanks-end .ensures, past-on isBlank (c .before .before .before .before .before .before .before .before .before .args .s .now) (c .before .before .before .before .before .before .before .before .before .args .from)); stands = sign-stands (c .before .before .before .before .before .before .before .before .before .args .chain) (c .before .before .before .before .before .before .before .before .before .args .close) (c .before .before .before .before .before .before .before .before .before .args .s .now) (c .before .before .before .before .before .before .before .before .before .args .from) (c .before .before .before .before .before .before .before .blanks-end .result) (c .before .before .before .before .before .before .before .blanks-end .ensures) (c .before .before .before .before .before .before .if1 .left) (c .before .before .before .t .given .0 .0) (c .before .before .before .t .given .0 .1 .0) e (sym (c .before .adjoins .ensures) ∙ c .if2 .left) part }
+returns-4 c = next-found (c .before .before .before .before .before .before .before .before .before .args .chain) (c .before .before .before .before .before .before .before .before .before .args .close) (c .before .before .before .before .before .before .before .before .before .args .s .now) (c .before .before .before .before .before .before .before .before .before .args .from) (c .before .before .before .before .before .before .before .blanks-end .result) (c .before .before .before .before .before .before .before .blanks-end .ensures) (c .before .before .before .before .before .before .if1 .left) (c .before .before .before .t .given .0 .0) (c .before .before .before .t .given .0 .1 .0) (ap (gotOf (c .before .before .before .before .before .before .before .before .before .args .s .now) (c .before .before .before .before .before .before .before .blanks-end .result)) (sym (c .before .before .before .t .given .1)) ∙ c .before .before .before .before .before .sign-at .ensures .got) (sym (c .before .adjoins .ensures) ∙ c .if2 .left) (subst (λ (r : SignRead). ReadPartAt (c .before .before .before .before .before .before .before .before .before .args .s .now) (c .before .before .before .before .before .before .before .blanks-end .result) r) (c .before .before .before .t .given .1) (c .before .before .before .before .before .sign-at .ensures .part))
 
 pub next-sign-spec : {M : Type 1} → statement M
 next-sign-spec =
