@@ -2,7 +2,7 @@
 use Prim.Native.Nat.{ℕ, zero, suc, _+_, _≤_, _<_}
 use mathlib.Core.Path.{_≡_, refl, ap, _∙_}
 use mathlib.Core.List.{[], _∷_}
-use mathlib.Core.Bool.{Bool, true, false, not, _&&_}
+use mathlib.Core.Bool.{Bool, true, false, not, _&&_, _||_}
 use native.Mathlib.Omega.{arith}
 use lib.ListN.{length, getD, drop}
 use lib.Dec.{ltb, eqb}
@@ -13,7 +13,7 @@ use Rattle.model.specs.Lists.{any}
 use Rattle.model.specs.Names.{mem}
 use Rattle.model.specs.Forms.{neverNames, nameOf}
 use Rattle.text.specs.declared.Order.the-variants.{Less, Equal, Greater}
-use Rattle.text.specs.Compare.{compareBytes, sameNear}
+use Rattle.text.specs.Compare.{beginsOneOfSix, compareBytes, sameNear}
 use Rattle.text.proofs.PlaceLaws.{drop-at, drop-end}
 
 -- texts of different lengths differ
@@ -133,6 +133,38 @@ name-by-length w h =
       same-lengths w (bytesOf "Return") (h 6 (omega arith) (omega arith)),
       same-lengths w (bytesOf "true") (h 4 (omega arith) (omega arith)),
       same-lengths w (bytesOf "false") (h 5 (omega arith) (omega arith)),
+    )
+
+-- texts that begin with different bytes differ
+pub same-firsts : (a b : Bytes) → 0 < length b → eqb (getD a 0 0) (getD b 0 0) ≡ false → same a b ≡ false
+unfolding same
+same-firsts [] [] l e = absurd (omega (arith, l))
+same-firsts [] (y ∷ b) l e = refl
+same-firsts (x ∷ a) [] l e = refl
+same-firsts (x ∷ a) (y ∷ b) l e = rw e refl
+
+-- neither of two tests holds
+neither : (a b : Bool) → a || b ≡ false → (a ≡ false) × (b ≡ false)
+neither false false h = (refl, refl)
+neither false true h = let z : _≡_ {A = ℕ} 0 1 = cc in absurd (omega arith)
+neither true b h = let z : _≡_ {A = ℕ} 0 1 = cc in absurd (omega arith)
+
+-- a word with another first byte than the six is none of them
+pub name-by-first : (w : Bytes) → beginsOneOfSix (getD w 0 0) ≡ false → true ≡ not (mem w neverNames)
+unfolding mem any neverNames beginsOneOfSix
+name-by-first w h =
+    let r5 = neither _ _ h in
+    let r4 = neither _ _ (r5 .0) in
+    let r3 = neither _ _ (r4 .0) in
+    let r2 = neither _ _ (r3 .0) in
+    let r1 = neither _ _ (r2 .0) in
+    rw (
+      same-firsts w (bytesOf "Match") (omega arith) (r1 .0),
+      same-firsts w (bytesOf "Where") (omega arith) (r1 .1),
+      same-firsts w (bytesOf "AND") (omega arith) (r2 .1),
+      same-firsts w (bytesOf "Return") (omega arith) (r3 .1),
+      same-firsts w (bytesOf "true") (omega arith) (r4 .1),
+      same-firsts w (bytesOf "false") (omega arith) (r5 .1),
     )
 
 -- a word is a name if it is none of the six

@@ -7,7 +7,7 @@ ghost use Rattle.model.specs.Bytes.{same};
 ghost use Rattle.model.specs.Names.{mem};
 ghost use Rattle.model.specs.Forms.{neverNames};
 ghost use Rattle.model.specs.Answers.{partOf};
-ghost use Rattle.text.specs.Compare.{compareBytes, sameNear};
+ghost use Rattle.text.specs.Compare.{beginsOneOfSix, compareBytes, sameNear};
 use crate::Order;
 
 // Whether two texts are the same bytes; compared four bytes at a time, and then one by one.
@@ -86,7 +86,7 @@ const SHORTEST: usize = 3;
 
 const LONGEST: usize = 6;
 
-// Whether a word is a name. Most words are told from the six that are never names by their length.
+// Whether a word is a name. Most words are told from the six that are never names by their length or their first byte.
 pub fn is_name(w: &[u8]) -> bool
     ensures { λ r. ⌜ r ≡ not (mem (now (w .entry)) neverNames) ⌝ }
 {
@@ -96,7 +96,17 @@ pub fn is_name(w: &[u8]) -> bool
     if LONGEST < w.len() {
         return true;
     }
-    is_none_of_six(w)
+    if begins_one_of_six(w[0]) {
+        return is_none_of_six(w);
+    }
+    true
+}
+
+// Whether one of the six words that are never names begins with a byte.
+fn begins_one_of_six(b: u8) -> bool
+    ensures { λ r. ⌜ r ≡ beginsOneOfSix b ⌝ }
+{
+    (b == b'M') | (b == b'W') | (b == b'A') | (b == b'R') | (b == b't') | (b == b'f')
 }
 
 // Whether a word is none of the six words that are never names.
