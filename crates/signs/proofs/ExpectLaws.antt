@@ -36,7 +36,7 @@ use Rattle.signs.specs.declared.ValueRead.{ValueRead}
 use Rattle.signs.specs.declared.ValueRead.the-variants as value
 use Rattle.signs.specs.Marks.{markBytes}
 use Rattle.signs.specs.Reads.{signOf, signsFrom, first, firstOf, NextSign, Behind, standingsFrom, standingOf, SignStands}
-use Rattle.signs.specs.Expected.{Then, codeOf, behindMark, MarkNext, nameOr, behindName, NameNext, relationOr, behindRelation, RelationNext, truthOr, behindValue, valueStanding, ValueNext}
+use Rattle.signs.specs.Expected.{Then, codeOf, behindMark, MarkNext, behindName, NameNext, relationOr, behindRelation, RelationNext, truthOr, behindValue, valueStanding, ValueNext}
 use Rattle.signs.proofs.MarkLaws.{same-marks}
 
 -- a broken sign is never what is expected
@@ -154,17 +154,18 @@ module _ (chain close : Bool) (s : Bytes) (from : ℕ) where
   unfolding behindName andThen signName
   name-end h = record { reads = next-first signName (signsFrom chain close s from) named refl ∙ rw h; moves = tt; stands = λ o. tt }
 
-  pub name-met : (p : Part) (q : ℕ) → NextSign chain close s from (read.Found (sign.Word p) q) → NameNext chain close s from (nameOr s p q)
-  unfolding nameOr signName signOf nameOf firstOf behindName andThen standingOf wordy bracketOf isMark
-  name-met p q h = go (mem (nameAt s p) neverNames) refl
-    where
-      go : (x : Bool) → mem (nameAt s p) neverNames ≡ x → NameNext chain close s from (pick (not x) (name.Found p q) name.None)
-      go true k = record { reads = next-first signName (signsFrom chain close s from) named refl ∙ rw (h .reads, k); moves = tt; stands = λ o. tt }
-      go false k = record {
-        reads = next-first signName (signsFrom chain close s from) named refl ∙ rw (h .reads, k, chain-name chain (nameAt s p) k);
-        moves = h .moves;
-        stands = λ o. h .stands o ∙ rw (chain-name chain (nameAt s p) k);
-      }
+  module _ (p : Part) (q : ℕ) (h : NextSign chain close s from (read.Found (sign.Word p) q)) where
+    pub name-met : mem (nameAt s p) neverNames ≡ false → NameNext chain close s from (name.Found p q)
+    unfolding signName signOf nameOf firstOf behindName andThen standingOf wordy bracketOf isMark
+    name-met k = record {
+      reads = next-first signName (signsFrom chain close s from) named refl ∙ rw (h .reads, k, chain-name chain (nameAt s p) k);
+      moves = h .moves;
+      stands = λ o. h .stands o ∙ rw (chain-name chain (nameAt s p) k);
+    }
+
+    pub name-never : mem (nameAt s p) neverNames ≡ true → NameNext chain close s from name.None
+    unfolding signName signOf nameOf firstOf behindName andThen
+    name-never k = record { reads = next-first signName (signsFrom chain close s from) named refl ∙ rw (h .reads, k); moves = tt; stands = λ o. tt }
 
 -- a relation that is expected
 abbrev related : Relation → List Sign → Maybe (Then Relation)

@@ -1,30 +1,34 @@
 -- What the first bytes of the next sign say of a mark or a name that is expected.
-use Prim.Native.Nat.{ℕ, _+_, _-_, _<_}
+use Prim.Native.Nat.{ℕ, _+_, _-_, _≤_, _<_}
 use mathlib.Core.Path.{_≡_, refl, sym, ap, _∙_}
 use mathlib.Core.Logic.{⊎-elim}
 use mathlib.Core.List.{List, [], _∷_}
 use mathlib.Core.Bool.{Bool, true, false, not, _&&_, _||_}
 use native.Mathlib.Omega.{arith}
-use lib.ListN.{length, drop}
-use lib.Dec.{eqb}
-use borrow.Author.Tests.{ne-eqb, eqb-true}
+use lib.ListN.{length, drop, length-drop}
+use lib.Dec.{eqb, leb}
+use borrow.Author.Tests.{ne-eqb, eqb-true, not-true, not-false}
 use Rattle.model.specs.Bytes.{Bytes}
 use Rattle.model.specs.Choice.{pick, Maybe, nothing, just, andThen}
 use Rattle.model.specs.Lists.{all}
-use Rattle.model.specs.Words.{Got, isLetter, isDigit, between, wordAt, wholeAt, textAt}
+use Rattle.model.specs.Names.{mem}
+use Rattle.model.specs.Forms.{neverNames}
+use Rattle.model.specs.Answers.{partOf, nameAt}
+use Rattle.model.specs.Words.{Got, isLetter, isDigit, between, isWordByte, run, wordAt, wholeAt, textAt}
 use Rattle.model.specs.Signs.{Sign, word, whole, text, mark, broken, isMark, marks, begins, markAt, orBroken, digitNext, signAt, signName, next, expect}
 use Rattle.text.specs.declared.End.the-variants as end
 use Rattle.text.specs.Places.{peekAt, past, endOf}
-use Rattle.text.proofs.PlaceLaws.{below-or-not, drop-peek, test-in}
+use Rattle.text.proofs.PlaceLaws.{below-or-not, drop-peek, run-length, test-in}
 use Rattle.signs.specs.declared.Sign.the-variants as sign
 use Rattle.signs.specs.declared.NameRead.the-variants as name
+use Rattle.signs.specs.declared.SignRead.the-variants as read
 use Rattle.signs.specs.Marks.{markBytes, markGot, markSize}
-use Rattle.signs.specs.Reads.{isBlank, isWordy}
-use Rattle.signs.specs.Expected.{behindMark, MarkNext, nameOr, behindName, NameNext}
+use Rattle.signs.specs.Reads.{isBlank, isWordy, NextSign}
+use Rattle.signs.specs.Expected.{behindMark, MarkNext, behindName, NameNext}
 use Rattle.signs.proofs.MarkLaws.{same-marks, noSign}
 use Rattle.signs.proofs.SignLaws.{and-false, and-true, none-left, sign-at, sign-none, sign-close, word-found, word-none, mark-found, sign-word}
 use Rattle.signs.proofs.PlacedLaws.{word-part, next-found}
-use Rattle.signs.proofs.ExpectLaws.{mark-met, name-end, name-met}
+use Rattle.signs.proofs.ExpectLaws.{mark-met, name-end, name-met, name-never}
 
 -- the first byte of a mark fails a test
 opensNot : (ℕ → Bool) → Bytes → Bool
@@ -152,11 +156,27 @@ module _ (chain close : Bool) (s : Bytes) (from at : ℕ) (p : at ≡ past isBla
     name-long e = name-end chain close s from (sign-none chain close s from at p inside (sign-word s at chain inside _ h (word-none s at e)))
 
     module _ (q : ℕ) (e : end.At q ≡ endOf at (wordAt (drop at s))) where
+      pub name-within : (at ≤ q) × (q ≤ length s)
+      unfolding wordAt endOf
+      name-within = go (leb (length (run isWordByte (drop at s))) 24) e
+        where
+          go : (x : Bool) → end.At q ≡ endOf at (pick x (just (record { got = run isWordByte (drop at s); size = length (run isWordByte (drop at s)) })) nothing) → (at ≤ q) × (q ≤ length s)
+          go true e = let z : q ≡ at + length (run isWordByte (drop at s)) = cc in (omega arith, omega (arith, inside, run-length isWordByte (drop at s), length-drop at s))
+          go false e = let z : _≡_ {A = ℕ} 0 1 = cc in absurd (omega arith)
+
       pub name-close : (close && eqb at from) ≡ true → NameNext chain close s from name.None
       unfolding isWordy
       name-close k = name-end chain close s from (sign-close chain close s from at p inside _ q (sign-word s at chain inside _ h (word-found s at q e)) (and-true _ ∙ k))
 
-      pub name-found : (close && eqb at from) ≡ false → NameNext chain close s from (nameOr s (record { start = at; length = q - at }) q)
-      unfolding isWordy
-      name-found k =
-          name-met chain close s from _ q (next-found chain close s from at p inside _ q (sign-word s at chain inside _ h (word-found s at q e)) (and-true _ ∙ k) (word-part s at q e))
+      module _ (k : (close && eqb at from) ≡ false) where
+        word-next : NextSign chain close s from (read.Found (sign.Word (record { start = at; length = q - at })) q)
+        unfolding isWordy
+        word-next = next-found chain close s from at p inside _ q (sign-word s at chain inside _ h (word-found s at q e)) (and-true _ ∙ k) (word-part s at q e)
+
+        pub name-found : not (mem (partOf s at (q - at)) neverNames) ≡ true → NameNext chain close s from (name.Found (record { start = at; length = q - at }) q)
+        unfolding nameAt
+        name-found i = name-met chain close s from _ q word-next (not-true _ i)
+
+        pub name-reserved : not (mem (partOf s at (q - at)) neverNames) ≡ false → NameNext chain close s from name.None
+        unfolding nameAt
+        name-reserved i = name-never chain close s from _ q word-next (not-false _ i)

@@ -18,7 +18,7 @@ use Rattle.model.specs.Signs.{Sign, word, whole, text, mark, broken, marks, mar
 use Rattle.model.specs.Graph.{Each}
 use Rattle.model.proofs.Skips.{signs-skip}
 use Rattle.text.specs.Places.{peekAt, past}
-use Rattle.text.proofs.PlaceLaws.{below-or-not, drop-peek, drop-end, peek-end, past-on, past-test}
+use Rattle.text.proofs.PlaceLaws.{below-or-not, drop-peek, drop-end, peek-end, past-test}
 use Rattle.model.specs.Answers.{nameAt}
 use Rattle.text.specs.declared.End.{End}
 use Rattle.text.specs.declared.End.the-variants as end

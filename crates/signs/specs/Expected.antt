@@ -2,12 +2,10 @@
 use Prim.Native.Nat.{ℕ, _<_}
 use mathlib.Core.Path.{_≡_}
 use mathlib.Core.List.{List, [], _∷_, _++_}
-use mathlib.Core.Bool.{Bool, true, false, not}
+use mathlib.Core.Bool.{Bool, true, false}
 use lib.Dec.{T, eqb}
 use Rattle.model.specs.Bytes.{Bytes, bytesOf, same}
 use Rattle.model.specs.Choice.{pick, Maybe, nothing, just}
-use Rattle.model.specs.Names.{mem}
-use Rattle.model.specs.Forms.{neverNames}
 use Rattle.model.specs.Values.{Value}
 use Rattle.model.specs.Signs.{Sign, mark, signName, signValue, next, expect}
 use Rattle.model.specs.QueryText.{Relation}
@@ -62,10 +60,6 @@ pub record MarkNext (chain close : Bool) (s : Bytes) (from code : ℕ) (r : End)
   pub reads : expect (markBytes code) (signsFrom chain close s from) just ≡ behindMark chain s r
   pub moves : MarkBehind from r
   pub stands : (o : Bracket) → MarkStands o chain close s from code r
-
--- a word that is a name, and the place behind it
-unfoldable pub nameOr : Bytes → Part → ℕ → NameRead
-nameOr s p q = pick (not (mem (nameAt s p) neverNames)) (name.Found p q) name.None
 
 -- a name and the signs behind it
 unfoldable pub behindName : Bool → Bytes → NameRead → Maybe (Then Bytes)

@@ -2,7 +2,7 @@
 ghost use mathlib.Core.Path.{_≡_};
 ghost use Prim.Native.Nat.{_<_};
 ghost use Rattle.model.specs.Answers.{partOf};
-ghost use Rattle.signs.specs.Expected.{codeOf, MarkNext, NameNext, RelationNext, ValueNext, nameOr, relationOr, truthOr};
+ghost use Rattle.signs.specs.Expected.{codeOf, MarkNext, NameNext, RelationNext, ValueNext, relationOr, truthOr};
 use crate::NameRead;
 use crate::RelationRead;
 use crate::Sign;
@@ -64,18 +64,6 @@ pub fn mark_next(s: &[u8], from: usize, chain: bool, close: bool, code: usize) -
     End::At(at + marks::mark_size(code))
 }
 
-// A word that is a name, and the place behind it.
-fn name_or(s: &[u8], p: Part, q: usize) -> NameRead
-    ensures { λ r. ⌜ r ≡ nameOr (now (s .entry)) p q ⌝ }
-{
-    let start = p.start;
-    let length = p.length;
-    if compare::is_name(part(s, start, length)) {
-        return NameRead::Found(p, q);
-    }
-    NameRead::None
-}
-
 // The name that is expected next. Its first byte decides: a word begins with a letter, and no other sign does.
 pub fn name_next(s: &[u8], from: usize, chain: bool, close: bool) -> NameRead
     ensures { λ r. ⌜ NameNext chain close (now (s .entry)) from r ⌝ }
@@ -90,14 +78,16 @@ pub fn name_next(s: &[u8], from: usize, chain: bool, close: bool) -> NameRead
     if kinds::touches(close, from, at) {
         return NameRead::None;
     }
-    name_or(
-        s,
-        Part {
-            start: at,
-            length: q - at,
-        },
-        q,
-    )
+    if compare::is_name(&s[at..q]) {
+        return NameRead::Found(
+            Part {
+                start: at,
+                length: q - at,
+            },
+            q,
+        );
+    }
+    NameRead::None
 }
 
 // The relation that a code is, and the place behind it.

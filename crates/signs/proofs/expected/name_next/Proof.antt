@@ -1,10 +1,10 @@
 -- `signs::expected::name_next` meets its contract.
-use Rattle.signs.proofs.FrontLaws.{name-other, name-long, name-close, name-found}
-use Rattle.signs.proofs.SignLaws.{end-behind}
-use Rattle.signs.specs.Expected.{NameNext}
+use Rattle.signs.proofs.FrontLaws.{name-other, name-long, name-within, name-close, name-found, name-reserved}
+use Rattle.model.specs.Answers.{partOf}
 use Rattle.model.specs.Words.{isLetter}
+use native.Mathlib.Omega.{arith}
 use borrow.Author.Tests.{not-true, not-false}
-use mathlib.Core.Path.{sym, ap, subst, _∙_}
+use mathlib.Core.Path.{sym, ap, _∙_}
 use borrow.Author.Needs.{needs}
 use Rattle.signs.proofs.expected.name_next.Statement.{statement}
 use Rattle.signs.proofs.expected.name_next.Tie as tie
@@ -39,14 +39,28 @@ touches-requires c κs = search needs
 returns-3 : tie.Need-returns-3
 returns-3 c = name-close (c .before .before .before .before .before .before .before .before .before .before .before .args .chain) (c .before .before .before .before .before .before .before .before .before .before .before .args .close) (c .before .before .before .before .before .before .before .before .before .before .before .args .s .now) (c .before .before .before .before .before .before .before .before .before .before .before .args .from) (c .before .before .before .before .before .before .before .before .before .blanks-end .result) (c .before .before .before .before .before .before .before .before .before .blanks-end .ensures) (ap isLetter (sym (c .before .before .before .before .before .before .before .before .peek .ensures)) ∙ sym (c .before .before .before .before .before .before .before .is-letter .ensures) ∙ not-false (c .before .before .before .before .before .before .before .is-letter .result) (c .before .before .before .before .before .before .if1 .left)) (c .before .before .before .q .given .0 .0) (sym (c .before .before .before .q .given .1) ∙ c .before .before .before .before .before .word .ensures) (sym (c .before .touches .ensures) ∙ c .if2 .taken)
 
-sub-t8 : tie.Need-sub-t8
-sub-t8 c = end-behind (c .before .before .before .before .before .before .before .before .before .blanks-end .result) (c .before .before .before .q .given .0 .0) _ (sym (c .before .before .before .q .given .1) ∙ c .before .before .before .before .before .word .ensures)
+sub-is-name : tie.Need-sub-is-name
+sub-is-name c = omega (arith, name-within (c .before .before .before .before .before .before .before .before .before .before .before .args .chain) (c .before .before .before .before .before .before .before .before .before .before .before .args .close) (c .before .before .before .before .before .before .before .before .before .before .before .args .s .now) (c .before .before .before .before .before .before .before .before .before .before .before .args .from) (c .before .before .before .before .before .before .before .before .before .blanks-end .result) (c .before .before .before .before .before .before .before .before .before .blanks-end .ensures) (ap isLetter (sym (c .before .before .before .before .before .before .before .before .peek .ensures)) ∙ sym (c .before .before .before .before .before .before .before .is-letter .ensures) ∙ not-false (c .before .before .before .before .before .before .before .is-letter .result) (c .before .before .before .before .before .before .if1 .left)) (c .before .before .before .q .given .0 .0) (sym (c .before .before .before .q .given .1) ∙ c .before .before .before .before .before .word .ensures))
 
-name-or-requires : tie.Need-name-or-requires
-name-or-requires c κs = search needs
+part-is-name-start : tie.Need-part-is-name-start
+part-is-name-start c = omega (arith, name-within (c .before .before .before .before .before .before .before .before .before .before .before .args .chain) (c .before .before .before .before .before .before .before .before .before .before .before .args .close) (c .before .before .before .before .before .before .before .before .before .before .before .args .s .now) (c .before .before .before .before .before .before .before .before .before .before .before .args .from) (c .before .before .before .before .before .before .before .before .before .blanks-end .result) (c .before .before .before .before .before .before .before .before .before .blanks-end .ensures) (ap isLetter (sym (c .before .before .before .before .before .before .before .before .peek .ensures)) ∙ sym (c .before .before .before .before .before .before .before .is-letter .ensures) ∙ not-false (c .before .before .before .before .before .before .before .is-letter .result) (c .before .before .before .before .before .before .if1 .left)) (c .before .before .before .q .given .0 .0) (sym (c .before .before .before .q .given .1) ∙ c .before .before .before .before .before .word .ensures))
+
+part-is-name-end : tie.Need-part-is-name-end
+part-is-name-end c = omega (arith, name-within (c .before .before .before .before .before .before .before .before .before .before .before .args .chain) (c .before .before .before .before .before .before .before .before .before .before .before .args .close) (c .before .before .before .before .before .before .before .before .before .before .before .args .s .now) (c .before .before .before .before .before .before .before .before .before .before .before .args .from) (c .before .before .before .before .before .before .before .before .before .blanks-end .result) (c .before .before .before .before .before .before .before .before .before .blanks-end .ensures) (ap isLetter (sym (c .before .before .before .before .before .before .before .before .peek .ensures)) ∙ sym (c .before .before .before .before .before .before .before .is-letter .ensures) ∙ not-false (c .before .before .before .before .before .before .before .is-letter .result) (c .before .before .before .before .before .before .if1 .left)) (c .before .before .before .q .given .0 .0) (sym (c .before .before .before .q .given .1) ∙ c .before .before .before .before .before .word .ensures))
+
+is-name-requires : tie.Need-is-name-requires
+is-name-requires c κs = search needs
+
+sub-t16 : tie.Need-sub-t16
+sub-t16 c = omega (arith, name-within (c .before .before .before .before .before .before .before .before .before .before .before .before .before .before .args .chain) (c .before .before .before .before .before .before .before .before .before .before .before .before .before .before .args .close) (c .before .before .before .before .before .before .before .before .before .before .before .before .before .before .args .s .now) (c .before .before .before .before .before .before .before .before .before .before .before .before .before .before .args .from) (c .before .before .before .before .before .before .before .before .before .before .before .before .blanks-end .result) (c .before .before .before .before .before .before .before .before .before .before .before .before .blanks-end .ensures) (ap isLetter (sym (c .before .before .before .before .before .before .before .before .before .before .before .peek .ensures)) ∙ sym (c .before .before .before .before .before .before .before .before .before .before .is-letter .ensures) ∙ not-false (c .before .before .before .before .before .before .before .before .before .before .is-letter .result) (c .before .before .before .before .before .before .before .before .before .if1 .left)) (c .before .before .before .before .before .before .q .given .0 .0) (sym (c .before .before .before .before .before .before .q .given .1) ∙ c .before .before .before .before .before .before .before .before .word .ensures))
 
 returns-4 : tie.Need-returns-4
-returns-4 c = subst (NameNext (c .before .before .before .before .before .before .before .before .before .before .before .before .args .chain) (c .before .before .before .before .before .before .before .before .before .before .before .before .args .close) (c .before .before .before .before .before .before .before .before .before .before .before .before .args .s .now) (c .before .before .before .before .before .before .before .before .before .before .before .before .args .from)) (sym (c .name-or .ensures)) (name-found (c .before .before .before .before .before .before .before .before .before .before .before .before .args .chain) (c .before .before .before .before .before .before .before .before .before .before .before .before .args .close) (c .before .before .before .before .before .before .before .before .before .before .before .before .args .s .now) (c .before .before .before .before .before .before .before .before .before .before .before .before .args .from) (c .before .before .before .before .before .before .before .before .before .before .blanks-end .result) (c .before .before .before .before .before .before .before .before .before .before .blanks-end .ensures) (ap isLetter (sym (c .before .before .before .before .before .before .before .before .before .peek .ensures)) ∙ sym (c .before .before .before .before .before .before .before .before .is-letter .ensures) ∙ not-false (c .before .before .before .before .before .before .before .before .is-letter .result) (c .before .before .before .before .before .before .before .if1 .left)) (c .before .before .before .before .q .given .0 .0) (sym (c .before .before .before .before .q .given .1) ∙ c .before .before .before .before .before .before .word .ensures) (sym (c .before .before .touches .ensures) ∙ c .before .if2 .left))
+unfolding partOf
+returns-4 c = name-found (c .before .before .before .before .before .before .before .before .before .before .before .before .before .before .args .chain) (c .before .before .before .before .before .before .before .before .before .before .before .before .before .before .args .close) (c .before .before .before .before .before .before .before .before .before .before .before .before .before .before .args .s .now) (c .before .before .before .before .before .before .before .before .before .before .before .before .before .before .args .from) (c .before .before .before .before .before .before .before .before .before .before .before .before .blanks-end .result) (c .before .before .before .before .before .before .before .before .before .before .before .before .blanks-end .ensures) (ap isLetter (sym (c .before .before .before .before .before .before .before .before .before .before .before .peek .ensures)) ∙ sym (c .before .before .before .before .before .before .before .before .before .before .is-letter .ensures) ∙ not-false (c .before .before .before .before .before .before .before .before .before .before .is-letter .result) (c .before .before .before .before .before .before .before .before .before .if1 .left)) (c .before .before .before .before .before .before .q .given .0 .0) (sym (c .before .before .before .before .before .before .q .given .1) ∙ c .before .before .before .before .before .before .before .before .word .ensures) (sym (c .before .before .before .before .touches .ensures) ∙ c .before .before .before .if2 .left) (sym (c .before .is-name .ensures) ∙ c .if3 .taken)
+
+returns-5 : tie.Need-returns-5
+unfolding partOf
+returns-5 c = name-reserved (c .before .before .before .before .before .before .before .before .before .before .before .before .before .before .args .chain) (c .before .before .before .before .before .before .before .before .before .before .before .before .before .before .args .close) (c .before .before .before .before .before .before .before .before .before .before .before .before .before .before .args .s .now) (c .before .before .before .before .before .before .before .before .before .before .before .before .before .before .args .from) (c .before .before .before .before .before .before .before .before .before .before .before .before .blanks-end .result) (c .before .before .before .before .before .before .before .before .before .before .before .before .blanks-end .ensures) (ap isLetter (sym (c .before .before .before .before .before .before .before .before .before .before .before .peek .ensures)) ∙ sym (c .before .before .before .before .before .before .before .before .before .before .is-letter .ensures) ∙ not-false (c .before .before .before .before .before .before .before .before .before .before .is-letter .result) (c .before .before .before .before .before .before .before .before .before .if1 .left)) (c .before .before .before .before .before .before .q .given .0 .0) (sym (c .before .before .before .before .before .before .q .given .1) ∙ c .before .before .before .before .before .before .before .before .word .ensures) (sym (c .before .before .before .before .touches .ensures) ∙ c .before .before .before .if2 .left) (sym (c .before .is-name .ensures) ∙ c .if3 .left)
 
 pub name-next-spec : {M : Type 1} → statement M
 name-next-spec =
@@ -62,6 +76,10 @@ name-next-spec =
     returns-2
     touches-requires
     returns-3
-    sub-t8
-    name-or-requires
-    returns-4)
+    sub-is-name
+    part-is-name-start
+    part-is-name-end
+    is-name-requires
+    sub-t16
+    returns-4
+    returns-5)
