@@ -117,17 +117,17 @@ marked chain b c t h e n = rw n (go (isLetter b) refl (eqb b 39) refl)
 module _ (chain close : Bool) (s : Bytes) (from at : ℕ) (p : at ≡ past isBlank s from) where
   -- another sign than the mark
   module _ (l : at < length s) (c : ℕ) where
-    unlike : isMark (markBytes c) (signAt chain (peekAt s at) (drop (at + 1) s) .got) ≡ false → MarkNext chain close s from c end.None
-    unfolding expect behindMark
-    unlike h = record { reads = rw (sign-at chain close s from at p l, or-close (isMark (markBytes c)) false (unfold isMark in refl) _ _ h); moves = tt; stands = λ o. tt }
+    unlike : ((isDigit (peekAt s at) || eqb (peekAt s at) 45 && digitNext (drop (at + 1) s)) ≡ false → isMark (markBytes c) (markAt (marks chain) (drop at s) .got) ≡ false) → MarkNext chain close s from c end.None
+    unfolding expect behindMark isMark
+    unlike h =
+        let k = each-kind (isMark (markBytes c)) false refl chain (peekAt s at) (drop (at + 1) s) (λ i a. refl) (λ a. refl) (λ a. refl) (λ n. rw (← drop-peek s at l) (h n)) in
+        record { reads = rw (sign-at chain close s from at p l, or-close (isMark (markBytes c)) false refl _ _ k); moves = tt; stands = λ o. tt }
 
     pub mark-other : (m : ℕ) → markGot m ≡ markAt (marks chain) (drop at s) → (m ≡ c → ⊥) → MarkNext chain close s from c end.None
-    unfolding isMark
-    mark-other m e h = unlike (each-kind (isMark (markBytes c)) false refl chain (peekAt s at) (drop (at + 1) s) (λ i a. refl) (λ a. refl) (λ a. refl) (λ n. rw (← drop-peek s at l, ← e) (other-code m c h)))
+    mark-other m e h = unlike (λ n. rw (← e) (other-code m c h))
 
     pub mark-number : (isDigit (peekAt s at) || eqb (peekAt s at) 45 && digitNext (drop (at + 1) s)) ≡ true → MarkNext chain close s from c end.None
-    unfolding isMark
-    mark-number h = unlike (each-kind (isMark (markBytes c)) false refl chain (peekAt s at) (drop (at + 1) s) (λ i a. refl) (λ a. refl) (λ a. refl) (λ n. let z : true ≡ false = sym h ∙ n in cc))
+    mark-number h = unlike (λ n. let z : true ≡ false = sym h ∙ n in cc)
 
     pub mark-next : 0 < c → (n : ℕ) → markGot c ≡ markAt (marks chain) (drop at s) → (isDigit (peekAt s at) || eqb (peekAt s at) 45 && digitNext (drop (at + 1) s)) ≡ false → n ≡ markSize c
         → MarkNext chain close s from c (end.At (at + n))
