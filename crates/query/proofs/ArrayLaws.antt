@@ -33,7 +33,10 @@ use Rattle.faults.specs.Names.{foundAt}
 use Rattle.faults.proofs.ScanLaws.{step-list}
 use Rattle.tables.specs.Listed.{listed}
 use Rattle.tables.proofs.ListedLaws.{map-end}
-use Rattle.query.specs.Parts.{Blank}
+
+-- the slots of an array of n past the first count hold one fixed value
+abbrev pub Blank : {A : Type 0} → ℕ → A → ℕ → List A → Type 0
+Blank n x count l = drop count l ≡ replicate (n - count) x
 
 -- the first elements of an array
 module _ {A : Type 0} where

@@ -5,25 +5,25 @@ use mathlib.Core.List.{List, [], _∷_, _++_, map, append-nil, append-assoc}
 use mathlib.Core.Bool.{Bool, true, false, _&&_}
 use native.Mathlib.Numerals.{add-one}
 use native.Mathlib.Omega.{arith}
-use lib.ListN.{length, take, getD, length-append, length-set}
+use lib.ListN.{length, take, getD, set, length-append, length-set}
 use lib.Seq.{take-suc-set}
 use lib.Dec.{T}
 use Rattle.model.specs.Bytes.{Bytes}
 use Rattle.model.specs.Choice.{pick}
-use Rattle.model.specs.Lists.{all, joined}
+use Rattle.model.specs.Lists.{joined}
 use Rattle.model.specs.Names.{mem, place}
 use Rattle.model.specs.Book.{Book, attrNames}
-use Rattle.model.specs.QueryText.{Condition, differ}
-use Rattle.model.specs.Pattern.{Clause, excluded, vertexHas, edgeHas, clauseOf}
+use Rattle.model.specs.QueryText.{Condition, differ, demand}
+use Rattle.model.specs.Pattern.{Clause, vertexHas, edgeHas, clauseOf}
 use Rattle.model.specs.Answers.{nameAt, relationOf, valueOf, clauseIn}
 use Rattle.model.specs.Places.{valuePart, valueParts}
+use Rattle.model.specs.PlainData.{noClause}
 use Rattle.model.specs.WholeAnswers.{firstPart, relationData, valueData, behindValue, clauseData, behindClause, clausesData}
 use Rattle.model.specs.declared.Part.{Part}
 use Rattle.model.specs.declared.Relation.{Relation as RelationData}
 use Rattle.model.specs.declared.Relation.the-variants.{Equal, Differs, Less, AtMost, Greater, AtLeast}
 use Rattle.model.specs.declared.Value.{Value as ValueData}
 use Rattle.model.specs.declared.Value.the-variants.{Number, Text, Truth}
-use Rattle.model.specs.declared.Requirement.{Requirement}
 use Rattle.model.specs.declared.Condition.{Condition as ConditionData}
 use Rattle.model.specs.declared.Condition.the-variants.{Excluded, OfVertex, OfEdge}
 use Rattle.model.specs.declared.Clause.{Clause as ClauseData}
@@ -34,24 +34,92 @@ use Rattle.tables.specs.Layout.{vattrNames, eattrNames}
 use Rattle.tables.specs.View.{bookAt}
 use Rattle.tables.proofs.NameLaws.{length-names, attr-names}
 use Rattle.pieces.specs.declared.Demand.{Demand}
-use Rattle.pieces.specs.declared.Piece.{Piece as PieceData}
 use Rattle.pieces.specs.declared.Place.{Place}
 use Rattle.pieces.specs.declared.Step.{Step}
 use Rattle.pieces.specs.declared.PieceRead.{PieceRead}
 use Rattle.pieces.specs.declared.PieceRead.the-variants as read
-use Rattle.pieces.specs.Named.{conditionIn, conditionsIn}
+use Rattle.pieces.specs.Named.{edgesIn, conditionIn, conditionsIn}
 use Rattle.pieces.specs.Steps.{pieceOf, pieceStanding, walkAt, StepAt}
 use Rattle.pieces.proofs.Tests.{joined-end}
 use Rattle.signs.specs.Expected.{valueStanding}
 use Rattle.faults.specs.Names.{foundAt, textStart, textPieces}
 use Rattle.faults.proofs.ScanLaws.{step-list, step-none}
 use Rattle.writer.specs.Writable.{Limits, ConditionFits}
-use Rattle.model.specs.PlainData.{noClause}
 use Rattle.query.specs.declared.clauses.Clauses.{Clauses}
-use Rattle.query.specs.Clauses.{known, demandOf, RequirementRead, conditionParts, ToldAs, AllTold, ConditionRead, clausesOf, valuePartsOf, noClauses, ClausesRead, ClauseAdded, PieceAdded}
-use Rattle.query.proofs.ArrayLaws.{taken-more, each-more, blank-more}
+use Rattle.query.specs.Clauses.{requirementIn, demandIn, noClauses}
+use Rattle.query.proofs.ArrayLaws.{Blank, length-taken, taken-more, each-more, blank-more}
 use Rattle.query.proofs.StandingLaws.{PartsSoFar, parts-start, parts-on, parts-all}
-use Rattle.query.proofs.VertexLaws.{place-known, place-new}
+use Rattle.query.proofs.VertexLaws.{vertexNamesIn}
+
+-- a condition names what is there: two vertices; or a vertex or an edge with an attribute that is declared for it
+unfoldable pub known : Book → List Bytes → List Bytes → Condition → Bool
+known b vs es (differ v u) = mem v vs && mem u vs
+known b vs es (demand x a r v) = pick (mem x vs) (mem a (attrNames (b .vattrs))) (mem x es && mem a (attrNames (b .eattrs)))
+
+-- the edge variables of a text, and the clauses that its conditions are
+abbrev pub textEdges : Bytes → List Bytes
+textEdges s = edgesIn (textPieces s)
+
+abbrev pub textClauses : Bytes → List Clause
+textClauses s = map (clauseOf (vertexNamesIn s) (textEdges s)) (conditionsIn (textPieces s))
+
+-- the condition that a requirement of a text is
+abbrev pub demandOf : Bytes → Demand → Condition
+demandOf s d = demand (nameAt s (d .subject)) (nameAt s (d .attribute)) (relationOf (d .relation)) (valueOf s (d .value))
+
+-- how many there are of what a text's conditions name by number
+abbrev pub textLimits : BookCounts → Bytes → Limits
+textLimits c s = record { vertices = length (vertexNamesIn s); edges = length (textEdges s); labels = c .labels; vattrs = c .vattrs; eattrs = c .eattrs }
+
+-- the part of a condition's text value
+unfoldable pub conditionParts : ConditionData → List Part
+conditionParts (Excluded u v) = []
+conditionParts (OfVertex v x) = joined valuePart (valueStanding (x .value))
+conditionParts (OfEdge e x) = joined valuePart (valueStanding (x .value))
+
+-- r is what a clause is as data, its text value at the first of some parts
+abbrev pub ToldAs : Book → Clause → ConditionData → Type 0
+ToldAs b c r = (ps : List Part) → (clauseData b (conditionParts r ++ ps) c ≡ r) × (behindClause (conditionParts r ++ ps) c ≡ ps)
+
+-- so each of a list
+unfoldable pub AllTold : Book → List Clause → List ClauseData → Type 0
+AllTold b [] [] = Unit {0}
+AllTold b [] (r ∷ rs) = ⊥
+AllTold b (c ∷ cs) [] = ⊥
+AllTold b (c ∷ cs) (r ∷ rs) = ToldAs b c (r .condition) × AllTold b cs rs
+
+-- r is a clause by numbers, its text value at these parts
+pub record ConditionRead (b : Book) (m : Limits) (s : Bytes) (c : Clause) (ps : List Part) (r : ConditionData) : Type 0 where
+  pub is : clauseIn b s r ≡ c
+  pub fits : ConditionFits m r
+  pub told : ToldAs b c r
+  pub parts : conditionParts r ≡ ps
+
+-- the clauses found so far, and the parts of their text values
+abbrev pub clausesOf : Book → Bytes → Clauses → List Clause
+clausesOf b s r = map (λ c. clauseIn b s (c .condition)) (take (r .count) (r .clauses))
+
+abbrev pub valuePartsOf : Clauses → List Part
+valuePartsOf r = joined (λ c. conditionParts (c .condition)) (take (r .count) (r .clauses))
+
+-- r are these clauses, by numbers
+pub record ClausesRead (b : Book) (m : Limits) (s : Bytes) (cs : List Clause) (r : Clauses) : Type 0 where
+  pub few : r .count ≤ 32
+  pub sized : length (r .clauses) ≡ 32
+  pub is : clausesOf b s r ≡ cs
+  pub each : (i : ℕ) → i < r .count → ConditionFits m (getD (r .clauses) i noClause .condition)
+  pub told : AllTold b cs (take (r .count) (r .clauses))
+  pub blank : Blank 32 noClause (r .count) (r .clauses)
+
+-- r are the clauses with more behind them, their text values at more parts
+pub record MoreClauses (b : Book) (m : Limits) (s : Bytes) (old : Clauses) (more : List Clause) (ps : List Part) (r : Clauses) : Type 0 where
+  pub read : ClausesRead b m s (clausesOf b s old ++ more) r
+  pub parts : valuePartsOf r ≡ valuePartsOf old ++ ps
+
+-- r are the clauses of a text; of a whole one, each text value stands at its place
+pub record TextClausesRead (b : Book) (m : Limits) (s : Bytes) (r : Clauses) : Type 0 where
+  pub read : ClausesRead b m s (textClauses s) r
+  pub parts : walkAt s textStart .whole ≡ true → valuePartsOf r ≡ valueParts s
 
 -- both of two tests
 pub both-left : (x y : Bool) → (x && y) ≡ true → x ≡ true
@@ -118,76 +186,102 @@ clauses-data b (c ∷ cs) (r ∷ rs) h =
     ap₂ (λ (x : ConditionData) (xs : List ClauseData). record { condition = x } ∷ xs) (told .0) (ap (λ ps. clausesData b ps cs) (told .1) ∙ clauses-data b cs rs (h .1))
 
 -- a condition of what is there, by its numbers
-module _ (b : Book) (m : Limits) (s : Bytes) (vs es : List Bytes) (few : length vs ≡ m .vertices) where
-  pub excluded-read : (v u : Bytes) (i j : ℕ) → known b vs es (differ v u) ≡ true → i ≡ place v vs → j ≡ place u vs → ConditionRead b m s vs es (differ v u) [] (Excluded i j)
+module _ (b : Book) (m : Limits) (s : Bytes) (vs es : List Bytes) (vertices : length vs ≡ m .vertices) where
+  pub excluded-read : (v u : Bytes) → known b vs es (differ v u) ≡ true → ConditionRead b m s (clauseOf vs es (differ v u)) [] (Excluded (place v vs) (place u vs))
   unfolding known clauseIn clauseOf clauseData behindClause conditionParts
-  excluded-read v u i j h e f =
+  excluded-read v u h =
       let p = place-of v vs (both-left (mem v vs) (mem u vs) h) in
       let q = place-of u vs (both-right (mem v vs) (mem u vs) h) in
-      record { is = ap₂ excluded e f; fits = (omega (arith, p .0), omega (arith, q .0)); told = λ ps. (sym (ap₂ Excluded e f), refl); parts = refl }
+      record { is = refl; fits = (omega (arith, p .0), omega (arith, q .0)); told = λ ps. (refl, refl); parts = refl }
 
-  module _ (d : Demand) (h : known b vs es (demandOf s d) ≡ true) (k : ℕ) (r : Requirement) where
+  module _ (d : Demand) where
     abbrev x : Bytes
     x = nameAt s (d .subject)
 
     abbrev a : Bytes
     a = nameAt s (d .attribute)
 
-    named : (names : List Bytes) → RequirementRead names s d r → mem a names ≡ true → getD names (r .attribute) [] ≡ a
-    named names q t = ap (λ n. getD names n []) (q .attribute) ∙ place-of a names t .1
+    abbrev ps : List Part
+    ps = joined valuePart (valueStanding (d .value))
 
-    below : (names : List Bytes) (n : ℕ) → RequirementRead names s d r → mem a names ≡ true → length names ≡ n → r .attribute < n
-    below names n q t l = omega (arith, q .attribute, place-of a names t .0)
+    -- a requirement whose attribute is one of these names
+    required : (names : List Bytes) (qs : List Part)
+        → record { attribute = place a names; relation = relationData (relationOf (d .relation)); value = valueData (ps ++ qs) (valueOf s (d .value)) } ≡ requirementIn names s d
+    required names qs = λ i. record { attribute = place a names; relation = relation-told (d .relation) i; value = value-told s (d .value) qs i }
 
-    required : (names : List Bytes) → RequirementRead names s d r → (ps : List Part)
-        → record { attribute = place a names; relation = relationData (relationOf (d .relation)); value = valueData (joined valuePart (valueStanding (r .value)) ++ ps) (valueOf s (d .value)) } ≡ r
-    required names q ps =
-        let v = ap (λ x. valueData (joined valuePart (valueStanding (r .value)) ++ ps) (valueOf s x)) (sym (q .value)) ∙ value-told s (r .value) ps in
-        let l = relation-told (d .relation) ∙ sym (q .relation) in
-        let n = sym (q .attribute) in
-        λ i. record { attribute = n i; relation = l i; value = v i }
+    pub demand-read : known b vs es (demandOf s d) ≡ true → length es ≡ m .edges → length (attrNames (b .vattrs)) ≡ m .vattrs → length (attrNames (b .eattrs)) ≡ m .eattrs
+        → ConditionRead b m s (clauseOf vs es (demandOf s d)) ps (demandIn b s vs es d)
+    unfolding known clauseOf demandIn clauseIn clauseData behindClause conditionParts
+    demand-read h edges vattrs eattrs = go (mem x vs) refl h
+      where
+        clause : Bool → Clause
+        clause t = pick t (vertexHas (place x vs) a (relationOf (d .relation)) (valueOf s (d .value))) (edgeHas (place x es) a (relationOf (d .relation)) (valueOf s (d .value)))
 
-    behind : {names : List Bytes} → RequirementRead names s d r → (ps : List Part) → behindValue (joined valuePart (valueStanding (r .value)) ++ ps) (valueOf s (d .value)) ≡ ps
-    behind q ps = ap (λ x. behindValue (joined valuePart (valueStanding (r .value)) ++ ps) (valueOf s x)) (sym (q .value)) ∙ value-passed s (r .value) ps
+        made : Bool → ConditionData
+        made t = pick t (OfVertex (place x vs) (requirementIn (attrNames (b .vattrs)) s d)) (OfEdge (place x es) (requirementIn (attrNames (b .eattrs)) s d))
 
-    pub vertex-read : k ≡ place x vs → k < length vs → length (attrNames (b .vattrs)) ≡ m .vattrs → RequirementRead (attrNames (b .vattrs)) s d r → ConditionRead b m s vs es (demandOf s d) (joined valuePart (valueStanding (d .value))) (OfVertex k r)
-    unfolding known clauseIn clauseOf clauseData behindClause conditionParts
-    vertex-read e l n q =
-        let i : mem x vs ≡ true = place-known x vs (rw e at l) in
-        let t : mem a (attrNames (b .vattrs)) ≡ true = rw i at h in
-        record {
-          is = rw i (λ z. vertexHas (e z) (named (attrNames (b .vattrs)) q t z) (relationOf (q .relation z)) (valueOf s (q .value z)));
-          fits = (omega arith, below (attrNames (b .vattrs)) (m .vattrs) q t n);
-          told = λ ps. rw i (ap₂ OfVertex (sym e) (required (attrNames (b .vattrs)) q ps), behind q ps);
-          parts = ap (λ v. joined valuePart (valueStanding v)) (q .value);
-        }
+        go : (t : Bool) → mem x vs ≡ t → pick t (mem a (attrNames (b .vattrs))) (mem x es && mem a (attrNames (b .eattrs))) ≡ true → ConditionRead b m s (clause t) ps (made t)
+        go true e h =
+            let v = place-of x vs e in
+            let n = place-of a (attrNames (b .vattrs)) h in
+            record {
+              is = ap (λ w. vertexHas (place x vs) w (relationOf (d .relation)) (valueOf s (d .value))) (n .1);
+              fits = (omega (arith, v .0), omega (arith, n .0));
+              told = λ qs. (ap (OfVertex (place x vs)) (required (attrNames (b .vattrs)) qs), value-passed s (d .value) qs);
+              parts = refl;
+            }
+        go false e h =
+            let v = place-of x es (both-left (mem x es) (mem a (attrNames (b .eattrs))) h) in
+            let n = place-of a (attrNames (b .eattrs)) (both-right (mem x es) (mem a (attrNames (b .eattrs))) h) in
+            record {
+              is = ap (λ w. edgeHas (place x es) w (relationOf (d .relation)) (valueOf s (d .value))) (n .1);
+              fits = (omega (arith, v .0), omega (arith, n .0));
+              told = λ qs. (ap (OfEdge (place x es)) (required (attrNames (b .eattrs)) qs), value-passed s (d .value) qs);
+              parts = refl;
+            }
 
-    pub edge-read : length vs ≤ place x vs → k ≡ place x es → length es ≡ m .edges → length (attrNames (b .eattrs)) ≡ m .eattrs → RequirementRead (attrNames (b .eattrs)) s d r → ConditionRead b m s vs es (demandOf s d) (joined valuePart (valueStanding (d .value))) (OfEdge k r)
-    unfolding known clauseIn clauseOf clauseData behindClause conditionParts
-    edge-read o e f n q =
-        let i : mem x vs ≡ false = place-new x vs o in
-        let g : (mem x es && mem a (attrNames (b .eattrs))) ≡ true = rw i at h in
-        let p = place-of x es (both-left (mem x es) (mem a (attrNames (b .eattrs))) g) in
-        let t : mem a (attrNames (b .eattrs)) ≡ true = both-right (mem x es) (mem a (attrNames (b .eattrs))) g in
-        record {
-          is = rw i (λ z. edgeHas (e z) (named (attrNames (b .eattrs)) q t z) (relationOf (q .relation z)) (valueOf s (q .value z)));
-          fits = (omega (arith, p .0), below (attrNames (b .eattrs)) (m .eattrs) q t n);
-          told = λ ps. rw i (ap₂ OfEdge (sym e) (required (attrNames (b .eattrs)) q ps), behind q ps);
-          parts = ap (λ v. joined valuePart (valueStanding v)) (q .value);
-        }
+-- the same clause by numbers is the same condition as data
+pub same-demand : (b : Book) (s : Bytes) (vs es ds fs : List Bytes) (d : Demand) → clauseOf ds fs (demandOf s d) ≡ clauseOf vs es (demandOf s d) → demandIn b s ds fs d ≡ demandIn b s vs es d
+unfolding clauseOf demandIn
+same-demand b s vs es ds fs d = go (mem x ds) (mem x vs)
+  where
+    x : Bytes
+    x = nameAt s (d .subject)
 
--- one clause more
-module _ (b : Book) (m : Limits) (s : Bytes) (cs : List Clause) (old : Clauses) (h : ClausesRead b m s cs old) where
-  pub clause-more : (x : Clause) (k : ConditionData) (r : Clauses) → old .count < 32 → clauseIn b s k ≡ x → ConditionFits m k → ToldAs b x k → ClauseAdded old k r
-      → ClausesRead b m s (cs ++ (x ∷ [])) r
-  clause-more x k r room e f w g = record {
-    few = omega (arith, g .count);
-    sized = ap length (g .clauses) ∙ length-set (old .clauses) (old .count) new ∙ h .sized;
-    counted = omega (arith, g .count, h .counted, length-append cs (x ∷ []));
-    is = ap₂ (λ n l. map say (take n l)) (g .count) (g .clauses) ∙ taken-more say (old .clauses) (old .count) new inside ∙ ap₂ (λ a z. a ++ (z ∷ [])) (h .is) e;
-    each = at-each (ConditionFits m) (h .each) f;
-    told = rw (g .count, g .clauses, add-one, take-suc-set (old .clauses) (old .count) new inside) (all-told-more b cs (take (old .count) (old .clauses)) x new (h .told) w);
-    blank = rw (g .count, g .clauses) (blank-more 32 noClause (old .clauses) (old .count) new room (h .blank));
+    clause : Bool → ℕ → ℕ → Clause
+    clause t i j = pick t (vertexHas i (nameAt s (d .attribute)) (relationOf (d .relation)) (valueOf s (d .value))) (edgeHas j (nameAt s (d .attribute)) (relationOf (d .relation)) (valueOf s (d .value)))
+
+    made : Bool → ℕ → ℕ → ConditionData
+    made t i j = pick t (OfVertex i (requirementIn (attrNames (b .vattrs)) s d)) (OfEdge j (requirementIn (attrNames (b .eattrs)) s d))
+
+    go : (t u : Bool) → clause t (place x ds) (place x fs) ≡ clause u (place x vs) (place x es) → made t (place x ds) (place x fs) ≡ made u (place x vs) (place x es)
+    go true true e = cc
+    go true false e = cc
+    go false true e = cc
+    go false false e = cc
+
+pub same-exclusion : (vs es ds fs : List Bytes) (v u : Bytes) → clauseOf ds fs (differ v u) ≡ clauseOf vs es (differ v u) → Excluded (place v ds) (place u ds) ≡ Excluded (place v vs) (place u vs)
+unfolding clauseOf
+same-exclusion vs es ds fs v u e = cc
+
+-- no clause more, or one
+module _ (b : Book) (m : Limits) (s : Bytes) (old : Clauses) (h : ClausesRead b m s (clausesOf b s old) old) where
+  pub clauses-same : MoreClauses b m s old [] [] old
+  clauses-same = record { read = rw (append-nil (clausesOf b s old)) h; parts = sym (append-nil (valuePartsOf old)) }
+
+  pub clause-more : (x : Clause) (ps : List Part) (k : ConditionData) → old .count < 32 → ConditionRead b m s x ps k
+      → MoreClauses b m s old (x ∷ []) ps (record { clauses = set (old .clauses) (old .count) (record { condition = k }); count = old .count + 1 })
+  clause-more x ps k room q = record {
+    read = record {
+      few = omega arith;
+      sized = length-set (old .clauses) (old .count) new ∙ h .sized;
+      is = taken-more say (old .clauses) (old .count) new inside ∙ ap (λ z. clausesOf b s old ++ (z ∷ [])) (q .is);
+      each = each-more (λ (c : ClauseData). ConditionFits m (c .condition)) noClause (old .clauses) (old .count) new inside (h .each) (q .fits);
+      told = rw (add-one, take-suc-set (old .clauses) (old .count) new inside) (all-told-more b (clausesOf b s old) (take (old .count) (old .clauses)) x new (h .told) (q .told));
+      blank = blank-more 32 noClause (old .clauses) (old .count) new room (h .blank);
+    };
+    parts = rw (add-one, take-suc-set (old .clauses) (old .count) new inside)
+        (joined-end (λ (c : ClauseData). conditionParts (c .condition)) (take (old .count) (old .clauses)) new ∙ ap (λ l. valuePartsOf old ++ l) (q .parts));
   }
     where
       new : ClauseData
@@ -199,72 +293,25 @@ module _ (b : Book) (m : Limits) (s : Bytes) (cs : List Clause) (old : Clauses) 
       inside : old .count < length (old .clauses)
       inside = omega (arith, h .sized)
 
-      at-each : (P : ConditionData → Type 0) → ((i : ℕ) → i < old .count → P (getD (old .clauses) i noClause .condition)) → P k → (i : ℕ) → i < r .count → P (getD (r .clauses) i noClause .condition)
-      at-each P ps p i l = rw (g .clauses) (each-more (λ (c : ClauseData). P (c .condition)) noClause (old .clauses) (old .count) new inside ps p i (omega (arith, g .count)))
-
-  pub parts-more : (k : ConditionData) (r : Clauses) → old .count < 32 → ClauseAdded old k r → valuePartsOf r ≡ valuePartsOf old ++ conditionParts k
-  parts-more k r room g =
-      let inside : old .count < length (old .clauses) = omega (arith, h .sized) in
-      rw (g .count, g .clauses, add-one, take-suc-set (old .clauses) (old .count) (record { condition = k }) inside)
-      (joined-end (λ (c : ClauseData). conditionParts (c .condition)) (take (old .count) (old .clauses)) (record { condition = k }))
-
-  pub clause-same : ClausesRead b m s (cs ++ []) old
-  clause-same = rw (append-nil cs) h
-
--- a piece of one condition
-pub one-named : (k : Condition → Bool) (x : Condition) (cs : List Condition) → cs ≡ x ∷ [] → all k cs ≡ true → k x ≡ true
-unfolding all
-one-named k x cs e h = go (k x) (rw e at h)
-  where
-    go : (t : Bool) → pick t true false ≡ true → t ≡ true
-    go true h = refl
-    go false h = h
-
--- the clauses with those of a piece that has none, or one
-module _ (b : Book) (m : Limits) (s : Bytes) (vs es : List Bytes) (old : Clauses) (p : PieceData) where
-  pub none-added : conditionIn (pieceOf s p) ≡ [] → joined valuePart (pieceStanding p) ≡ [] → PieceAdded b m s vs es old p old
-  none-added e f = record { read = λ cs h. rw e (clause-same b m s cs old h); parts = λ cs h. sym (ap (λ l. valuePartsOf old ++ l) f ∙ append-nil (valuePartsOf old)) }
-
-  pub one-added : (k : Condition) (x : ConditionData) (r : Clauses) → conditionIn (pieceOf s p) ≡ k ∷ [] → old .count + length (conditionIn (pieceOf s p)) ≤ 32
-      → ConditionRead b m s vs es k (joined valuePart (pieceStanding p)) x → ClauseAdded old x r → PieceAdded b m s vs es old p r
-  one-added k x r e l q g =
-      let room : old .count < 32 = omega (arith, ap length e) in
-      record {
-        read = λ cs h. rw e (clause-more b m s cs old h (clauseOf vs es k) x r room (q .is) (q .fits) (q .told) g);
-        parts = λ cs h. parts-more b m s cs old h x r room g ∙ ap (λ l. valuePartsOf old ++ l) (q .parts);
-      }
-
-all-append : {A : Type 0} (p : A → Bool) (a b : List A) → all p (a ++ b) ≡ (all p a && all p b)
-unfolding all
-all-append p [] b = refl
-all-append p (x ∷ a) b = rw (all-append p a b) (go (p x) (all p a) (all p b))
-  where
-    go : (t x y : Bool) → pick t (x && y) false ≡ (pick t x false && y)
-    go true x y = refl
-    go false x y = refl
-
 -- the clauses found from the text's start to a place, and those of the pieces behind it
 pub record ClausesSoFar (b : Book) (m : Limits) (s : Bytes) (vs es : List Bytes) (from : Place) (r : Clauses) : Type 0 where
   pub read : ClausesRead b m s (clausesOf b s r) r
   pub rest : clausesOf b s r ++ map (clauseOf vs es) (conditionsIn (foundAt s from)) ≡ map (clauseOf vs es) (conditionsIn (textPieces s))
-  pub named : all (known b vs es) (conditionsIn (foundAt s from)) ≡ true
   pub parts : PartsSoFar valuePart s from (valuePartsOf r)
 
 module _ (b : Book) (m : Limits) (s : Bytes) (vs es : List Bytes) (from : Place) (r : Clauses) where
-  pub clauses-start : from ≡ textStart → all (known b vs es) (conditionsIn (textPieces s)) ≡ true → r ≡ noClauses → ClausesSoFar b m s vs es from r
+  pub clauses-start : from ≡ textStart → r ≡ noClauses → ClausesSoFar b m s vs es from r
   unfolding AllTold joined
-  clauses-start e h z = subst (λ (q : Clauses). ClausesSoFar b m s vs es from q) (sym z) (record {
+  clauses-start e z = subst (λ (q : Clauses). ClausesSoFar b m s vs es from q) (sym z) (record {
     read = record {
       few = omega arith;
       sized = refl;
-      counted = refl;
       is = refl;
       each = λ i l. absurd (omega arith);
       told = tt;
       blank = refl;
     };
     rest = ap (λ (p : Place). map (clauseOf vs es) (conditionsIn (foundAt s p))) e;
-    named = ap (λ (p : Place). all (known b vs es) (conditionsIn (foundAt s p))) e ∙ h;
     parts = parts-start valuePart s from e;
   })
 
@@ -284,35 +331,26 @@ module _ (b : Book) (m : Limits) (s : Bytes) (vs es : List Bytes) (from : Place)
       abbrev later : List Condition
       later = conditionsIn (foundAt s (x .next))
 
-      split : conditionsIn (foundAt s from) ≡ here ++ later
+      ahead : (clausesOf b s r ++ map (clauseOf vs es) here) ++ map (clauseOf vs es) later ≡ map (clauseOf vs es) (conditionsIn (textPieces s))
       unfolding joined
-      split = ap conditionsIn (step-list s from p step x e)
-
-      mapped : map (clauseOf vs es) (conditionsIn (foundAt s from)) ≡ map (clauseOf vs es) here ++ map (clauseOf vs es) later
-      mapped = ap (map (clauseOf vs es)) split ∙ map-append (clauseOf vs es) here later
-
-      tests : (all (known b vs es) here && all (known b vs es) later) ≡ true
-      tests = sym (all-append (known b vs es) here later) ∙ ap (all (known b vs es)) (sym split) ∙ h .named
-
-      pub clauses-named : all (known b vs es) here ≡ true
-      clauses-named = both-left (all (known b vs es) here) (all (known b vs es) later) tests
+      ahead =
+          append-assoc (clausesOf b s r) (map (clauseOf vs es) here) (map (clauseOf vs es) later)
+          ∙ ap (λ z. clausesOf b s r ++ z) (sym (ap (λ l. map (clauseOf vs es) (conditionsIn l)) (step-list s from p step x e) ∙ map-append (clauseOf vs es) here later)) ∙ h .rest
 
       pub clauses-room : length (conditionsIn (textPieces s)) ≤ 32 → r .count + length here ≤ 32
       clauses-room l = omega (
         arith,
-        h .read .counted,
-        length-append (clausesOf b s r) (map (clauseOf vs es) (conditionsIn (foundAt s from))),
-        ap length (h .rest),
+        length-taken (λ (c : ClauseData). clauseIn b s (c .condition)) (r .clauses) (r .count) (omega (arith, h .read .few, h .read .sized)),
+        ap length ahead,
+        length-append (clausesOf b s r ++ map (clauseOf vs es) here) (map (clauseOf vs es) later),
+        length-append (clausesOf b s r) (map (clauseOf vs es) here),
+        length-map (clauseOf vs es) here,
         length-map (clauseOf vs es) (conditionsIn (textPieces s)),
-        length-map (clauseOf vs es) (conditionsIn (foundAt s from)),
-        ap length split,
-        length-append here later,
       )
 
-      pub clauses-on : (more : Clauses) → PieceAdded b m s vs es r (x .piece) more → ClausesSoFar b m s vs es (x .next) more
-      clauses-on more k = let new = k .read (clausesOf b s r) (h .read) in record {
-        read = subst (λ z. ClausesRead b m s z more) (sym (new .is)) new;
-        rest = ap (λ z. z ++ map (clauseOf vs es) later) (new .is) ∙ append-assoc (clausesOf b s r) (map (clauseOf vs es) here) (map (clauseOf vs es) later) ∙ ap (λ z. clausesOf b s r ++ z) (sym mapped) ∙ h .rest;
-        named = both-right (all (known b vs es) here) (all (known b vs es) later) tests;
-        parts = parts-on valuePart s from (valuePartsOf r) (h .parts) p step x e (valuePartsOf more) (k .parts (clausesOf b s r) (h .read));
+      pub clauses-on : (more : Clauses) → MoreClauses b m s r (map (clauseOf vs es) here) (joined valuePart (pieceStanding (x .piece))) more → ClausesSoFar b m s vs es (x .next) more
+      clauses-on more k = record {
+        read = subst (λ z. ClausesRead b m s z more) (sym (k .read .is)) (k .read);
+        rest = ap (λ z. z ++ map (clauseOf vs es) later) (k .read .is) ∙ ahead;
+        parts = parts-on valuePart s from (valuePartsOf r) (h .parts) p step x e (valuePartsOf more) (k .parts);
       }

@@ -1,6 +1,6 @@
 -- What a text without a fault says of its pieces: the grammar is kept, what it names is there, and it is within the limits.
 use Prim.Native.Nat.{ℕ, zero, suc, _+_, _-_, _≤_, _<_}
-use mathlib.Core.Path.{_≡_, refl, sym, ap, subst, _∙_}
+use mathlib.Core.Path.{_≡_, refl, sym, ap, ap₂, subst, _∙_}
 use mathlib.Core.Logic.{_⊎_, inl, inr, ⊎-elim}
 use mathlib.Core.List.{List, [], _∷_, _++_, append-assoc, map, List·Memᴰ·cases-cons as cases-cons}
 use mathlib.Core.Bool.{Bool, true, false, not, _&&_, _||_}
@@ -11,7 +11,7 @@ use borrow.Author.Tests.{ltb-false, not-false}
 use Rattle.facts.specs.Tests.{and-left}
 use Rattle.model.specs.Bytes.{Bytes}
 use Rattle.model.specs.Choice.{pick, Maybe, nothing, just, andThen}
-use Rattle.model.specs.Lists.{any, all, keep, joined}
+use Rattle.model.specs.Lists.{any, all, keep, joined, firstsBy}
 use Rattle.model.specs.Names.{mem, place, twice, firsts}
 use Rattle.model.specs.Words.{Got, isText}
 use Rattle.model.specs.Values.{Value, int, str, bool}
@@ -24,6 +24,7 @@ use Rattle.model.specs.Grammar.{Piece, start, goes, comes, asks, returns, Spot,
 use Rattle.model.specs.Graph.{Each}
 use Rattle.model.specs.Query.{vertexNames, edgeNames, edgesOf, conditionsOf}
 use Rattle.model.specs.ReadQuery.{unknown, isDiffer, hasTwice, tooMany}
+use Rattle.model.proofs.FirstNames.{firsts-append}
 use Rattle.model.proofs.Members.{_∈_, is-true, any-i, mem-e, map-e, joined-e, each-e, firsts-e}
 use Rattle.model.proofs.WrittenConditions.{IsName, WritableValue, WritableCondition}
 use Rattle.model.proofs.WritableSigns.{IfThere, signs-writable}
@@ -34,17 +35,15 @@ use Rattle.pieces.specs.Faults.{someWhere, undeclaredAt, twiceAt, mistypedAt, f
 use Rattle.pieces.specs.Steps.{walkAt, spotOf, chainAt}
 use Rattle.pieces.proofs.Walks.{kept, pieces-are-walked}
 use Rattle.pieces.proofs.Trees.{tree-names, returns-same}
-use Rattle.pieces.proofs.Tests.{vertex-names, edge-names, twice-found, joined-append, mem-firsts}
+use Rattle.pieces.proofs.Tests.{vertex-names, edge-names, twice-found, joined-append, joined-end, mem-firsts}
 use Rattle.faults.specs.Names.{textStart, textPieces}
 use Rattle.faults.specs.Counting.{pastLimits}
 use Rattle.faults.specs.Tests.{pieceFault}
 use Rattle.faults.specs.TextFault.{textFault}
-use Rattle.faults.proofs.ScanLaws.{mem-append}
 use Rattle.faults.proofs.CountLaws.{limits-same}
 use Rattle.faults.proofs.FaultLaws.{queryOf, text-ordered, text-read, number-is}
-use Rattle.query.specs.Clauses.{known}
-use Rattle.query.specs.Vertices.{vertexNamesIn}
-use Rattle.query.proofs.ClauseLaws.{both-left, both-right}
+use Rattle.query.proofs.VertexLaws.{vertexNamesIn, Begins, begun-place, begun-mem, firsts-begun}
+use Rattle.query.proofs.ClauseLaws.{known, textEdges, both-left, both-right}
 
 -- a text has no fault against a book
 pub record Clear (b : Book) (s : Bytes) : Type 0 where
@@ -133,53 +132,89 @@ edge-no-vertex ps h e w m = go (mem w (firsts [] (verticesIn ps))) refl
     go true k = absurd (true-not-false (any (λ e. mem e (firsts [] (verticesIn ps))) (edgesIn ps)) (is-true (any (λ e. mem e (firsts [] (verticesIn ps))) (edgesIn ps)) (any-i (λ e. mem e (firsts [] (verticesIn ps))) (edgesIn ps) w (mem-e w (edgesIn ps) (subst T (sym m) tt)) (subst T (sym k) tt))) none)
     go false k = refl
 
--- what the pieces before a condition name, the text names
-or-true : (x y : Bool) → x ≡ true → (x || y) ≡ true
-or-true true y h = refl
-or-true false y h = cc
+-- what a condition names stands among ds and fs, the names found before it, and is numbered there as among all
+pub record Scoped (b : Book) (vs es ds fs : List Bytes) (c : Condition) : Type 0 where
+  pub named : known b vs es c ≡ true
+  pub same : clauseOf ds fs c ≡ clauseOf vs es c
 
 either-true : (x y : Bool) → (x || y) ≡ true → (x ≡ true) ⊎ (y ≡ true)
 either-true true y h = inl refl
 either-true false y h = inr h
 
-module _ (b : Book) (vs es ds fs : List Bytes) (old : (w : Bytes) → mem w ds ≡ true → mem w vs ≡ true) (older : (w : Bytes) → mem w fs ≡ true → mem w es ≡ true) (apart : (w : Bytes) → mem w es ≡ true → mem w vs ≡ false) where
-  known-one : (c : Condition) → unknown b c ds fs ≡ false → known b vs es c ≡ true
-  unfolding unknown known
-  known-one (differ v u) h =
+module _ (b : Book) (vs es ds fs : List Bytes) (vertices : Begins ds vs) (edges : Begins fs es) (apart : (w : Bytes) → mem w es ≡ true → mem w vs ≡ false) where
+  no-vertex : (w : Bytes) → mem w vs ≡ false → mem w ds ≡ false
+  no-vertex w h = go (mem w ds) refl
+    where
+      go : (t : Bool) → mem w ds ≡ t → t ≡ false
+      go true k = absurd (true-not-false (mem w vs) (begun-mem ds vs vertices w k) h)
+      go false k = refl
+
+  scoped-one : (c : Condition) → unknown b c ds fs ≡ false → Scoped b vs es ds fs c
+  unfolding unknown known clauseOf
+  scoped-one (differ v u) h =
       let k = not-false _ h in
-      rw (old v (both-left (mem v ds) (mem u ds) k), old u (both-right (mem v ds) (mem u ds) k))
-  known-one (demand x a r v) h = ⊎-elim
-      (λ k. rw (old x (both-left (mem x ds) (mem a (attrNames (b .vattrs))) k)) (both-right (mem x ds) (mem a (attrNames (b .vattrs))) k))
-      (λ k. let i = older x (both-left (mem x fs) (mem a (attrNames (b .eattrs))) k) in rw (apart x i, i) (both-right (mem x fs) (mem a (attrNames (b .eattrs))) k))
+      let p = both-left (mem v ds) (mem u ds) k in
+      let q = both-right (mem v ds) (mem u ds) k in
+      record { named = rw (begun-mem ds vs vertices v p, begun-mem ds vs vertices u q); same = sym (ap₂ excluded (begun-place ds vs vertices v p) (begun-place ds vs vertices u q)) }
+  scoped-one (demand x a r v) h = ⊎-elim
+      (λ k. let p = both-left (mem x ds) (mem a (attrNames (b .vattrs))) k in
+      let m = begun-mem ds vs vertices x p in
+      record { named = rw m (both-right (mem x ds) (mem a (attrNames (b .vattrs))) k); same = rw (p, m, begun-place ds vs vertices x p) })
+      (λ k. let p = both-left (mem x fs) (mem a (attrNames (b .eattrs))) k in
+      let m = begun-mem fs es edges x p in
+      let n = apart x m in
+      record { named = rw (n, m) (both-right (mem x fs) (mem a (attrNames (b .eattrs))) k); same = rw (no-vertex x n, n, begun-place fs es edges x p) })
       (either-true (mem x ds && mem a (attrNames (b .vattrs))) (mem x fs && mem a (attrNames (b .eattrs))) (not-false _ h))
+
+-- the conditions of pieces, behind the names ds and fs
+unfoldable pub ScopedFrom : Book → List Bytes → List Bytes → List Bytes → List Bytes → List Piece → Type 0
+ScopedFrom b vs es ds fs [] = Unit {0}
+ScopedFrom b vs es ds fs (p ∷ ps) = Each (Scoped b vs es ds fs) (conditionIn p) × ScopedFrom b vs es (firsts ds (vertexIn p)) (fs ++ edgeIn p) ps
 
 not-here : (t x : Bool) → pick t true x ≡ false → (t ≡ false) × (x ≡ false)
 not-here true x h = (h, cc)
 not-here false x h = (refl, h)
 
 module _ (b : Book) (text : List Piece) (apart : (w : Bytes) → mem w (edgesIn text) ≡ true → mem w (firsts [] (verticesIn text)) ≡ false) where
-  before-vertex : (done ps : List Piece) → done ++ ps ≡ text → (w : Bytes) → mem w (verticesIn done) ≡ true → mem w (firsts [] (verticesIn text)) ≡ true
-  before-vertex done ps e w m = mem-firsts w (verticesIn text) ∙ ap (λ l. mem w (verticesIn l)) (sym e) ∙ ap (mem w) (joined-append vertexIn done ps) ∙ mem-append w (verticesIn done) (verticesIn ps) ∙ or-true _ _ m
+  abbrev vs : List Bytes
+  vs = firsts [] (verticesIn text)
 
-  before-edge : (done ps : List Piece) → done ++ ps ≡ text → (w : Bytes) → mem w (edgesIn done) ≡ true → mem w (edgesIn text) ≡ true
-  before-edge done ps e w m = ap (λ l. mem w (edgesIn l)) (sym e) ∙ ap (mem w) (joined-append edgeIn done ps) ∙ mem-append w (edgesIn done) (edgesIn ps) ∙ or-true _ _ m
+  abbrev es : List Bytes
+  es = edgesIn text
 
-  abbrev kept-known : Condition → Bool
-  kept-known = known b (firsts [] (verticesIn text)) (edgesIn text)
+  module _ (done ps : List Piece) (e : done ++ ps ≡ text) where
+    before-vertex : Begins (firsts [] (verticesIn done)) vs
+    before-vertex = subst (Begins (firsts [] (verticesIn done)))
+        (sym (firsts-append [] (verticesIn done) (verticesIn ps)) ∙ ap (firsts []) (sym (joined-append vertexIn done ps)) ∙ ap (λ l. firsts [] (verticesIn l)) e)
+        (firsts-begun (firsts [] (verticesIn done)) (verticesIn ps))
 
-  known-behind : (done ps : List Piece) → done ++ ps ≡ text → someWhere (undeclaredAt b text) done ps ≡ false → all kept-known (conditionsIn ps) ≡ true
-  unfolding someWhere undeclaredAt joined conditionIn all
-  known-behind done [] e h = refl
-  known-behind done (start v ∷ ps) e h = known-behind (done ++ (start v ∷ [])) ps (append-assoc done (start v ∷ []) ps ∙ e) h
-  known-behind done (goes x l v ∷ ps) e h = known-behind (done ++ (goes x l v ∷ [])) ps (append-assoc done (goes x l v ∷ []) ps ∙ e) (not-here (not (mem l (b .labels))) (someWhere (undeclaredAt b text) (done ++ (goes x l v ∷ [])) ps) h .1)
-  known-behind done (comes x l v ∷ ps) e h = known-behind (done ++ (comes x l v ∷ [])) ps (append-assoc done (comes x l v ∷ []) ps ∙ e) (not-here (not (mem l (b .labels))) (someWhere (undeclaredAt b text) (done ++ (comes x l v ∷ [])) ps) h .1)
-  known-behind done (asks c ∷ ps) e h =
-      rw (known-one b (firsts [] (verticesIn text)) (edgesIn text) (verticesIn done) (edgesIn done) (before-vertex done (asks c ∷ ps) e) (before-edge done (asks c ∷ ps) e) apart c (not-here (unknown b c (verticesIn done) (edgesIn done)) (someWhere (undeclaredAt b text) (done ++ (asks c ∷ [])) ps) h .0))
-      (known-behind (done ++ (asks c ∷ [])) ps (append-assoc done (asks c ∷ []) ps ∙ e) (not-here (unknown b c (verticesIn done) (edgesIn done)) (someWhere (undeclaredAt b text) (done ++ (asks c ∷ [])) ps) h .1))
-  known-behind done (returns v ∷ ps) e h = known-behind (done ++ (returns v ∷ [])) ps (append-assoc done (returns v ∷ []) ps ∙ e) (not-here (not (mem v (verticesIn text))) (someWhere (undeclaredAt b text) (done ++ (returns v ∷ [])) ps) h .1)
+    before-edge : Begins (edgesIn done) es
+    before-edge = (edgesIn ps, ap edgesIn (sym e) ∙ joined-append edgeIn done ps)
 
-pub clear-known : (b : Book) (s : Bytes) → Clear b s → all (known b (vertexNamesIn s) (edgesIn (textPieces s))) (conditionsIn (textPieces s)) ≡ true
-clear-known b s h = known-behind b (textPieces s) (edge-no-vertex (textPieces s) (text-ordered s) (h .once)) [] (textPieces s) refl (h .declared)
+    unknown-once : (c : Condition) → unknown b c (firsts [] (verticesIn done)) (edgesIn done) ≡ unknown b c (verticesIn done) (edgesIn done)
+    unfolding unknown
+    unknown-once (differ v u) = rw (mem-firsts v (verticesIn done), mem-firsts u (verticesIn done))
+    unknown-once (demand x a r v) = rw (mem-firsts x (verticesIn done))
+
+    scoped-here : (p : Piece) (rest : List Piece) → undeclaredAt b text done p rest ≡ false → Each (Scoped b vs es (firsts [] (verticesIn done)) (edgesIn done)) (conditionIn p)
+    unfolding undeclaredAt conditionIn
+    scoped-here (start v) rest h = tt
+    scoped-here (goes x l v) rest h = tt
+    scoped-here (comes x l v) rest h = tt
+    scoped-here (asks c) rest h = (scoped-one b vs es (firsts [] (verticesIn done)) (edgesIn done) before-vertex before-edge apart c (unknown-once c ∙ h), tt)
+    scoped-here (returns v) rest h = tt
+
+  scoped-behind : (done ps : List Piece) → done ++ ps ≡ text → someWhere (undeclaredAt b text) done ps ≡ false → ScopedFrom b vs es (firsts [] (verticesIn done)) (edgesIn done) ps
+  unfolding someWhere ScopedFrom
+  scoped-behind done [] e h = tt
+  scoped-behind done (p ∷ ps) e h =
+      let n = not-here (undeclaredAt b text done p ps) (someWhere (undeclaredAt b text) (done ++ (p ∷ [])) ps) h in
+      let later = scoped-behind (done ++ (p ∷ [])) ps (append-assoc done (p ∷ []) ps ∙ e) (n .1) in
+      (scoped-here done (p ∷ ps) e p ps (n .0), rw (joined-end vertexIn done p, firsts-append [] (verticesIn done) (vertexIn p), joined-end edgeIn done p) at later)
+
+pub clear-scoped : (b : Book) (s : Bytes) → Clear b s → ScopedFrom b (vertexNamesIn s) (textEdges s) [] [] (textPieces s)
+unfolding joined firstsBy
+clear-scoped b s h = scoped-behind b (textPieces s) (edge-no-vertex (textPieces s) (text-ordered s) (h .once)) [] (textPieces s) refl (h .declared)
 
 -- a whole text returns something
 more-returns : (g : Piece) (ps : List Piece) → (endsWell (spotAfter g) ≡ true) ⊎ (0 < length (returnsIn ps)) → 0 < length (returnsIn (g ∷ ps))

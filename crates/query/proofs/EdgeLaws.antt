@@ -1,9 +1,9 @@
--- Laws of the edges found so far.
+-- Laws of the edges found so far, by the name of each and its numbers: of its label in the book, of its ends among the vertices.
 use Prim.Native.Nat.{ℕ, _+_, _<_, _≤_}
 use mathlib.Core.Path.{_≡_, refl, sym, ap, ap₂, subst, _∙_}
 use mathlib.Core.Logic.{⊎-elim}
 use mathlib.Core.List.{List, [], _∷_, _++_, map, append-nil, append-assoc, List·Memᴰ·head, List·Memᴰ·tail, List·Memᴰ·cases-cons as cases-cons}
-use mathlib.Core.Bool.{Bool, true}
+use mathlib.Core.Bool.{Bool, true, false}
 use native.Mathlib.Omega.{arith}
 use lib.ListN.{length, getD, take, set, length-append, length-set, length-map}
 use lib.Seq.{getD-take, length-take-le}
@@ -16,118 +16,123 @@ use Rattle.model.specs.Query.{ChainEdge}
 use Rattle.model.specs.Pattern.{Edge, edgeOf}
 use Rattle.model.specs.Answers.{nameAt, edgeIn}
 use Rattle.model.specs.Places.{edgePart, edgeParts}
+use Rattle.model.specs.PlainData.{noEdge}
 use Rattle.model.specs.WholeAnswers.{firstPart, edgeData, edgesData}
 use Rattle.model.specs.declared.Part.{Part}
-use Rattle.model.specs.declared.Value.{Value}
-use Rattle.model.specs.declared.Value.the-variants.{Number, Text, Truth}
 use Rattle.model.specs.declared.Edge.{Edge as EdgeData}
 use Rattle.model.proofs.Members.{_∈_, firsts-i}
 use Rattle.model.proofs.Places.{at-place, getD-in, getD-map, map-to}
-use Rattle.signs.specs.Expected.{valueStanding}
 use Rattle.pieces.specs.Walk.{mayStand, Ordered}
 use Rattle.pieces.specs.Named.{vertexIn, verticesIn, linksFrom}
+use Rattle.pieces.specs.Faults.{someWhere, undeclaredAt}
 use Rattle.pieces.specs.Steps.{pieceOf, pieceStanding, walkAt, StepAt}
 use Rattle.pieces.specs.declared.Place.{Place}
 use Rattle.pieces.specs.declared.Link.{Link}
-use Rattle.pieces.specs.declared.Demand.{Demand}
-use Rattle.pieces.specs.declared.Piece.{Piece as PieceData}
-use Rattle.pieces.specs.declared.Piece.the-variants as piece
 use Rattle.pieces.specs.declared.Step.{Step}
 use Rattle.pieces.specs.declared.PieceRead.{PieceRead}
 use Rattle.pieces.specs.declared.PieceRead.the-variants as read
-use Rattle.faults.specs.declared.NameOf.{NameOf}
-use Rattle.faults.specs.declared.NameOf.the-variants.{Is, None}
-use Rattle.faults.specs.Names.{asList, textStart, foundAt, textPieces}
+use Rattle.faults.specs.Names.{textStart, foundAt, textPieces}
 use Rattle.faults.proofs.ScanLaws.{step-list, step-none}
 use Rattle.faults.proofs.FaultLaws.{text-ordered}
 use Rattle.tables.specs.Layout.{labelNames}
 use Rattle.tables.specs.View.{bookAt}
 use Rattle.tables.specs.declared.BookCounts.{BookCounts}
 use Rattle.tables.proofs.NameLaws.{length-names}
-use Rattle.model.specs.PlainData.{noEdge}
 use Rattle.query.specs.declared.vertices.Vertices.{Vertices}
 use Rattle.query.specs.declared.edges.Edges.{Edges}
-use Rattle.query.specs.Vertices.{vertexNamesIn, namesOf, Found}
-use Rattle.query.specs.Edges.{Numbered, numbered, numberedIn, numberedOf, edgePartsOf, noEdges, numberAfter, edgesBetween, Stored, MoreEdges, EdgesAsked, EdgeStands, EdgesRead}
-use Rattle.query.proofs.ArrayLaws.{length-taken, taken-more, blank-more, label-declared}
+use Rattle.query.specs.Edges.{edgeNamesOf, noEdges, edgeMade}
+use Rattle.query.proofs.ArrayLaws.{Blank, length-taken, taken-more, blank-more, label-declared}
 use Rattle.query.proofs.StandingLaws.{PartsSoFar, parts-start, parts-on, parts-all}
-use Rattle.query.proofs.VertexLaws.{found-counted}
+use Rattle.query.proofs.VertexLaws.{vertexNamesIn, Found, found-counted}
 
--- the number of a piece's vertex
-module _ (s : Bytes) (vs : List Bytes) (last : ℕ) (p : PieceData) (r : NameOf) (h : asList s r ≡ vertexIn (pieceOf s p)) where
-  pub number-own : (name : Part) → r ≡ Is name → numberAfter vs last (vertexIn (pieceOf s p)) ≡ place (nameAt s name) vs
-  unfolding asList numberAfter
-  number-own name e = rw (← h, e)
+-- an edge by its name and its numbers
+pub record Numbered : Type 0 where
+  pub name : Bytes
+  pub label : ℕ
+  pub from : ℕ
+  pub to : ℕ
 
-  pub number-kept : r ≡ None → numberAfter vs last (vertexIn (pieceOf s p)) ≡ last
-  unfolding asList numberAfter
-  number-kept e = rw (← h, e)
+-- an edge of a variable and a label between two vertices
+unfoldable pub numbered : Book → Bytes → Bytes → ℕ → ℕ → Numbered
+numbered b e l from to = record { name = e; label = place l (b .labels); from = from; to = to }
 
--- one edge more
-module _ (b : Book) (s : Bytes) (edges : Edges) (h : Stored edges) (room : edges .count < 16) (link : Link) (label from to : ℕ) (e : label ≡ place (nameAt s (link .label)) (b .labels)) where
-  abbrev made : EdgeData
-  made = record { name = link .edge; label = label; from = from; to = to }
+-- an edge that is found
+unfoldable pub numberedIn : Bytes → EdgeData → Numbered
+numberedIn s e = record { name = nameAt s (e .name); label = e .label; from = e .from; to = e .to }
 
-  numbered-made : numberedIn s made ≡ numbered b (nameAt s (link .edge)) (nameAt s (link .label)) from to
-  unfolding numberedIn numbered
-  numbered-made = ap (λ l. record { name = nameAt s (link .edge); label = l; from = from; to = to }) e
+-- the number of a vertex, if there is one; that of the last vertex where there is none
+unfoldable pub numberAfter : List Bytes → ℕ → List Bytes → ℕ
+numberAfter vs last [] = last
+numberAfter vs last (v ∷ more) = place v vs
 
-  pub link-more : MoreEdges s edges (numbered b (nameAt s (link .edge)) (nameAt s (link .label)) from to ∷ []) (link .edge ∷ [])
-      (record { edges = set (edges .edges) (edges .count) made; count = edges .count + 1 })
-  link-more = record {
-    stored = record {
-      room = length-set (edges .edges) (edges .count) made ∙ h .room;
-      few = omega arith;
-      blank = blank-more 16 noEdge (edges .edges) (edges .count) made room (h .blank);
-    };
-    is = taken-more (numberedIn s) (edges .edges) (edges .count) made (omega (arith, h .room)) ∙ ap (λ x. numberedOf s edges ++ (x ∷ [])) numbered-made;
-    parts = taken-more (λ (x : EdgeData). x .name) (edges .edges) (edges .count) made (omega (arith, h .room));
+-- the edge of a piece, between the last vertex and its own
+unfoldable pub edgesBetween : Book → ℕ → ℕ → Piece → List Numbered
+edgesBetween b last own (start v) = []
+edgesBetween b last own (goes e l v) = numbered b e l last own ∷ []
+edgesBetween b last own (comes e l v) = numbered b e l own last ∷ []
+edgesBetween b last own (asks c) = []
+edgesBetween b last own (returns v) = []
+
+-- the edges found, by their numbers
+abbrev pub numberedOf : Bytes → Edges → List Numbered
+numberedOf s r = map (numberedIn s) (take (r .count) (r .edges))
+
+-- the parts of their variables
+abbrev pub edgePartsOf : Edges → List Part
+edgePartsOf r = map (λ e. e .name) (take (r .count) (r .edges))
+
+-- the edges found are no more than there is room for
+pub record Stored (r : Edges) : Type 0 where
+  pub room : length (r .edges) ≡ 16
+  pub few : r .count ≤ 16
+  pub blank : Blank 16 noEdge (r .count) (r .edges)
+
+-- r are the edges with more behind them, their variables at more parts
+pub record MoreEdges (s : Bytes) (edges : Edges) (more : List Numbered) (ps : List Part) (r : Edges) : Type 0 where
+  pub stored : Stored r
+  pub is : numberedOf s r ≡ numberedOf s edges ++ more
+  pub parts : edgePartsOf r ≡ edgePartsOf edges ++ ps
+  pub names : edgeNamesOf s r ≡ edgeNamesOf s edges ++ map (nameAt s) ps
+
+-- an edge's numbers are below the counts
+pub record EdgeStands (c : BookCounts) (vertices : Vertices) (e : EdgeData) : Type 0 where
+  pub label : e .label < c .labels
+  pub from : e .from < vertices .count
+  pub to : e .to < vertices .count
+
+-- r are the edges of a text; of a whole one, each variable stands at its place
+pub record EdgesRead (b : Book) (c : BookCounts) (s : Bytes) (vertices : Vertices) (r : Edges) : Type 0 where
+  pub is : map (edgeIn b s) (take (r .count) (r .edges)) ≡ map (edgeOf (vertexNamesIn s)) (linksFrom [] (textPieces s))
+  pub few : r .count ≤ 16
+  pub counted : r .count ≡ length (linksFrom [] (textPieces s))
+  pub each : (i : ℕ) → i < r .count → EdgeStands c vertices (getD (r .edges) i noEdge)
+  pub stored : Stored r
+  pub parts : walkAt s textStart .whole ≡ true → edgePartsOf r ≡ edgeParts s
+  pub told : edgesData b (edgePartsOf r) (map (edgeOf (vertexNamesIn s)) (linksFrom [] (textPieces s))) ≡ take (r .count) (r .edges)
+
+-- no edge more, or one
+module _ (s : Bytes) (edges : Edges) (h : Stored edges) where
+  pub edges-same : MoreEdges s edges [] [] edges
+  edges-same = record {
+    stored = h;
+    is = sym (append-nil (numberedOf s edges));
+    parts = sym (append-nil (edgePartsOf edges));
+    names = sym (append-nil (edgeNamesOf s edges));
   }
 
--- the edge of a piece, and the part of its variable
-abbrev pub EdgeIs : Book → Bytes → ℕ → ℕ → PieceData → List Numbered → List Part → Type 0
-EdgeIs b s last own p more ps = (edgesBetween b last own (pieceOf s p) ≡ more) × (joined edgePart (pieceStanding p) ≡ ps)
-
-module _ (b : Book) (s : Bytes) (last own : ℕ) (p : PieceData) where
-  pub edge-goes : (link : Link) → p ≡ piece.Goes link → EdgeIs b s last own p (numbered b (nameAt s (link .edge)) (nameAt s (link .label)) last own ∷ []) (link .edge ∷ [])
-  unfolding edgesBetween pieceOf pieceStanding edgePart joined
-  edge-goes link e = (rw e, rw e)
-
-  pub edge-comes : (link : Link) → p ≡ piece.Comes link → EdgeIs b s last own p (numbered b (nameAt s (link .edge)) (nameAt s (link .label)) own last ∷ []) (link .edge ∷ [])
-  unfolding edgesBetween pieceOf pieceStanding edgePart joined
-  edge-comes link e = (rw e, rw e)
-
-  pub start-none : (v : Part) → p ≡ piece.Start v → EdgeIs b s last own p [] []
-  unfolding edgesBetween pieceOf pieceStanding edgePart joined
-  start-none v e = (rw e, rw e)
-
-  pub differ-none : (v u : Part) → p ≡ piece.Differ v u → EdgeIs b s last own p [] []
-  unfolding edgesBetween pieceOf pieceStanding edgePart joined
-  differ-none v u e = (rw e, rw e)
-
-  pub asks-none : (d : Demand) → p ≡ piece.Asks d → EdgeIs b s last own p [] []
-  unfolding edgesBetween pieceOf pieceStanding edgePart joined valueStanding
-  asks-none d e = (rw e, rw e (no-edge (d .value)))
-    where
-      no-edge : (v : Value) → joined edgePart (valueStanding v) ≡ []
-      no-edge (Number n) = refl
-      no-edge (Text at size) = refl
-      no-edge (Truth t) = refl
-
-  pub returns-none : (v : Part) → p ≡ piece.Returns v → EdgeIs b s last own p [] []
-  unfolding edgesBetween pieceOf pieceStanding edgePart joined
-  returns-none v e = (rw e, rw e)
-
-pub link-room : (n : ℕ) (more : List Numbered) (x : Numbered) → more ≡ x ∷ [] → n + length more ≤ 16 → n < 16
-link-room n more x e h = omega (arith, ap length e)
-
-module _ (b : Book) (s : Bytes) (last own : ℕ) (p : PieceData) (edges : Edges) where
-  pub no-more : Stored edges → EdgeIs b s last own p [] [] → MoreEdges s edges (edgesBetween b last own (pieceOf s p)) (joined edgePart (pieceStanding p)) edges
-  no-more h e = rw (e .0, e .1) (record { stored = h; is = sym (append-nil (numberedOf s edges)); parts = sym (append-nil (edgePartsOf edges)) })
-
-  pub one-more : (more : List Numbered) (ps : List Part) (r : Edges) → EdgeIs b s last own p more ps → MoreEdges s edges more ps r
-      → MoreEdges s edges (edgesBetween b last own (pieceOf s p)) (joined edgePart (pieceStanding p)) r
-  one-more more ps r e h = rw (e .0, e .1) h
+  pub link-more : (b : Book) (link : Link) (from to : ℕ) (x : EdgeData) → x ≡ edgeMade b s link from to → edges .count < 16
+      → MoreEdges s edges (numbered b (nameAt s (link .edge)) (nameAt s (link .label)) from to ∷ []) (link .edge ∷ []) (record { edges = set (edges .edges) (edges .count) x; count = edges .count + 1 })
+  unfolding numberedIn numbered
+  link-more b link from to x e room = let inside : edges .count < length (edges .edges) = omega (arith, h .room) in record {
+    stored = record {
+      room = length-set (edges .edges) (edges .count) x ∙ h .room;
+      few = omega arith;
+      blank = blank-more 16 noEdge (edges .edges) (edges .count) x room (h .blank);
+    };
+    is = taken-more (numberedIn s) (edges .edges) (edges .count) x inside ∙ ap (λ (y : EdgeData). numberedOf s edges ++ (numberedIn s y ∷ [])) e;
+    parts = taken-more (λ (y : EdgeData). y .name) (edges .edges) (edges .count) x inside ∙ ap (λ (y : EdgeData). edgePartsOf edges ++ (y .name ∷ [])) e;
+    names = taken-more (λ (y : EdgeData). nameAt s (y .name)) (edges .edges) (edges .count) x inside ∙ ap (λ (y : EdgeData). edgeNamesOf s edges ++ (nameAt s (y .name) ∷ [])) e;
+  }
 
 -- the edges of pieces behind the last vertex
 unfoldable pub edgesFrom : Book → List Bytes → ℕ → List Piece → List Numbered
@@ -253,7 +258,9 @@ edges-data b s vs (e ∷ es) (l ∷ ls) h =
     ap₂ (λ (x : EdgeData) (xs : List EdgeData). x ∷ xs) (edge-data b s vs e l one) (edges-data b s vs es ls more)
 
 -- the edges found in a whole text are its edges
-module _ (book : Bytes) (words : List ℕ) (c : BookCounts) (s : Bytes) (vertices : Vertices) (asked : EdgesAsked book words c s vertices) (size : length (vertices .parts) ≡ 8) (edges : Edges) (stored : Stored edges) (all : numberedOf s edges ≡ map (linkNumbered (bookAt book words c) (namesOf s vertices)) (linksFrom [] (textPieces s))) (parts : walkAt s textStart .whole ≡ true → edgePartsOf edges ≡ edgeParts s) where
+module _ (book : Bytes) (words : List ℕ) (c : BookCounts) (s : Bytes) (vertices : Vertices) (found : Found s vertices (vertexNamesIn s))
+    (declared : someWhere (undeclaredAt (bookAt book words c) (textPieces s)) [] (textPieces s) ≡ false) (edges : Edges) (stored : Stored edges)
+    (all-numbered : numberedOf s edges ≡ map (linkNumbered (bookAt book words c) (vertexNamesIn s)) (linksFrom [] (textPieces s))) (parts : walkAt s textStart .whole ≡ true → edgePartsOf edges ≡ edgeParts s) where
   abbrev b : Book
   b = bookAt book words c
 
@@ -264,13 +271,10 @@ module _ (book : Bytes) (words : List ℕ) (c : BookCounts) (s : Bytes) (vertice
   links = linksFrom [] (textPieces s)
 
   inside : (v : Bytes) → v ∈ verticesIn (textPieces s) → place v vs < vertices .count
-  inside v m = let l = at-place vs v (firsts-i [] (verticesIn (textPieces s)) v m) .0 in omega (arith, found-counted s vertices vs size (asked .found))
+  inside v m = let l = at-place vs v (firsts-i [] (verticesIn (textPieces s)) v m) .0 in omega (arith, found-counted s vertices vs found)
 
   label-there : (e : ChainEdge) → e ∈ links → e .label ∈ b .labels
-  label-there = label-declared b (textPieces s) (text-ordered s) (asked .declared)
-
-  all-numbered : numberedOf s edges ≡ map (linkNumbered b vs) links
-  all-numbered = all ∙ ap (λ l. map (linkNumbered b l) links) (asked .found .named)
+  label-there = label-declared b (textPieces s) (text-ordered s) declared
 
   all-named : map (edgeIn b s) (take (edges .count) (edges .edges)) ≡ map (edgeOf vs) links
   unfolding edgeNamed edgeIn numberedIn linkNumbered numbered edgeOf

@@ -3,8 +3,8 @@ pub mod StandingLaws
 pub mod VertexLaws
 pub mod EdgeLaws
 pub mod ReturnLaws
-pub mod EdgeNumbers
 pub mod ClauseLaws
 pub mod ClearLaws
 pub mod PatternLaws
+pub mod WalkLaws
 pub mod ReadLaws

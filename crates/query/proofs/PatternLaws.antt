@@ -38,26 +38,15 @@ use Rattle.query.specs.declared.vertices.Vertices.{Vertices}
 use Rattle.query.specs.declared.edges.Edges.{Edges}
 use Rattle.query.specs.declared.clauses.Clauses.{Clauses}
 use Rattle.query.specs.declared.returns.Returns.{Returns}
-use Rattle.query.specs.Parts.{Inside}
-use Rattle.query.specs.Vertices.{vertexNamesIn, partsOf, Found, VerticesRead}
-use Rattle.query.specs.Edges.{EdgesAsked, EdgesRead}
-use Rattle.query.specs.Returns.{ReturnsAsked, ReturnsRead}
-use Rattle.query.specs.Clauses.{textEdges, textLimits, conditionParts, ClausesAsked, ClausesRead, textClauses, TextClausesRead}
-use Rattle.query.specs.PatternRead.{PatternAsked, PatternRead}
+use Rattle.query.specs.Vertices.{partsOf}
+use Rattle.query.specs.PatternRead.{PatternAsked, PatternRead, patternMade}
 use Rattle.query.proofs.ArrayLaws.{length-taken, blank-padded}
-use Rattle.query.proofs.ClauseLaws.{clauses-data}
-use Rattle.query.proofs.StandingLaws.{Ends, EndsBefore, part-inside, each-at, each-joined, vertices-end, edges-end, values-end}
-use Rattle.query.proofs.ClearLaws.{Clear, clear-pieces, clear-tree, clear-known, Few, few-pieces, some-return, Short, ShortValue, ShortClause, vertex-short, edge-short, clause-short}
-
--- what was found, as one pattern
-abbrev pub made : Vertices → Edges → Clauses → Returns → Pattern
-made v e k r = record {
-  vertices = v .parts;
-  edges = e .edges;
-  clauses = k .clauses;
-  returns = r .numbers;
-  counts = record { vertices = v .count; edges = e .count; clauses = k .count; returns = r .count };
-}
+use Rattle.query.proofs.VertexLaws.{vertexNamesIn, Found, VerticesRead, found-counted}
+use Rattle.query.proofs.EdgeLaws.{EdgesRead}
+use Rattle.query.proofs.ReturnLaws.{ReturnsRead}
+use Rattle.query.proofs.ClauseLaws.{textEdges, textClauses, textLimits, conditionParts, ClausesRead, TextClausesRead, clauses-data}
+use Rattle.query.proofs.StandingLaws.{Inside, Ends, EndsBefore, part-inside, each-at, each-joined, vertices-end, edges-end, values-end}
+use Rattle.query.proofs.ClearLaws.{Clear, clear-pieces, clear-tree, some-return, Short, ShortValue, ShortClause, vertex-short, edge-short, clause-short}
 
 -- f of a counted element is among f of those counted
 taken-in : {A B : Type 0} (f : A → B) (l : List A) (n i : ℕ) (d : A) → n ≤ length l → i < n → f (getD l i d) ∈ map f (take n l)
@@ -106,33 +95,16 @@ module _ (book : Bytes) (words : List ℕ) (c : BookCounts) (s : Bytes) (asked :
   clear : Clear b s
   clear = clear-pieces b s (asked .clear)
 
-  few : Few (textPieces s)
-  few = few-pieces (textPieces s) (text-ordered s) (clear .limited)
-
-  -- what is asked of the text by each part of the reader
-  pub vertices-asked : length (vertexNamesIn s) ≤ 8
-  vertices-asked = few .vertices
-
   module _ (v : Vertices) (vertices : VerticesRead s v) where
     found : Found s v (vertexNamesIn s)
     found = vertices .found
 
-    pub edges-asked : EdgesAsked book words c s v
-    edges-asked = record { fits = asked .fits; found = found; few = omega (arith, few .links); declared = clear .declared }
-
-    pub clauses-asked : ClausesAsked book words c s v
-    clauses-asked = record { fits = asked .fits; found = found; few = omega (arith, few .conditions); named = clear-known b s clear }
-
-    pub returns-asked : ReturnsAsked s v
-    returns-asked = record { found = found; few = omega (arith, few .returns); book = b; declared = clear .declared }
-
-    module _ (e : Edges) (k : Clauses) (r : Returns) (links : EdgesRead b c s v e) (clauses : TextClausesRead b (textLimits c v s) s k) (returned : ReturnsRead s v r)
-        (parts-size : length (v .parts) ≡ 8) (edges-size : length (e .edges) ≡ 16) where
-      conditions : ClausesRead b (textLimits c v s) s (textClauses s) k
+    module _ (e : Edges) (k : Clauses) (r : Returns) (links : EdgesRead b c s v e) (clauses : TextClausesRead b (textLimits c s) s k) (returned : ReturnsRead s v r) where
+      conditions : ClausesRead b (textLimits c s) s (textClauses s) k
       conditions = clauses .read
 
       -- the model's pattern of the text's query
-      same-pattern : patternIn b s (made v e k r) ≡ patternOf (queryOf s)
+      same-pattern : patternIn b s (patternMade v e k r) ≡ patternOf (queryOf s)
       unfolding patternIn patternOf
       same-pattern = λ i. record {
         vertices = (found .named ∙ sym (vertex-names (textPieces s) (text-ordered s))) i;
@@ -154,16 +126,16 @@ module _ (book : Bytes) (words : List ℕ) (c : BookCounts) (s : Bytes) (asked :
       edge-count : length (textEdges s) ≡ e .count
       edge-count = ap length (sym (link-names [] (textPieces s))) ∙ length-map (λ (x : ChainEdge). x .name) (linksFrom [] (textPieces s)) ∙ sym (links .counted)
 
-      clause-fits : (i : ℕ) → i < k .count → ConditionFits (countLimits c (made v e k r)) (getD (k .clauses) i noClause .condition)
-      clause-fits i l = subst (λ n. ConditionFits (record { vertices = v .count; edges = n; labels = c .labels; vattrs = c .vattrs; eattrs = c .eattrs }) (getD (k .clauses) i noClause .condition)) edge-count (conditions .each i l)
+      clause-fits : (i : ℕ) → i < k .count → ConditionFits (countLimits c (patternMade v e k r)) (getD (k .clauses) i noClause .condition)
+      clause-fits i l = rw (found-counted s v (vertexNamesIn s) found, edge-count) at (conditions .each i l)
 
       vertex-named : (i : ℕ) → i < v .count → Short (nameAt s (getD (v .parts) i noPart))
-      vertex-named i l = vertex-short b s clear (asked .allowed) _ (subst (λ x. nameAt s (getD (v .parts) i noPart) ∈ x) (found .named) (taken-in (nameAt s) (v .parts) (v .count) i noPart (omega (arith, found .within)) l))
+      vertex-named i l = vertex-short b s clear (asked .allowed) _ (subst (λ x. nameAt s (getD (v .parts) i noPart) ∈ x) (found .named) (taken-in (nameAt s) (v .parts) (v .count) i noPart (omega (arith, found .within, found .size)) l))
 
       edge-named : (i : ℕ) → i < e .count → Short (nameAt s (getD (e .edges) i noEdge .name))
       unfolding edgeIn edgeOf
       edge-named i l =
-          let m = map-e (edgeOf (vertexNamesIn s)) (linksFrom [] (textPieces s)) _ (subst (λ x. edgeIn b s (getD (e .edges) i noEdge) ∈ x) (links .is) (taken-in (edgeIn b s) (e .edges) (e .count) i noEdge (omega (arith, links .few)) l)) in
+          let m = map-e (edgeOf (vertexNamesIn s)) (linksFrom [] (textPieces s)) _ (subst (λ x. edgeIn b s (getD (e .edges) i noEdge) ∈ x) (links .is) (taken-in (edgeIn b s) (e .edges) (e .count) i noEdge (omega (arith, links .few, links .stored .room)) l)) in
           let n = subst (λ x. m .0 .name ∈ x) (link-names [] (textPieces s)) (map-i (λ (x : ChainEdge). x .name) (linksFrom [] (textPieces s)) (m .0) (m .1)) in
           edge-short b s clear (asked .allowed) _ (subst (λ x. x ∈ edgesIn (textPieces s)) (sym (ap (λ (x : Edge). x .name) (m .2))) n)
 
@@ -173,13 +145,13 @@ module _ (book : Bytes) (words : List ℕ) (c : BookCounts) (s : Bytes) (asked :
       -- names and text values stand inside the text
       vertex-inside : (i : ℕ) → i < v .count → Inside s (getD (v .parts) i noPart)
       vertex-inside i l =
-          let in-taken : i < length (partsOf v) = omega (arith, length-take-le (v .count) (v .parts) (omega (arith, found .within))) in
+          let in-taken : i < length (partsOf v) = omega (arith, length-take-le (v .count) (v .parts) (omega (arith, found .within, found .size))) in
           part-inside s (getD (v .parts) i noPart) (subst (Ends s) (getD-take (v .count) (v .parts) i noPart l)
           (each-at (Ends s) noPart (partsOf v) (subst (Each (Ends s)) (sym (vertices .parts (clear .whole))) (vertices-end s)) i in-taken))
 
       edge-inside : (i : ℕ) → i < e .count → Inside s (getD (e .edges) i noEdge .name)
       edge-inside i l =
-          let in-taken : i < length (take (e .count) (e .edges)) = omega (arith, length-take-le (e .count) (e .edges) (omega (arith, links .few))) in
+          let in-taken : i < length (take (e .count) (e .edges)) = omega (arith, length-take-le (e .count) (e .edges) (omega (arith, links .few, links .stored .room))) in
           let ends = each-of (Ends s) (λ (x : EdgeData). x .name) (take (e .count) (e .edges)) (subst (Each (Ends s)) (sym (links .parts (clear .whole))) (edges-end s)) in
           part-inside s (getD (e .edges) i noEdge .name) (subst (λ (x : EdgeData). Ends s (x .name)) (getD-take (e .count) (e .edges) i noEdge l)
           (each-at (λ (x : EdgeData). Ends s (x .name)) noEdge (take (e .count) (e .edges)) ends i in-taken))
@@ -192,22 +164,22 @@ module _ (book : Bytes) (words : List ℕ) (c : BookCounts) (s : Bytes) (asked :
           (each-at (λ (x : Clause). Each (EndsBefore s) (conditionParts (x .condition))) noClause (take (k .count) (k .clauses)) ends i in-taken)
 
       -- every slot is the model's
-      whole-pattern : made v e k r ≡ queryData b s (patternIn b s (made v e k r))
+      whole-pattern : patternMade v e k r ≡ queryData b s (patternIn b s (patternMade v e k r))
       unfolding queryData patternIn
       whole-pattern = λ i. record {
         vertices = all-vertices i;
         edges = all-edges i;
         clauses = all-clauses i;
-        returns = blank-padded 4 0 (r .numbers) (r .count) (omega (arith, returned .few, returned .room)) (returned .blank) i;
+        returns = blank-padded 4 0 (r .numbers) (r .count) (omega (arith, returned .listed .few, returned .listed .room)) (returned .listed .blank) i;
         counts = all-counts i;
       }
         where
           all-vertices : v .parts ≡ padded 8 noPart (vertexParts s)
-          all-vertices = blank-padded 8 noPart (v .parts) (v .count) (omega (arith, found .within)) (found .blank) ∙ ap (padded 8 noPart) (vertices .parts (clear .whole))
+          all-vertices = blank-padded 8 noPart (v .parts) (v .count) (omega (arith, found .within, found .size)) (found .blank) ∙ ap (padded 8 noPart) (vertices .parts (clear .whole))
 
           all-edges : e .edges ≡ padded 16 noEdge (edgesData b (edgeParts s) (map (edgeIn b s) (take (e .count) (e .edges))))
           all-edges =
-              blank-padded 16 noEdge (e .edges) (e .count) (omega (arith, links .few)) (links .stored .blank)
+              blank-padded 16 noEdge (e .edges) (e .count) (omega (arith, links .few, links .stored .room)) (links .stored .blank)
               ∙ ap (padded 16 noEdge) (sym (links .told) ∙ ap₂ (edgesData b) (links .parts (clear .whole)) (sym (links .is)))
 
           all-clauses : k .clauses ≡ padded 32 noClause (clausesData b (valueParts s) (map (λ c. clauseIn b s (c .condition)) (take (k .count) (k .clauses))))
@@ -215,20 +187,20 @@ module _ (book : Bytes) (words : List ℕ) (c : BookCounts) (s : Bytes) (asked :
               blank-padded 32 noClause (k .clauses) (k .count) (omega (arith, conditions .few, conditions .sized)) (conditions .blank)
               ∙ ap (padded 32 noClause) (sym (clauses-data b (textClauses s) (take (k .count) (k .clauses)) (conditions .told)) ∙ ap₂ (clausesData b) (clauses .parts (clear .whole)) (sym (conditions .is)))
 
-          all-counts : made v e k r .counts ≡ queryData b s (patternIn b s (made v e k r)) .counts
+          all-counts : patternMade v e k r .counts ≡ queryData b s (patternIn b s (patternMade v e k r)) .counts
           all-counts = λ i. record {
-            vertices = sym (length-taken (nameAt s) (v .parts) (v .count) (omega (arith, found .within))) i;
-            edges = sym (length-taken (edgeIn b s) (e .edges) (e .count) (omega (arith, links .few))) i;
+            vertices = sym (length-taken (nameAt s) (v .parts) (v .count) (omega (arith, found .within, found .size))) i;
+            edges = sym (length-taken (edgeIn b s) (e .edges) (e .count) (omega (arith, links .few, links .stored .room))) i;
             clauses = sym (length-taken (λ c. clauseIn b s (c .condition)) (k .clauses) (k .count) (omega (arith, conditions .few, conditions .sized))) i;
-            returns = sym (length-take-le (r .count) (r .numbers) (omega (arith, returned .few, returned .room))) i;
+            returns = sym (length-take-le (r .count) (r .numbers) (omega (arith, returned .listed .few, returned .listed .room))) i;
           }
 
-      words-fit : (base : ℕ) → base + length s ≤ 65536 → WordsFit base (made v e k r)
+      words-fit : (base : ℕ) → base + length s ≤ 65536 → WordsFit base (patternMade v e k r)
       words-fit base fit = record {
         few-vertices = found .within;
         few-edges = links .few;
         few-clauses = conditions .few;
-        few-returns = returned .few;
+        few-returns = returned .listed .few;
         vertices = λ i l. name-fits s base fit (getD (v .parts) i noPart) (vertex-inside i l) (vertex-named i l);
         edges = λ i l. let x = links .each i l in record {
           name = name-fits s base fit (getD (e .edges) i noEdge .name) (edge-inside i l) (edge-named i l);
@@ -236,19 +208,19 @@ module _ (book : Bytes) (words : List ℕ) (c : BookCounts) (s : Bytes) (asked :
           from = x .from;
           to = x .to;
         };
-        clauses = λ i l. condition-fits s base fit b (countLimits c (made v e k r)) (getD (k .clauses) i noClause .condition) (asked .fits .within .vattrs) (asked .fits .within .eattrs) (clause-fits i l) (clause-ends i l) (clause-named i l);
+        clauses = λ i l. condition-fits s base fit b (countLimits c (patternMade v e k r)) (getD (k .clauses) i noClause .condition) (asked .fits .within .vattrs) (asked .fits .within .eattrs) (clause-fits i l) (clause-ends i l) (clause-named i l);
         returns = returned .each;
       }
 
-      pub pattern-read : PatternRead b c s (made v e k r)
+      pub pattern-read : PatternRead b c s (patternMade v e k r)
       pattern-read = record {
-        is = λ tree q. subst (λ t. patternIn b s (made v e k r) ≡ patternOf t) (sym (clear-tree b s clear tree q)) same-pattern;
-        whole = λ tree q. whole-pattern ∙ ap (queryData b s) (subst (λ t. patternIn b s (made v e k r) ≡ patternOf t) (sym (clear-tree b s clear tree q)) same-pattern);
+        is = λ tree q. subst (λ t. patternIn b s (patternMade v e k r) ≡ patternOf t) (sym (clear-tree b s clear tree q)) same-pattern;
+        whole = λ tree q. whole-pattern ∙ ap (queryData b s) (subst (λ t. patternIn b s (patternMade v e k r) ≡ patternOf t) (sym (clear-tree b s clear tree q)) same-pattern);
         fits = record {
           vertices = found .within;
           edges = record { few = links .few; each = λ i l. let x = links .each i l in record { label = x .label; from = x .from; to = x .to } };
           clauses = record { few = conditions .few; each = clause-fits };
-          returns = record { few = returned .few; each = returned .each };
+          returns = record { few = returned .listed .few; each = returned .each };
         };
         parts = record {
           vertices = λ i l. vertex-inside i l .ends;

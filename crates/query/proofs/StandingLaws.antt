@@ -27,7 +27,11 @@ use Rattle.pieces.specs.declared.PieceRead.the-variants as read
 use Rattle.pieces.proofs.Tests.{joined-append}
 use Rattle.faults.specs.Names.{textStart}
 use Rattle.faults.proofs.ScanLaws.{step-whole, step-none}
-use Rattle.query.specs.Parts.{Inside}
+
+-- a part ends within its text, and is as long as the name that stands there
+pub record Inside (s : Bytes) (p : Part) : Type 0 where
+  pub ends : p .start + p .length ≤ length s
+  pub long : p .length ≡ length (nameAt s p)
 
 -- a whole text without pieces more has no signs more
 no-signs-more : (p : Spot) (ts : List Sign) → walk p 0 ts .found ≡ [] → walk p 0 ts .whole ≡ true → ts ≡ []

@@ -1,4 +1,3 @@
-pub mod Parts
 pub mod Vertices
 pub mod Edges
 pub mod Returns

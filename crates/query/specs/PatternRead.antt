@@ -21,6 +21,20 @@ use Rattle.tables.specs.Fits.{Fits}
 use Rattle.faults.specs.TextFault.{textFault}
 use Rattle.writer.specs.Writable.{countLimits, PatternFits}
 use Rattle.model.specs.PlainData.{PartsWithin, PatternFits as WordsFit}
+use Rattle.query.specs.declared.vertices.Vertices.{Vertices}
+use Rattle.query.specs.declared.edges.Edges.{Edges}
+use Rattle.query.specs.declared.clauses.Clauses.{Clauses}
+use Rattle.query.specs.declared.returns.Returns.{Returns}
+
+-- what was found, as one pattern
+abbrev pub patternMade : Vertices → Edges → Clauses → Returns → Pattern
+patternMade v e k r = record {
+  vertices = v .parts;
+  edges = e .edges;
+  clauses = k .clauses;
+  returns = r .numbers;
+  counts = record { vertices = v .count; edges = e .count; clauses = k .count; returns = r .count };
+}
 
 -- what is asked of a text: the book is loaded, the text has no fault against it, and its bytes are allowed
 pub record PatternAsked (book : Bytes) (words : List ℕ) (c : BookCounts) (s : Bytes) : Type 0 where

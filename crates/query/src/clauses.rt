@@ -1,36 +1,25 @@
-// The conditions of a text in its order: exclusions, and requirements of vertices and of edges, each by number.
+// The conditions of a text by number: exclusions, and requirements of vertices and of edges.
 ghost use mathlib.Core.Path.{_≡_};
-ghost use mathlib.Core.List.{[]};
-ghost use Prim.Native.Nat.{_<_};
-ghost use lib.ListN.{length};
-ghost use Rattle.model.specs.Bytes.{Bytes};
-ghost use Rattle.model.specs.Lists.{joined};
+ghost use Prim.Native.Nat.{_≤_};
 ghost use Rattle.model.specs.Names.{place};
 ghost use Rattle.model.specs.Book.{attrNames};
-ghost use Rattle.model.specs.QueryText.{differ};
 ghost use Rattle.model.specs.Answers.{nameAt};
-ghost use Rattle.model.specs.Places.{valuePart};
-ghost use Rattle.signs.specs.Expected.{valueStanding};
+ghost use Rattle.model.specs.declared.Condition.the-variants.{Excluded};
 ghost use Rattle.tables.specs.View.{bookAt};
 ghost use Rattle.tables.specs.Fits.{Fits};
-ghost use Rattle.pieces.specs.Named.{edgeIn};
-ghost use Rattle.pieces.specs.Steps.{pieceOf};
 ghost use Rattle.query.specs.Vertices.{namesOf};
-ghost use Rattle.query.specs.Clauses.{textEdges, demandOf, RequirementRead, textLimits, ConditionRead, ConditionAsked, ClauseAdded, PieceAsked, PieceAdded, ClausesAsked, noClauses, TextClausesRead};
+ghost use Rattle.query.specs.Edges.{edgeNamesOf};
+ghost use Rattle.query.specs.Clauses.{requirementIn, demandIn, noClauses};
+use crate::edges;
+use crate::edges::Edges;
 use crate::vertices;
 use crate::vertices::Vertices;
-use faults::NameOf;
-use faults::Which;
-use faults::scan;
 use model::Clause;
 use model::Condition;
 use model::Part;
 use model::Requirement;
 use model::limits::MAX_CONDITIONS;
 use pieces::Demand;
-use pieces::Piece;
-use pieces::PieceRead;
-use pieces::reading;
 use signs::expected;
 use tables::BookCounts;
 use tables::names;
@@ -41,34 +30,14 @@ pub struct Clauses {
     pub count: usize,
 }
 
-// How many edges a piece has: 1 or none.
-fn edge_count(p: Piece) -> usize
-    ensures { λ r. ⌜ ((s : Bytes) → r ≡ length (edgeIn (pieceOf s p))) ⌝ }
+// No clause.
+pub fn no_clauses() -> Clauses
+    ensures { λ r. ⌜ r ≡ noClauses ⌝ }
 {
-    match scan::edge_of(p) {
-        NameOf::Is(_) => 1,
-        NameOf::None => 0,
-    }
-}
-
-// The number of an edge variable among those of a text; how many there are where it is none of them.
-pub fn edge_number(s: &[u8], name: Part) -> usize
-    ensures { λ r. ⌜ r ≡ place (nameAt (now (s .entry)) name) (textEdges (now (s .entry))) ⌝ }
-{
-    let mut place = scan::text_start();
-    let mut n = 0;
-    loop {
-        let PieceRead::Found(x) = reading::next_piece(s, place) else {
-            return n;
-        };
-        let p = x.piece;
-        if scan::has_name(s, Which::Edge, p, name) {
-            return n;
-        }
-        n += edge_count(p);
-        let next = x.next;
-        place = next;
-    }
+    let condition = Condition::Excluded(0, 0);
+    let none = Clause { condition };
+    let clauses = [none; MAX_CONDITIONS];
+    Clauses { clauses, count: 0 }
 }
 
 // A requirement of a vertex, its attribute by number.
@@ -80,7 +49,7 @@ fn vertex_requirement(
     d: Demand,
 ) -> Requirement
     requires { ⌜ Fits (now book) (now words) counts ⌝ }
-    ensures { λ r. ⌜ RequirementRead (attrNames (bookAt (now (book .entry)) (now (words .entry)) counts .vattrs)) (now (s .entry)) d r ⌝ }
+    ensures { λ r. ⌜ r ≡ requirementIn (attrNames (bookAt (now (book .entry)) (now (words .entry)) counts .vattrs)) (now (s .entry)) d ⌝ }
 {
     let a = d.attribute;
     let start = a.start;
@@ -104,7 +73,7 @@ fn edge_requirement(
     d: Demand,
 ) -> Requirement
     requires { ⌜ Fits (now book) (now words) counts ⌝ }
-    ensures { λ r. ⌜ RequirementRead (attrNames (bookAt (now (book .entry)) (now (words .entry)) counts .eattrs)) (now (s .entry)) d r ⌝ }
+    ensures { λ r. ⌜ r ≡ requirementIn (attrNames (bookAt (now (book .entry)) (now (words .entry)) counts .eattrs)) (now (s .entry)) d ⌝ }
 {
     let a = d.attribute;
     let start = a.start;
@@ -120,17 +89,18 @@ fn edge_requirement(
 }
 
 // A requirement: of a vertex, if its variable is one of the vertices, else of an edge.
-fn requirement(
+pub fn requirement(
     book: &[u8],
     words: &[u32],
     counts: BookCounts,
     s: &[u8],
     found: Vertices,
+    links: Edges,
     d: Demand,
 ) -> Condition
-    requires { ⌜ ConditionAsked (now book) (now words) counts (now s) found (demandOf (now s) d) ⌝ }
-    ensures { λ r. ⌜ ConditionRead (bookAt (now (book .entry)) (now (words .entry)) counts) (textLimits counts found (now (s .entry))) (now (s .entry))
-        (namesOf (now (s .entry)) found) (textEdges (now (s .entry))) (demandOf (now (s .entry)) d) (joined valuePart (valueStanding (d .value))) r ⌝ }
+    requires { ⌜ Fits (now book) (now words) counts × (found .count ≤ 8) × (links .count ≤ 16) ⌝ }
+    ensures { λ r. ⌜ r ≡ demandIn (bookAt (now (book .entry)) (now (words .entry)) counts) (now (s .entry))
+        (namesOf (now (s .entry)) found) (edgeNamesOf (now (s .entry)) links) d ⌝ }
 {
     let x = d.subject;
     let v = vertices::vertex_number(s, found, x);
@@ -138,99 +108,18 @@ fn requirement(
         let asked = vertex_requirement(book, words, counts, s, d);
         return Condition::OfVertex(v, asked);
     }
-    let e = edge_number(s, x);
+    let e = edges::edge_number(s, links, x);
     let asked = edge_requirement(book, words, counts, s, d);
     Condition::OfEdge(e, asked)
 }
 
 // An exclusion: two vertices that differ.
-fn exclusion(
-    book: &[u8],
-    words: &[u32],
-    counts: BookCounts,
-    s: &[u8],
-    found: Vertices,
-    v: Part,
-    u: Part,
-) -> Condition
-    requires { ⌜ ConditionAsked (now book) (now words) counts (now s) found (differ (nameAt (now s) v) (nameAt (now s) u)) ⌝ }
-    ensures { λ r. ⌜ ConditionRead (bookAt (now (book .entry)) (now (words .entry)) counts) (textLimits counts found (now (s .entry))) (now (s .entry))
-        (namesOf (now (s .entry)) found) (textEdges (now (s .entry))) (differ (nameAt (now (s .entry)) v) (nameAt (now (s .entry)) u)) [] r ⌝ }
+pub fn exclusion(s: &[u8], found: Vertices, v: Part, u: Part) -> Condition
+    requires { ⌜ found .count ≤ 8 ⌝ }
+    ensures { λ r. ⌜ r ≡ Excluded (place (nameAt (now (s .entry)) v) (namesOf (now (s .entry)) found))
+        (place (nameAt (now (s .entry)) u) (namesOf (now (s .entry)) found)) ⌝ }
 {
     let from = vertices::vertex_number(s, found, v);
     let other = vertices::vertex_number(s, found, u);
     Condition::Excluded(from, other)
-}
-
-// The clauses with one more.
-fn with_condition(clauses: Clauses, condition: Condition) -> Clauses
-    requires { ⌜ clauses .count < 32 ⌝ }
-    ensures { λ r. ⌜ ClauseAdded clauses condition r ⌝ }
-{
-    let n = clauses.count;
-    let mut more = clauses;
-    more.clauses[n] = Clause { condition };
-    more.count = n + 1;
-    more
-}
-
-// The clauses with the condition of a piece, if it has one.
-fn with_piece(
-    book: &[u8],
-    words: &[u32],
-    counts: BookCounts,
-    s: &[u8],
-    found: Vertices,
-    clauses: Clauses,
-    p: Piece,
-) -> Clauses
-    requires { ⌜ PieceAsked (now book) (now words) counts (now s) found clauses p ⌝ }
-    ensures { λ r. ⌜ PieceAdded (bookAt (now (book .entry)) (now (words .entry)) counts) (textLimits counts found (now (s .entry))) (now (s .entry))
-        (namesOf (now (s .entry)) found) (textEdges (now (s .entry))) clauses p r ⌝ }
-{
-    match p {
-        Piece::Start(_) => clauses,
-        Piece::Goes(_) => clauses,
-        Piece::Comes(_) => clauses,
-        Piece::Differ(v, u) => with_condition(
-            clauses,
-            exclusion(book, words, counts, s, found, v, u),
-        ),
-        Piece::Asks(d) => with_condition(clauses, requirement(book, words, counts, s, found, d)),
-        Piece::Returns(_) => clauses,
-    }
-}
-
-// No clause.
-fn no_clauses() -> Clauses
-    ensures { λ r. ⌜ r ≡ noClauses ⌝ }
-{
-    let condition = Condition::Excluded(0, 0);
-    let none = Clause { condition };
-    let clauses = [none; MAX_CONDITIONS];
-    Clauses { clauses, count: 0 }
-}
-
-// The conditions of a text, of which the vertices are found.
-pub fn clauses_of(
-    book: &[u8],
-    words: &[u32],
-    counts: BookCounts,
-    s: &[u8],
-    found: Vertices,
-) -> Clauses
-    requires { ⌜ ClausesAsked (now book) (now words) counts (now s) found ⌝ }
-    ensures { λ r. ⌜ TextClausesRead (bookAt (now (book .entry)) (now (words .entry)) counts) (textLimits counts found (now (s .entry))) (now (s .entry)) r ⌝ }
-{
-    let mut place = scan::text_start();
-    let mut clauses = no_clauses();
-    loop {
-        let PieceRead::Found(x) = reading::next_piece(s, place) else {
-            return clauses;
-        };
-        let p = x.piece;
-        clauses = with_piece(book, words, counts, s, found, clauses, p);
-        let next = x.next;
-        place = next;
-    }
 }

@@ -1,12 +1,17 @@
 // The pattern of a text that has no fault.
 ghost use mathlib.Core.Path.{_≡_};
 ghost use Rattle.tables.specs.View.{bookAt};
-ghost use Rattle.query.specs.PatternRead.{PatternAsked, PatternRead};
+ghost use Rattle.query.specs.PatternRead.{PatternAsked, PatternRead, patternMade};
 ghost use Rattle.model.specs.PlainData.{noPattern};
 use crate::clauses;
+use crate::clauses::Clauses;
 use crate::edges;
+use crate::edges::Edges;
 use crate::returns;
+use crate::returns::Returns;
 use crate::vertices;
+use crate::vertices::Vertices;
+use faults::scan;
 use model::Clause;
 use model::Condition;
 use model::Counts;
@@ -17,6 +22,9 @@ use model::limits::MAX_CONDITIONS;
 use model::limits::MAX_EDGES;
 use model::limits::MAX_RETURNS;
 use model::limits::MAX_VERTICES;
+use pieces::Piece;
+use pieces::PieceRead;
+use pieces::reading;
 use tables::BookCounts;
 
 // The empty pattern.
@@ -54,15 +62,10 @@ pub fn empty() -> Pattern
     }
 }
 
-// The pattern of a text: vertices by first appearance, edges and conditions in its order, returned vertices.
-pub fn pattern_of(book: &[u8], words: &[u32], counts: BookCounts, s: &[u8]) -> Pattern
-    requires { ⌜ PatternAsked (now book) (now words) counts (now s) ⌝ }
-    ensures { λ r. ⌜ PatternRead (bookAt (now (book .entry)) (now (words .entry)) counts) counts (now (s .entry)) r ⌝ }
+// The pattern of what is found.
+fn made(found: Vertices, links: Edges, conditions: Clauses, returned: Returns) -> Pattern
+    ensures { λ r. ⌜ r ≡ patternMade found links conditions returned ⌝ }
 {
-    let found = vertices::vertices_of(s);
-    let links = edges::edges_of(book, words, counts, s, found);
-    let conditions = clauses::clauses_of(book, words, counts, s, found);
-    let returned = returns::returns_of(s, found);
     let vertices = found.parts;
     let edges = links.edges;
     let clauses = conditions.clauses;
@@ -79,5 +82,69 @@ pub fn pattern_of(book: &[u8], words: &[u32], counts: BookCounts, s: &[u8]) -> P
         clauses,
         returns,
         counts,
+    }
+}
+
+// The pattern of a text: vertices by first appearance, edges and conditions in its order, returned vertices.
+// One walk over the pieces: what a piece names stands before it, so that its number is that among the names found so far.
+pub fn pattern_of(book: &[u8], words: &[u32], counts: BookCounts, s: &[u8]) -> Pattern
+    requires { ⌜ PatternAsked (now book) (now words) counts (now s) ⌝ }
+    ensures { λ r. ⌜ PatternRead (bookAt (now (book .entry)) (now (words .entry)) counts) counts (now (s .entry)) r ⌝ }
+{
+    let mut place = scan::text_start();
+    let mut last = 0;
+    let mut found = vertices::no_vertices();
+    let mut links = edges::no_edges();
+    let mut conditions = clauses::no_clauses();
+    let mut returned = returns::no_returns();
+    loop {
+        let PieceRead::Found(x) = reading::next_piece(s, place) else {
+            return made(found, links, conditions, returned);
+        };
+        let p = x.piece;
+        let next = x.next;
+        place = next;
+        match p {
+            Piece::Start(v) => {
+                let own = vertices::vertex_number(s, found, v);
+                found = vertices::with_vertex(found, own, v);
+                last = own;
+            }
+            Piece::Goes(link) => {
+                let v = link.vertex;
+                let own = vertices::vertex_number(s, found, v);
+                found = vertices::with_vertex(found, own, v);
+                let n = links.count;
+                links.edges[n] = edges::edge_of(book, words, counts, s, link, last, own);
+                links.count = n + 1;
+                last = own;
+            }
+            Piece::Comes(link) => {
+                let v = link.vertex;
+                let own = vertices::vertex_number(s, found, v);
+                found = vertices::with_vertex(found, own, v);
+                let n = links.count;
+                links.edges[n] = edges::edge_of(book, words, counts, s, link, own, last);
+                links.count = n + 1;
+                last = own;
+            }
+            Piece::Differ(v, u) => {
+                let condition = clauses::exclusion(s, found, v, u);
+                let n = conditions.count;
+                conditions.clauses[n] = Clause { condition };
+                conditions.count = n + 1;
+            }
+            Piece::Asks(d) => {
+                let condition = clauses::requirement(book, words, counts, s, found, links, d);
+                let n = conditions.count;
+                conditions.clauses[n] = Clause { condition };
+                conditions.count = n + 1;
+            }
+            Piece::Returns(v) => {
+                let n = returned.count;
+                returned.numbers[n] = vertices::vertex_number(s, found, v);
+                returned.count = n + 1;
+            }
+        }
     }
 }

@@ -1,5 +1,5 @@
 -- `vertex_requirement` meets its contract. Assumes nothing.
-use mathlib.Core.Path.{refl, ap, _∙_}
+use mathlib.Core.Path.{ap, _∙_}
 use Rattle.model.specs.Answers.{nameAt}
 use Rattle.model.specs.Book.{attrNames}
 use Rattle.model.specs.Names.{place}
@@ -18,11 +18,8 @@ returns : tie.Need-returns
 unfolding nameAt
 returns c =
     let a = c .before .before .before .before .before .before .args in
-    record {
-      attribute = c .find-vattr .ensures ∙ ap (λ w. place w (attrNames (bookAt (a .book .now) (a .words .now) (a .counts) .vattrs))) (c .before .part .ensures);
-      relation = refl;
-      value = refl;
-    }
+    let attribute = c .find-vattr .ensures ∙ ap (λ w. place w (attrNames (bookAt (a .book .now) (a .words .now) (a .counts) .vattrs))) (c .before .part .ensures) in
+    λ i. record { attribute = attribute i; relation = a .d .relation; value = a .d .value }
 
 pub vertex-requirement-spec : {M : Type 1} → statement M
 vertex-requirement-spec = tie.close (tie.spec part-requires find-vattr-requires returns)

@@ -4,13 +4,14 @@ use mathlib.Core.Path.{_≡_, sym, _∙_}
 use native.Mathlib.Omega.{arith}
 use lib.ListN.{length, length-map}
 use Rattle.model.specs.Answers.{nameAt}
+use Rattle.model.specs.PlainData.{noPart}
 use Rattle.query.proofs.VertexLaws.{NoneNamed, number-start, number-on, number-found, number-none}
 use borrow.Author.Needs.{needs}
 use Rattle.query.proofs.vertices.vertex_number.Statement.{statement}
 use Rattle.query.proofs.vertices.vertex_number.Tie as tie
 
 abbrev Inv-loop : tie.InvT-loop
-Inv-loop s name vertices n k₀ k = (k ≤ n) × NoneNamed s vertices (nameAt s name) k
+Inv-loop s name vertices n k₀ k = (k ≤ n) × NoneNamed (nameAt s) noPart (vertices .parts) (nameAt s name) k
 
 abbrev μ-loop : tie.MeasureT-loop
 μ-loop s name vertices n k₀ k = n - k
@@ -18,8 +19,7 @@ abbrev μ-loop : tie.MeasureT-loop
 loop-holds : tie.Need-loop-holds Inv-loop μ-loop
 loop-holds c =
     let a = c .before .args in
-    let size : length (a .t2 .parts) ≡ 8 = sym (length-map (a .t2 .parts) _) ∙ c .before .good .1 .0 .1 .1 .0 .1 .0 .1 in
-    (omega arith, number-start (a .s .now) (a .t2) (nameAt (a .s .now) (a .name)) size (c .before .pre))
+    (omega arith, number-start (nameAt (a .s .now)) noPart (a .t2 .parts) (nameAt (a .s .now) (a .name)))
 
 mul-v : tie.Need-mul-v Inv-loop μ-loop
 mul-v c = search needs
@@ -35,7 +35,7 @@ returns c =
     let a = c .before .before .before .before .before .before .args in
     let size : length (a .t2 .parts) ≡ 8 = sym (length-map (a .t2 .parts) _) ∙ c .before .before .before .before .before .before .good .1 .0 .1 .1 .0 .1 .0 .1 in
     let l = c .before .before .before .before .loop in
-    number-found (a .s .now) (a .t2) (nameAt (a .s .now) (a .name)) size (c .before .before .before .before .before .before .pre) (l .k) (c .before .before .before .loop-test .taken) (l .inv .1) (sym (c .before .same-part .ensures) ∙ c .if1 .taken)
+    number-found (nameAt (a .s .now)) noPart (a .t2 .parts) (nameAt (a .s .now) (a .name)) (a .t2 .count) (omega (arith, size, c .before .before .before .before .before .before .pre)) (l .k) (c .before .before .before .loop-test .taken) (l .inv .1) (sym (c .before .same-part .ensures) ∙ c .if1 .taken)
 
 add-k : tie.Need-add-k Inv-loop μ-loop
 add-k c = search needs
@@ -46,16 +46,15 @@ loop-less c = search needs
 loop-again : tie.Need-loop-again Inv-loop μ-loop
 loop-again c =
     let a = c .before .before .before .before .before .before .args in
-    let size : length (a .t2 .parts) ≡ 8 = sym (length-map (a .t2 .parts) _) ∙ c .before .before .before .before .before .before .good .1 .0 .1 .1 .0 .1 .0 .1 in
     let l = c .before .before .before .before .loop in
-    (omega arith, number-on (a .s .now) (a .t2) (nameAt (a .s .now) (a .name)) size (c .before .before .before .before .before .before .pre) (l .k) (l .inv .1) (sym (c .before .same-part .ensures) ∙ c .if1 .left))
+    (omega arith, number-on (nameAt (a .s .now)) noPart (a .t2 .parts) (nameAt (a .s .now) (a .name)) (l .k) (l .inv .1) (sym (c .before .same-part .ensures) ∙ c .if1 .left))
 
 returns-2 : tie.Need-returns-2 Inv-loop μ-loop
 returns-2 c =
     let a = c .before .before .before .args in
     let size : length (a .t2 .parts) ≡ 8 = sym (length-map (a .t2 .parts) _) ∙ c .before .before .before .good .1 .0 .1 .1 .0 .1 .0 .1 in
     let l = c .before .loop in
-    number-none (a .s .now) (a .t2) (nameAt (a .s .now) (a .name)) size (c .before .before .before .pre) (l .k) (l .inv .0) (c .loop-test .left) (l .inv .1)
+    number-none (nameAt (a .s .now)) noPart (a .t2 .parts) (nameAt (a .s .now) (a .name)) (a .t2 .count) (omega (arith, size, c .before .before .before .pre)) (l .k) (l .inv .0) (c .loop-test .left) (l .inv .1)
 
 pub vertex-number-spec : {M : Type 1} → statement M
 vertex-number-spec =

@@ -1,0 +1,74 @@
+-- `edge_number` meets its contract. The loop's invariant: none of the first k edges has the name. Assumes nothing.
+use Prim.Native.Nat.{_-_, _≤_}
+use mathlib.Core.Path.{_≡_, sym, _∙_}
+use native.Mathlib.Omega.{arith}
+use lib.ListN.{length, length-map}
+use Rattle.model.specs.Answers.{nameAt}
+use Rattle.model.specs.PlainData.{noEdge}
+use Rattle.model.specs.declared.Edge.{Edge}
+use Rattle.query.proofs.VertexLaws.{NoneNamed, number-start, number-on, number-found, number-none}
+use borrow.Author.Needs.{needs}
+use Rattle.query.proofs.edges.edge_number.Statement.{statement}
+use Rattle.query.proofs.edges.edge_number.Tie as tie
+
+abbrev Inv-loop : tie.InvT-loop
+Inv-loop s name links n k₀ k = (k ≤ n) × NoneNamed (λ (e : Edge). nameAt s (e .name)) noEdge (links .edges) (nameAt s name) k
+
+abbrev μ-loop : tie.MeasureT-loop
+μ-loop s name links n k₀ k = n - k
+
+loop-holds : tie.Need-loop-holds Inv-loop μ-loop
+loop-holds c =
+    let a = c .before .args in
+    (omega arith, number-start (λ (e : Edge). nameAt (a .s .now) (e .name)) noEdge (a .t2 .edges) (nameAt (a .s .now) (a .name)))
+
+mul-e : tie.Need-mul-e Inv-loop μ-loop
+mul-e c = search needs
+
+element-copy-out-e : tie.Need-element-copy-out-e Inv-loop μ-loop
+element-copy-out-e c = omega (arith, c .before .before .before .pre)
+
+same-part-requires : tie.Need-same-part-requires Inv-loop μ-loop
+same-part-requires c κs = search needs
+
+returns : tie.Need-returns Inv-loop μ-loop
+returns c =
+    let a = c .before .before .before .before .before .before .before .args in
+    let size : length (a .t2 .edges) ≡ 16 = sym (length-map (a .t2 .edges) _) ∙ c .before .before .before .before .before .before .before .good .1 .0 .1 .1 .0 .1 .0 .1 in
+    let l = c .before .before .before .before .before .loop in
+    number-found (λ (e : Edge). nameAt (a .s .now) (e .name)) noEdge (a .t2 .edges) (nameAt (a .s .now) (a .name)) (a .t2 .count) (omega (arith, size, c .before .before .before .before .before .before .before .pre)) (l .k) (c .before .before .before .before .loop-test .taken) (l .inv .1) (sym (c .before .same-part .ensures) ∙ c .if1 .taken)
+
+add-k : tie.Need-add-k Inv-loop μ-loop
+add-k c = search needs
+
+loop-less : tie.Need-loop-less Inv-loop μ-loop
+loop-less c = search needs
+
+loop-again : tie.Need-loop-again Inv-loop μ-loop
+loop-again c =
+    let a = c .before .before .before .before .before .before .before .args in
+    let l = c .before .before .before .before .before .loop in
+    (omega arith, number-on (λ (e : Edge). nameAt (a .s .now) (e .name)) noEdge (a .t2 .edges) (nameAt (a .s .now) (a .name)) (l .k) (l .inv .1) (sym (c .before .same-part .ensures) ∙ c .if1 .left))
+
+returns-2 : tie.Need-returns-2 Inv-loop μ-loop
+returns-2 c =
+    let a = c .before .before .before .args in
+    let size : length (a .t2 .edges) ≡ 16 = sym (length-map (a .t2 .edges) _) ∙ c .before .before .before .good .1 .0 .1 .1 .0 .1 .0 .1 in
+    let l = c .before .loop in
+    number-none (λ (e : Edge). nameAt (a .s .now) (e .name)) noEdge (a .t2 .edges) (nameAt (a .s .now) (a .name)) (a .t2 .count) (omega (arith, size, c .before .before .before .pre)) (l .k) (l .inv .0) (c .loop-test .left) (l .inv .1)
+
+pub edge-number-spec : {M : Type 1} → statement M
+edge-number-spec =
+    tie.close
+    (tie.spec
+    Inv-loop
+    μ-loop
+    loop-holds
+    mul-e
+    element-copy-out-e
+    same-part-requires
+    returns
+    add-k
+    loop-less
+    loop-again
+    returns-2)

@@ -1,0 +1,24 @@
+-- `edge_of` meets its contract. Assumes nothing.
+use mathlib.Core.Path.{ap, _∙_}
+use Rattle.model.specs.Names.{place}
+use Rattle.model.specs.Answers.{nameAt}
+use Rattle.tables.specs.View.{bookAt}
+use borrow.Author.Needs.{needs}
+use Rattle.query.proofs.edges.edge_of.Statement.{statement}
+use Rattle.query.proofs.edges.edge_of.Tie as tie
+
+part-requires : tie.Need-part-requires
+part-requires c κs = search needs
+
+find-label-requires : tie.Need-find-label-requires
+find-label-requires c κs = search needs
+
+returns : tie.Need-returns
+unfolding nameAt
+returns c =
+    let a = c .before .before .before .before .before .before .before .args in
+    let label = c .before .find-label .ensures ∙ ap (λ w. place w (bookAt (a .book .now) (a .words .now) (a .counts) .labels)) (c .before .before .part .ensures) in
+    λ i. record { name = a .link .edge; label = label i; from = a .from; to = a .to }
+
+pub edge-of-spec : {M : Type 1} → statement M
+edge-of-spec = tie.close (tie.spec part-requires find-label-requires returns)
