@@ -1,14 +1,13 @@
 // The conditions of a pattern in words.
 ghost use mathlib.Core.Path.{_≡_};
 ghost use Prim.Native.Nat.{_<_};
-ghost use Rattle.answer_words.specs.Words.{relationWord, valueRow, requirementRow, conditionRow, conditionWord, conditionWords};
+ghost use Rattle.answer_words.specs.Words.{relationWord, valueRow, requirementRow, conditionRow, rowWord, conditionWords};
 use model::Clause;
 use model::Condition;
 use model::Pattern;
 use model::Relation;
 use model::Requirement;
 use model::Value;
-use model::limits::MAX_CONDITIONS;
 
 // Which condition it is, the first vertex or the owner, the second vertex or the attribute, the relation, the value's type and its two words.
 const CONDITION_WORDS: usize = 7;
@@ -41,22 +40,21 @@ pub fn condition_words(pattern: Pattern) -> [usize; ALL_CONDITION_WORDS]
     let mut words = [0; ALL_CONDITION_WORDS];
     let mut k = 0;
     while k < ALL_CONDITION_WORDS {
-        words[k] = condition_word(given, count, k);
+        words[k] = condition_word(given[k / CONDITION_WORDS], count, k);
         k += 1;
     }
     words
 }
 
-// One of those words.
-fn condition_word(given: [Clause; MAX_CONDITIONS], count: usize, k: usize) -> usize
+// One of those words, of which the condition is given.
+fn condition_word(clause: Clause, count: usize, k: usize) -> usize
     requires { ⌜ k < 224 ⌝ }
-    ensures { λ r. ⌜ r ≡ conditionWord given count k ⌝ }
+    ensures { λ r. ⌜ r ≡ rowWord 7 count (λ _. conditionRow (clause .condition)) k ⌝ }
 {
-    let i = k / CONDITION_WORDS;
-    if count <= i {
+    if count <= k / CONDITION_WORDS {
         return 0;
     }
-    let row = clause_row(given[i]);
+    let row = clause_row(clause);
     row[k % CONDITION_WORDS]
 }
 

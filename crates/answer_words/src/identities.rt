@@ -1,10 +1,9 @@
 // The identities of a request in words.
 ghost use mathlib.Core.Path.{_≡_};
 ghost use Prim.Native.Nat.{_<_};
-ghost use Rattle.answer_words.specs.Words.{identityRow, identityWord, identityWords};
+ghost use Rattle.answer_words.specs.Words.{identityRow, rowWord, identityWords};
 use model::Identity;
 use model::RequestRead;
-use model::limits::MAX_IDENTITIES;
 
 // Start, length and node of each identity.
 const IDENTITY_WORDS: usize = 3;
@@ -20,22 +19,21 @@ pub fn identity_words(read: RequestRead) -> [usize; ALL_IDENTITY_WORDS]
     let mut words = [0; ALL_IDENTITY_WORDS];
     let mut k = 0;
     while k < ALL_IDENTITY_WORDS {
-        words[k] = identity_word(given, count, k);
+        words[k] = identity_word(given[k / IDENTITY_WORDS], count, k);
         k += 1;
     }
     words
 }
 
-// One of those words.
-fn identity_word(given: [Identity; MAX_IDENTITIES], count: usize, k: usize) -> usize
+// One of those words, of which the identity is given.
+fn identity_word(identity: Identity, count: usize, k: usize) -> usize
     requires { ⌜ k < 24 ⌝ }
-    ensures { λ r. ⌜ r ≡ identityWord given count k ⌝ }
+    ensures { λ r. ⌜ r ≡ rowWord 3 count (λ _. identityRow identity) k ⌝ }
 {
-    let i = k / IDENTITY_WORDS;
-    if count <= i {
+    if count <= k / IDENTITY_WORDS {
         return 0;
     }
-    let row = identity_row(given[i]);
+    let row = identity_row(identity);
     row[k % IDENTITY_WORDS]
 }
 

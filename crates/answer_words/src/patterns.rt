@@ -1,13 +1,11 @@
 // The vertices, the edges and the Return names of a pattern in words.
 ghost use mathlib.Core.Path.{_≡_};
 ghost use Prim.Native.Nat.{_<_};
-ghost use Rattle.answer_words.specs.Words.{vertexRow, edgeRow, vertexWord, edgeWord, returnWord, vertexWords, edgeWords, returnWords};
+ghost use Rattle.answer_words.specs.Words.{vertexRow, edgeRow, rowWord, returnWord, vertexWords, edgeWords, returnWords};
 use model::Edge;
 use model::Part;
 use model::Pattern;
-use model::limits::MAX_EDGES;
 use model::limits::MAX_RETURNS;
-use model::limits::MAX_VERTICES;
 
 // Start and length of each vertex's name.
 const VERTEX_WORDS: usize = 2;
@@ -28,22 +26,21 @@ pub fn vertex_words(pattern: Pattern) -> [usize; ALL_VERTEX_WORDS]
     let mut words = [0; ALL_VERTEX_WORDS];
     let mut k = 0;
     while k < ALL_VERTEX_WORDS {
-        words[k] = vertex_word(given, count, k);
+        words[k] = vertex_word(given[k / VERTEX_WORDS], count, k);
         k += 1;
     }
     words
 }
 
-// One of those words.
-fn vertex_word(given: [Part; MAX_VERTICES], count: usize, k: usize) -> usize
+// One of those words, of which the vertex is given.
+fn vertex_word(vertex: Part, count: usize, k: usize) -> usize
     requires { ⌜ k < 16 ⌝ }
-    ensures { λ r. ⌜ r ≡ vertexWord given count k ⌝ }
+    ensures { λ r. ⌜ r ≡ rowWord 2 count (λ _. vertexRow vertex) k ⌝ }
 {
-    let i = k / VERTEX_WORDS;
-    if count <= i {
+    if count <= k / VERTEX_WORDS {
         return 0;
     }
-    let row = vertex_row(given[i]);
+    let row = vertex_row(vertex);
     row[k % VERTEX_WORDS]
 }
 
@@ -63,22 +60,21 @@ pub fn edge_words(pattern: Pattern) -> [usize; ALL_EDGE_WORDS]
     let mut words = [0; ALL_EDGE_WORDS];
     let mut k = 0;
     while k < ALL_EDGE_WORDS {
-        words[k] = edge_word(given, count, k);
+        words[k] = edge_word(given[k / EDGE_WORDS], count, k);
         k += 1;
     }
     words
 }
 
-// One of those words.
-fn edge_word(given: [Edge; MAX_EDGES], count: usize, k: usize) -> usize
+// One of those words, of which the edge is given.
+fn edge_word(edge: Edge, count: usize, k: usize) -> usize
     requires { ⌜ k < 80 ⌝ }
-    ensures { λ r. ⌜ r ≡ edgeWord given count k ⌝ }
+    ensures { λ r. ⌜ r ≡ rowWord 5 count (λ _. edgeRow edge) k ⌝ }
 {
-    let i = k / EDGE_WORDS;
-    if count <= i {
+    if count <= k / EDGE_WORDS {
         return 0;
     }
-    let row = edge_row(given[i]);
+    let row = edge_row(edge);
     row[k % EDGE_WORDS]
 }
 

@@ -1,19 +1,11 @@
 -- One word of the conditions: past the last 0, else of its row.
 use Rattle.answer_words.proofs.RowLaws.{past-rows, in-row}
-use Rattle.answer_words.specs.Words.{conditionWord}
 use borrow.Author.Needs.{needs}
 use Rattle.answer_words.proofs.conditions.condition_word.Statement.{statement}
 use Rattle.answer_words.proofs.conditions.condition_word.Tie as tie
 
 returns : tie.Need-returns
-unfolding conditionWord
 returns c = past-rows 7 _ _ _ (c .if1 .taken)
-
-mul-clause-row : tie.Need-mul-clause-row
-mul-clause-row c = search needs
-
-array-copy-out-clause-row : tie.Need-array-copy-out-clause-row
-array-copy-out-clause-row c = search needs
 
 clause-row-requires : tie.Need-clause-row-requires
 clause-row-requires c κs = search needs
@@ -25,16 +17,13 @@ array-read-result : tie.Need-array-read-result
 array-read-result c = search needs
 
 returns-2 : tie.Need-returns-2
-unfolding conditionWord
-returns-2 c = in-row 7 _ _ _ _ (c .before .before .if1 .left) (c .clause-row .ensures)
+returns-2 c = in-row 7 _ _ _ _ (c .before .if1 .left) (c .clause-row .ensures)
 
 pub condition-word-spec : {M : Type 1} → statement M
 condition-word-spec =
     tie.close
     (tie.spec
     returns
-    mul-clause-row
-    array-copy-out-clause-row
     clause-row-requires
     mul-result
     array-read-result

@@ -4,7 +4,7 @@ use mathlib.Core.Path.{refl}
 use native.Mathlib.Omega.{arith}
 use borrow.Author.Needs.{needs}
 use Rattle.tables.proofs.PutLaws.{PutSoFar, put-start, put-step, put-end}
-use Rattle.answer_words.specs.Words.{conditionWord, conditionWords}
+use Rattle.answer_words.specs.Words.{rowWord, conditionWord, conditionWords}
 use Rattle.answer_words.proofs.conditions.condition_words.Statement.{statement}
 use Rattle.answer_words.proofs.conditions.condition_words.Tie as tie
 
@@ -16,6 +16,12 @@ abbrev μ-loop : tie.MeasureT-loop
 
 loop-holds : tie.Need-loop-holds Inv-loop μ-loop
 loop-holds c = put-start _ _ _ refl
+
+mul-condition-word : tie.Need-mul-condition-word Inv-loop μ-loop
+mul-condition-word c = search needs
+
+array-copy-out-condition-word : tie.Need-array-copy-out-condition-word Inv-loop μ-loop
+array-copy-out-condition-word c = search needs
 
 condition-word-requires : tie.Need-condition-word-requires Inv-loop μ-loop
 condition-word-requires c κs = search needs
@@ -33,7 +39,8 @@ loop-less : tie.Need-loop-less Inv-loop μ-loop
 loop-less c = omega arith
 
 loop-again : tie.Need-loop-again Inv-loop μ-loop
-loop-again c = put-step _ _ _ _ _ (c .before .loop-test .taken) (c .before .before .loop .inv) (c .condition-word .ensures)
+unfolding conditionWord rowWord
+loop-again c = put-step _ _ _ _ _ (c .before .before .loop-test .taken) (c .before .before .before .loop .inv) (c .condition-word .ensures)
 
 returns : tie.Need-returns Inv-loop μ-loop
 unfolding conditionWords
@@ -46,6 +53,8 @@ condition-words-spec =
     Inv-loop
     μ-loop
     loop-holds
+    mul-condition-word
+    array-copy-out-condition-word
     condition-word-requires
     mul-words
     array-write-words

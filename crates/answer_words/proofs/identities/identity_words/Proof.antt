@@ -4,7 +4,7 @@ use mathlib.Core.Path.{refl}
 use native.Mathlib.Omega.{arith}
 use borrow.Author.Needs.{needs}
 use Rattle.tables.proofs.PutLaws.{PutSoFar, put-start, put-step, put-end}
-use Rattle.answer_words.specs.Words.{identityWord, identityWords}
+use Rattle.answer_words.specs.Words.{rowWord, identityWord, identityWords}
 use Rattle.answer_words.proofs.identities.identity_words.Statement.{statement}
 use Rattle.answer_words.proofs.identities.identity_words.Tie as tie
 
@@ -16,6 +16,12 @@ abbrev μ-loop : tie.MeasureT-loop
 
 loop-holds : tie.Need-loop-holds Inv-loop μ-loop
 loop-holds c = put-start _ _ _ refl
+
+mul-identity-word : tie.Need-mul-identity-word Inv-loop μ-loop
+mul-identity-word c = search needs
+
+array-copy-out-identity-word : tie.Need-array-copy-out-identity-word Inv-loop μ-loop
+array-copy-out-identity-word c = search needs
 
 identity-word-requires : tie.Need-identity-word-requires Inv-loop μ-loop
 identity-word-requires c κs = search needs
@@ -33,7 +39,8 @@ loop-less : tie.Need-loop-less Inv-loop μ-loop
 loop-less c = omega arith
 
 loop-again : tie.Need-loop-again Inv-loop μ-loop
-loop-again c = put-step _ _ _ _ _ (c .before .loop-test .taken) (c .before .before .loop .inv) (c .identity-word .ensures)
+unfolding identityWord rowWord
+loop-again c = put-step _ _ _ _ _ (c .before .before .loop-test .taken) (c .before .before .before .loop .inv) (c .identity-word .ensures)
 
 returns : tie.Need-returns Inv-loop μ-loop
 unfolding identityWords
@@ -46,6 +53,8 @@ identity-words-spec =
     Inv-loop
     μ-loop
     loop-holds
+    mul-identity-word
+    array-copy-out-identity-word
     identity-word-requires
     mul-words
     array-write-words

@@ -1,19 +1,11 @@
 -- One word of the edges: past the last 0, else of its row.
 use Rattle.answer_words.proofs.RowLaws.{past-rows, in-row}
-use Rattle.answer_words.specs.Words.{edgeWord}
 use borrow.Author.Needs.{needs}
 use Rattle.answer_words.proofs.patterns.edge_word.Statement.{statement}
 use Rattle.answer_words.proofs.patterns.edge_word.Tie as tie
 
 returns : tie.Need-returns
-unfolding edgeWord
 returns c = past-rows 5 _ _ _ (c .if1 .taken)
-
-mul-edge-row : tie.Need-mul-edge-row
-mul-edge-row c = search needs
-
-array-copy-out-edge-row : tie.Need-array-copy-out-edge-row
-array-copy-out-edge-row c = search needs
 
 edge-row-requires : tie.Need-edge-row-requires
 edge-row-requires c κs = search needs
@@ -25,16 +17,13 @@ array-read-result : tie.Need-array-read-result
 array-read-result c = search needs
 
 returns-2 : tie.Need-returns-2
-unfolding edgeWord
-returns-2 c = in-row 5 _ _ _ _ (c .before .before .if1 .left) (c .edge-row .ensures)
+returns-2 c = in-row 5 _ _ _ _ (c .before .if1 .left) (c .edge-row .ensures)
 
 pub edge-word-spec : {M : Type 1} → statement M
 edge-word-spec =
     tie.close
     (tie.spec
     returns
-    mul-edge-row
-    array-copy-out-edge-row
     edge-row-requires
     mul-result
     array-read-result

@@ -4,7 +4,7 @@ use mathlib.Core.Path.{refl}
 use native.Mathlib.Omega.{arith}
 use borrow.Author.Needs.{needs}
 use Rattle.tables.proofs.PutLaws.{PutSoFar, put-start, put-step, put-end}
-use Rattle.answer_words.specs.Words.{edgeWord, edgeWords}
+use Rattle.answer_words.specs.Words.{rowWord, edgeWord, edgeWords}
 use Rattle.answer_words.proofs.patterns.edge_words.Statement.{statement}
 use Rattle.answer_words.proofs.patterns.edge_words.Tie as tie
 
@@ -16,6 +16,12 @@ abbrev μ-loop : tie.MeasureT-loop
 
 loop-holds : tie.Need-loop-holds Inv-loop μ-loop
 loop-holds c = put-start _ _ _ refl
+
+mul-edge-word : tie.Need-mul-edge-word Inv-loop μ-loop
+mul-edge-word c = search needs
+
+array-copy-out-edge-word : tie.Need-array-copy-out-edge-word Inv-loop μ-loop
+array-copy-out-edge-word c = search needs
 
 edge-word-requires : tie.Need-edge-word-requires Inv-loop μ-loop
 edge-word-requires c κs = search needs
@@ -33,7 +39,8 @@ loop-less : tie.Need-loop-less Inv-loop μ-loop
 loop-less c = omega arith
 
 loop-again : tie.Need-loop-again Inv-loop μ-loop
-loop-again c = put-step _ _ _ _ _ (c .before .loop-test .taken) (c .before .before .loop .inv) (c .edge-word .ensures)
+unfolding edgeWord rowWord
+loop-again c = put-step _ _ _ _ _ (c .before .before .loop-test .taken) (c .before .before .before .loop .inv) (c .edge-word .ensures)
 
 returns : tie.Need-returns Inv-loop μ-loop
 unfolding edgeWords
@@ -46,6 +53,8 @@ edge-words-spec =
     Inv-loop
     μ-loop
     loop-holds
+    mul-edge-word
+    array-copy-out-edge-word
     edge-word-requires
     mul-words
     array-write-words

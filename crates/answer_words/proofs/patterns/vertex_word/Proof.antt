@@ -1,19 +1,11 @@
 -- One word of the vertices: past the last 0, else of its row.
 use Rattle.answer_words.proofs.RowLaws.{past-rows, in-row}
-use Rattle.answer_words.specs.Words.{vertexWord}
 use borrow.Author.Needs.{needs}
 use Rattle.answer_words.proofs.patterns.vertex_word.Statement.{statement}
 use Rattle.answer_words.proofs.patterns.vertex_word.Tie as tie
 
 returns : tie.Need-returns
-unfolding vertexWord
 returns c = past-rows 2 _ _ _ (c .if1 .taken)
-
-mul-vertex-row : tie.Need-mul-vertex-row
-mul-vertex-row c = search needs
-
-array-copy-out-vertex-row : tie.Need-array-copy-out-vertex-row
-array-copy-out-vertex-row c = search needs
 
 vertex-row-requires : tie.Need-vertex-row-requires
 vertex-row-requires c κs = search needs
@@ -25,16 +17,13 @@ array-read-result : tie.Need-array-read-result
 array-read-result c = search needs
 
 returns-2 : tie.Need-returns-2
-unfolding vertexWord
-returns-2 c = in-row 2 _ _ _ _ (c .before .before .if1 .left) (c .vertex-row .ensures)
+returns-2 c = in-row 2 _ _ _ _ (c .before .if1 .left) (c .vertex-row .ensures)
 
 pub vertex-word-spec : {M : Type 1} → statement M
 vertex-word-spec =
     tie.close
     (tie.spec
     returns
-    mul-vertex-row
-    array-copy-out-vertex-row
     vertex-row-requires
     mul-result
     array-read-result

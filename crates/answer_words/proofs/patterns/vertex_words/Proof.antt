@@ -4,7 +4,7 @@ use mathlib.Core.Path.{refl}
 use native.Mathlib.Omega.{arith}
 use borrow.Author.Needs.{needs}
 use Rattle.tables.proofs.PutLaws.{PutSoFar, put-start, put-step, put-end}
-use Rattle.answer_words.specs.Words.{vertexWord, vertexWords}
+use Rattle.answer_words.specs.Words.{rowWord, vertexWord, vertexWords}
 use Rattle.answer_words.proofs.patterns.vertex_words.Statement.{statement}
 use Rattle.answer_words.proofs.patterns.vertex_words.Tie as tie
 
@@ -16,6 +16,12 @@ abbrev μ-loop : tie.MeasureT-loop
 
 loop-holds : tie.Need-loop-holds Inv-loop μ-loop
 loop-holds c = put-start _ _ _ refl
+
+mul-vertex-word : tie.Need-mul-vertex-word Inv-loop μ-loop
+mul-vertex-word c = search needs
+
+array-copy-out-vertex-word : tie.Need-array-copy-out-vertex-word Inv-loop μ-loop
+array-copy-out-vertex-word c = search needs
 
 vertex-word-requires : tie.Need-vertex-word-requires Inv-loop μ-loop
 vertex-word-requires c κs = search needs
@@ -33,7 +39,8 @@ loop-less : tie.Need-loop-less Inv-loop μ-loop
 loop-less c = omega arith
 
 loop-again : tie.Need-loop-again Inv-loop μ-loop
-loop-again c = put-step _ _ _ _ _ (c .before .loop-test .taken) (c .before .before .loop .inv) (c .vertex-word .ensures)
+unfolding vertexWord rowWord
+loop-again c = put-step _ _ _ _ _ (c .before .before .loop-test .taken) (c .before .before .before .loop .inv) (c .vertex-word .ensures)
 
 returns : tie.Need-returns Inv-loop μ-loop
 unfolding vertexWords
@@ -46,6 +53,8 @@ vertex-words-spec =
     Inv-loop
     μ-loop
     loop-holds
+    mul-vertex-word
+    array-copy-out-vertex-word
     vertex-word-requires
     mul-words
     array-write-words
