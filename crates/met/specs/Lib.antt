@@ -1,0 +1,2 @@
+-- The names met in a text.
+pub mod Table
