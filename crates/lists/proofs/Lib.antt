@@ -3,3 +3,4 @@ pub mod Sizes
 pub mod Behind
 pub mod Heads
 pub mod Forms
+pub mod Again

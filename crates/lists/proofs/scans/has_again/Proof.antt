@@ -1,4 +1,4 @@
--- `lists::scans::has_twice` meets its contract. Assumes nothing.
+-- `lists::scans::has_again` meets its contract. Assumes nothing.
 use Prim.Native.Nat.{ℕ, _-_}
 use mathlib.Core.Path.{_≡_, refl, sym, ap, _∙_}
 use native.Mathlib.Omega.{arith}
@@ -9,8 +9,8 @@ use Rattle.model.specs.Names.{twice}
 use Rattle.lists.proofs.Heads.{placed-at, twice-found, twice-other, twice-none}
 use Rattle.lists.proofs.Behind.{left-start, left-next, left-found, left-done, left-over}
 use Rattle.lists.specs.Names.{Left}
-use Rattle.lists.proofs.scans.has_twice.Statement.{statement}
-use Rattle.lists.proofs.scans.has_twice.Tie as tie
+use Rattle.lists.proofs.scans.has_again.Statement.{statement}
+use Rattle.lists.proofs.scans.has_again.Tie as tie
 
 abbrev Inv-loop : tie.InvT-loop
 Inv-loop s from i₀ i = Left twice twice s from i
@@ -59,8 +59,8 @@ loop-again c = left-next twice twice (c .before .before .before .before .before 
 returns-3 : tie.Need-returns-3 Inv-loop μ-loop
 returns-3 c = λ x e. left-over twice twice (c .before .before .before .args .s .now) (c .before .before .before .args .from) (c .before .loop .i) (c .before .loop .inv) (c .loop-test .left) x e
 
-pub has-twice-spec : {M : Type 1} → statement M
-has-twice-spec =
+pub has-again-spec : {M : Type 1} → statement M
+has-again-spec =
     tie.close
     (tie.spec
     Inv-loop
