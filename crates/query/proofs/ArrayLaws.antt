@@ -6,7 +6,7 @@ use mathlib.Core.Bool.{Bool, true, false, not, _||_}
 use mathlib.Core.Logic.{⊎-elim}
 use native.Mathlib.Numerals.{add-one}
 use native.Mathlib.Omega.{arith}
-use lib.ListN.{length, getD, take, drop, set, replicate, length-map, take-append-drop}
+use lib.ListN.{length, getD, take, drop, set, replicate, length-map, length-append, take-append-drop}
 use lib.Seq.{take-suc, take-suc-set, length-take-le, getD-set-same, getD-set-other, drop-drop, drop-set-lt}
 use lib.Dec.{T}
 use Rattle.facts.specs.Tests.{either, equal-or-not}
@@ -68,9 +68,13 @@ module _ {A : Type 0} where
   unfolding padded
   blank-padded n d l count h e = sym (take-append-drop count l) ∙ ap (λ r. take count l ++ r) e ∙ ap (λ k. take count l ++ replicate (n - k) d) (sym (length-take-le count l h))
 
+-- what is found, and more of the rest, is no more than all
+pub room-for : {A : Type 0} (found more later : List A) {every : List A} → (found ++ more) ++ later ≡ every → length found + length more ≤ length every
+room-for found more later e = omega (arith, ap length e, length-append (found ++ more) later, length-append found more)
+
 -- a piece that is read leaves fewer pieces to read
-pub fewer-pieces : (s : Bytes) (place : Place) (r : PieceRead) → StepAt s place r → (x : Step) → r ≡ read.Found x → length (foundAt s (x .next)) < length (foundAt s place)
-fewer-pieces s place r h x e = let z = ap length (step-list s place r h x e) in omega arith
+pub fewer-pieces : {s : Bytes} {place : Place} {r : PieceRead} → StepAt s place r → {x : Step} → r ≡ read.Found x → length (foundAt s (x .next)) < length (foundAt s place)
+fewer-pieces {s} {place} {r} h {x} e = let z = ap length (step-list s place r h x e) in omega arith
 
 -- a test that fails nowhere holds of each element
 none-fails : {A : Type 0} (p : A → Bool) (l : List A) → any (λ x. not (p x)) l ≡ false → (x : A) → x ∈ l → T (p x)

@@ -5,7 +5,7 @@ use mathlib.Core.List.{List, [], _∷_, _++_, map, append-nil, append-assoc}
 use mathlib.Core.Bool.{Bool, true, false, _&&_}
 use native.Mathlib.Numerals.{add-one}
 use native.Mathlib.Omega.{arith}
-use lib.ListN.{length, take, getD, set, length-append, length-set}
+use lib.ListN.{length, take, getD, set, length-set}
 use lib.Seq.{take-suc-set}
 use lib.Dec.{T}
 use Rattle.model.specs.Bytes.{Bytes}
@@ -47,7 +47,7 @@ use Rattle.faults.proofs.ScanLaws.{step-list, step-none}
 use Rattle.writer.specs.Writable.{Limits, ConditionFits}
 use Rattle.query.specs.declared.clauses.Clauses.{Clauses}
 use Rattle.query.specs.Clauses.{requirementIn, demandIn, noClauses}
-use Rattle.query.proofs.ArrayLaws.{Blank, length-taken, taken-more, each-more, blank-more}
+use Rattle.query.proofs.ArrayLaws.{Blank, room-for, length-taken, taken-more, each-more, blank-more}
 use Rattle.query.proofs.StandingLaws.{PartsSoFar, parts-start, parts-on, parts-all}
 use Rattle.query.proofs.VertexLaws.{vertexNamesIn}
 
@@ -269,9 +269,9 @@ module _ (b : Book) (m : Limits) (s : Bytes) (old : Clauses) (h : ClausesRead b 
   pub clauses-same : MoreClauses b m s old [] [] old
   clauses-same = record { read = rw (append-nil (clausesOf b s old)) h; parts = sym (append-nil (valuePartsOf old)) }
 
-  pub clause-more : (x : Clause) (ps : List Part) (k : ConditionData) → old .count < 32 → ConditionRead b m s x ps k
+  pub clause-more : {x : Clause} {ps : List Part} {k z : ConditionData} → old .count < 32 → k ≡ z → ConditionRead b m s x ps z
       → MoreClauses b m s old (x ∷ []) ps (record { clauses = set (old .clauses) (old .count) (record { condition = k }); count = old .count + 1 })
-  clause-more x ps k room q = record {
+  clause-more {x} {ps} {k} {z} room e h-z = let q = subst (ConditionRead b m s x ps) (sym e) h-z in record {
     read = record {
       few = omega arith;
       sized = length-set (old .clauses) (old .count) new ∙ h .sized;
@@ -340,10 +340,8 @@ module _ (b : Book) (m : Limits) (s : Bytes) (vs es : List Bytes) (from : Place)
       pub clauses-room : length (conditionsIn (textPieces s)) ≤ 32 → r .count + length here ≤ 32
       clauses-room l = omega (
         arith,
+        room-for (clausesOf b s r) (map (clauseOf vs es) here) (map (clauseOf vs es) later) ahead,
         length-taken (λ (c : ClauseData). clauseIn b s (c .condition)) (r .clauses) (r .count) (omega (arith, h .read .few, h .read .sized)),
-        ap length ahead,
-        length-append (clausesOf b s r ++ map (clauseOf vs es) here) (map (clauseOf vs es) later),
-        length-append (clausesOf b s r) (map (clauseOf vs es) here),
         length-map (clauseOf vs es) here,
         length-map (clauseOf vs es) (conditionsIn (textPieces s)),
       )

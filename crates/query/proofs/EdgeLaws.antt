@@ -5,7 +5,7 @@ use mathlib.Core.Logic.{⊎-elim}
 use mathlib.Core.List.{List, [], _∷_, _++_, map, append-nil, append-assoc, List·Memᴰ·head, List·Memᴰ·tail, List·Memᴰ·cases-cons as cases-cons}
 use mathlib.Core.Bool.{Bool, true, false}
 use native.Mathlib.Omega.{arith}
-use lib.ListN.{length, getD, take, set, length-append, length-set, length-map}
+use lib.ListN.{length, getD, take, set, length-set, length-map}
 use lib.Seq.{getD-take, length-take-le}
 use Rattle.model.specs.Bytes.{Bytes}
 use Rattle.model.specs.Lists.{joined}
@@ -41,7 +41,7 @@ use Rattle.tables.proofs.NameLaws.{length-names}
 use Rattle.query.specs.declared.vertices.Vertices.{Vertices}
 use Rattle.query.specs.declared.edges.Edges.{Edges}
 use Rattle.query.specs.Edges.{edgeNamesOf, noEdges, edgeMade}
-use Rattle.query.proofs.ArrayLaws.{Blank, length-taken, taken-more, blank-more, label-declared}
+use Rattle.query.proofs.ArrayLaws.{Blank, room-for, length-taken, taken-more, blank-more, label-declared}
 use Rattle.query.proofs.StandingLaws.{PartsSoFar, parts-start, parts-on, parts-all}
 use Rattle.query.proofs.VertexLaws.{vertexNamesIn, Found, found-counted}
 
@@ -186,11 +186,12 @@ module _ (b : Book) (s : Bytes) (vs : List Bytes) (from : Place) (last : ℕ) (e
         ∙ ap (λ ps. numberedOf s edges ++ edgesFrom b vs last ps) (sym (step-list s from r h x e)) ∙ so .rest
 
     pub edges-room : length (linksFrom [] (textPieces s)) ≤ 16 → edges .count + length (edgesBetween b last own (pieceOf s (x .piece))) ≤ 16
-    edges-room few =
-        let a = ap length ahead in
-        let d = length-append (numberedOf s edges ++ edgesBetween b last own (pieceOf s (x .piece))) (edgesFrom b vs own (foundAt s (x .next))) in
-        let g = length-append (numberedOf s edges) (edgesBetween b last own (pieceOf s (x .piece))) in
-        omega (arith, length-map (linksFrom [] (textPieces s)) (linkNumbered b vs), length-taken (numberedIn s) (edges .edges) (edges .count) (omega (arith, so .stored .few, so .stored .room)))
+    edges-room few = omega (
+      arith,
+      room-for (numberedOf s edges) (edgesBetween b last own (pieceOf s (x .piece))) (edgesFrom b vs own (foundAt s (x .next))) ahead,
+      length-map (linksFrom [] (textPieces s)) (linkNumbered b vs),
+      length-taken (numberedIn s) (edges .edges) (edges .count) (omega (arith, so .stored .few, so .stored .room)),
+    )
 
     pub edges-on : (more : Edges) → MoreEdges s edges (edgesBetween b last own (pieceOf s (x .piece))) (joined edgePart (pieceStanding (x .piece))) more → EdgesSoFar b s vs (x .next) own more
     edges-on more m = record {

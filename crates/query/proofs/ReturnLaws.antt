@@ -5,7 +5,7 @@ use mathlib.Core.List.{List, [], _∷_, _++_, map, append-nil, append-assoc}
 use mathlib.Core.Bool.{Bool, false}
 use native.Mathlib.Numerals.{add-one}
 use native.Mathlib.Omega.{arith}
-use lib.ListN.{length, getD, take, set, length-append, length-set, length-map}
+use lib.ListN.{length, getD, take, set, length-set, length-map}
 use lib.Seq.{getD-take, length-take-le, take-suc-set}
 use Rattle.model.specs.Bytes.{Bytes}
 use Rattle.model.specs.Lists.{joined}
@@ -25,7 +25,7 @@ use Rattle.faults.proofs.FaultLaws.{text-ordered}
 use Rattle.query.specs.declared.vertices.Vertices.{Vertices}
 use Rattle.query.specs.declared.returns.Returns.{Returns}
 use Rattle.query.specs.Returns.{noReturns}
-use Rattle.query.proofs.ArrayLaws.{Blank, blank-more, return-declared}
+use Rattle.query.proofs.ArrayLaws.{Blank, room-for, blank-more, return-declared}
 use Rattle.query.proofs.VertexLaws.{vertexNamesIn, Found, found-counted}
 
 -- the numbers of names among the vertices
@@ -83,9 +83,6 @@ returns-start s vs from returns e f = subst (λ (p : Place). ReturnsSoFar s vs p
     none-yet = record { listed = record { room = refl; few = omega arith; blank = refl }; rest = refl }
 
 module _ (s : Bytes) (vs : List Bytes) (from : Place) (returns : Returns) (so : ReturnsSoFar s vs from returns) (r : PieceRead) (h : StepAt s from r) where
-  numbers-counted : length (numbersIn returns) ≡ returns .count
-  numbers-counted = length-take-le (returns .count) (returns .numbers) (omega (arith, so .listed .few, so .listed .room))
-
   module _ (x : Step) (e : r ≡ read.Found x) where
     abbrev names : List Bytes
     names = returnIn (pieceOf s (x .piece))
@@ -98,11 +95,13 @@ module _ (s : Bytes) (vs : List Bytes) (from : Place) (returns : Returns) (so : 
         ∙ ap (λ ps. numbersIn returns ++ numbersOf vs (returnsIn ps)) (sym (step-list s from r h x e)) ∙ so .rest
 
     pub returns-room : length (returnsIn (textPieces s)) ≤ 4 → returns .count + length names ≤ 4
-    returns-room few =
-        let a = ap length ahead in
-        let d = length-append (numbersIn returns ++ numbersOf vs names) (numbersOf vs (returnsIn (foundAt s (x .next)))) in
-        let g = length-append (numbersIn returns) (numbersOf vs names) in
-        omega (arith, numbers-counted, length-map names (λ v. place v vs), length-map (returnsIn (textPieces s)) (λ v. place v vs))
+    returns-room few = omega (
+      arith,
+      room-for (numbersIn returns) (numbersOf vs names) (numbersOf vs (returnsIn (foundAt s (x .next)))) ahead,
+      length-take-le (returns .count) (returns .numbers) (omega (arith, so .listed .few, so .listed .room)),
+      length-map names (λ v. place v vs),
+      length-map (returnsIn (textPieces s)) (λ v. place v vs),
+    )
 
     pub returns-on : (more : Returns) → MoreReturns returns (numbersOf vs names) more → ReturnsSoFar s vs (x .next) more
     returns-on more m = record { listed = m .listed; rest = ap (λ l. l ++ numbersOf vs (returnsIn (foundAt s (x .next)))) (m .is) ∙ ahead }

@@ -1,11 +1,11 @@
 -- Laws of the vertices found so far.
 use Prim.Native.Nat.{ℕ, suc, _+_, _<_, _≤_}
 use mathlib.Core.Path.{_≡_, refl, sym, ap, _∙_, subst}
-use mathlib.Core.List.{List, [], _∷_, _++_, map, append-assoc}
+use mathlib.Core.List.{List, [], _∷_, _++_, map, append-nil, append-assoc}
 use mathlib.Core.Bool.{Bool, true, false, _||_}
 use native.Mathlib.Omega.{arith}
 use native.Mathlib.Numerals.{add-one}
-use lib.ListN.{length, getD, set, length-append, length-set}
+use lib.ListN.{length, take, getD, set, length-append, length-set}
 use lib.Seq.{take-suc-set}
 use borrow.Author.Tests.{lt-ltb, le-ltb}
 use Rattle.facts.specs.Tests.{either, below-or-not}
@@ -67,11 +67,11 @@ module _ {A : Type 0} (f : A → Bytes) (d : A) (l : List A) (w : Bytes) where
   number-on k h t = scan-on (same w) (λ i. f (getD l i d)) k h t
 
   module _ (n : ℕ) (few : n ≤ length l) where
-    pub number-found : (k : ℕ) → k < n → NoneNamed f d l w k → same w (f (getD l k d)) ≡ true → k ≡ place w (map f (lib.ListN.take n l))
+    pub number-found : (k : ℕ) → k < n → NoneNamed f d l w k → same w (f (getD l k d)) ≡ true → k ≡ place w (map f (take n l))
     unfolding place
     number-found k m h t = rw (taken-listed f l d n few) (sym (scan-place (same w) (λ i. f (getD l i d)) n k m h t))
 
-    pub number-none : (k : ℕ) → k ≤ n → n ≤ k → NoneNamed f d l w k → n ≡ place w (map f (lib.ListN.take n l))
+    pub number-none : (k : ℕ) → k ≤ n → n ≤ k → NoneNamed f d l w k → n ≡ place w (map f (take n l))
     unfolding place
     number-none k m o h = let e : k ≡ n = omega arith in rw (taken-listed f l d n few) (sym (scan-absent (same w) (λ i. f (getD l i d)) n (rw e at h)))
 
@@ -117,7 +117,7 @@ module _ (ws vs : List Bytes) (g : Begins ws vs) (w : Bytes) (m : mem w ws ≡ t
 -- first appearances go on from those before
 pub firsts-begun : (seen l : List Bytes) → Begins seen (firsts seen l)
 unfolding firstsBy addNewBy
-firsts-begun seen [] = ([], sym (mathlib.Core.List.append-nil seen))
+firsts-begun seen [] = ([], sym (append-nil seen))
 firsts-begun seen (x ∷ l) = go (any (same x) seen) (firsts-begun (addNew seen x) l)
   where
     go : (t : Bool) → Begins (pick t seen (seen ++ (x ∷ []))) (firsts (pick t seen (seen ++ (x ∷ []))) l) → Begins seen (firsts (pick t seen (seen ++ (x ∷ []))) l)

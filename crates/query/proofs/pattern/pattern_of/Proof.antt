@@ -10,7 +10,7 @@ use Rattle.query.proofs.WalkLaws.{
   PatternSoFar,
   pattern-start,
   pattern-end,
-  start-room,
+  start-own,
   start-on,
   goes-own,
   goes-room,
@@ -22,8 +22,8 @@ use Rattle.query.proofs.WalkLaws.{
   differ-on,
   asks-room,
   asks-on,
-  return-room,
-  returns-further,
+  returned-room,
+  returned-on,
 }
 use borrow.Author.Needs.{needs}
 use Rattle.query.proofs.pattern.pattern_of.Statement.{statement}
@@ -31,7 +31,7 @@ use Rattle.query.proofs.pattern.pattern_of.Tie as tie
 
 abbrev Inv-loop : tie.InvT-loop
 Inv-loop book words counts s place₀ last₀ found₀ links₀ conditions₀ returned₀ place last found links conditions returned =
-    PatternSoFar (bookAt book words counts) counts s place last found links conditions returned
+    PatternSoFar book words counts s place last found links conditions returned
 
 abbrev μ-loop : tie.MeasureT-loop
 μ-loop book words counts s place₀ last₀ found₀ links₀ conditions₀ returned₀ place last found links conditions returned = length (foundAt s place)
@@ -69,122 +69,106 @@ made-requires c κs = search needs
 
 returns : tie.Need-returns Inv-loop μ-loop
 returns c =
-    let a = c .before .before .before .before .before .before .before .before .before .before .before .before .before in
-    let end = pattern-end (a .pre) (c .before .before .before .before .loop .inv) (c .before .before .before .next-piece .ensures) (c .before .enum-told .given .1) in
-    subst (PatternRead (bookAt (a .args .book .now) (a .args .words .now) (a .args .counts)) (a .args .counts) (a .args .s .now)) (sym (c .made .ensures)) end
+    let a = c .before .before .before .before .before .before .before .before .before .before .before .before .before .args in
+    let end = pattern-end (c .before .before .before .before .loop .inv) (c .before .before .before .next-piece .ensures) (c .before .enum-told .given .1) in
+    subst (PatternRead (bookAt (a .book .now) (a .words .now) (a .counts)) (a .counts) (a .s .now)) (sym (c .made .ensures)) end
 
 enum-known-p : tie.Need-enum-known-p Inv-loop μ-loop
 enum-known-p c = search needs
 
 vertex-number-requires : tie.Need-vertex-number-requires Inv-loop μ-loop
-vertex-number-requires c κs =
-    let t = c .before .before .before in
-    t .before .before .before .before .before .loop .inv .vertices .stored .within
+vertex-number-requires c κs = c .before .before .before .before .before .before .before .before .loop .inv .vertices .stored .within
 
 with-vertex-requires : tie.Need-with-vertex-requires Inv-loop μ-loop
 with-vertex-requires c κs =
     let t = c .before .before .before .before in
-    start-room (t .before .before .before .before .before .before .before .before .before .before .before .before .before .before .pre) (t .before .before .before .before .before .loop .inv) (t .before .before .before .before .next-piece .ensures) (t .before .before .x .given .1) (c .before .before .p .given .1) (c .vertex-number .ensures)
+    start-own (t .before .before .before .before .before .loop .inv) (t .before .before .before .before .next-piece .ensures) (t .before .before .x .given .1) (c .before .before .p .given .1) (c .vertex-number .ensures)
 
 loop-less : tie.Need-loop-less Inv-loop μ-loop
 loop-less c =
     let t = c .before .before .before .before .before in
-    fewer-pieces (t .before .before .before .before .before .before .before .before .before .before .before .before .before .before .args .s .now) (t .before .before .before .before .before .loop .place) (t .before .before .before .before .next-piece .result) (t .before .before .before .before .next-piece .ensures) (t .before .before .x .given .0 .0) (t .before .before .x .given .1)
+    fewer-pieces (t .before .before .before .before .next-piece .ensures) (t .before .before .x .given .1)
 
 loop-again : tie.Need-loop-again Inv-loop μ-loop
 loop-again c =
     let t = c .before .before .before .before .before in
-    start-on (t .before .before .before .before .before .before .before .before .before .before .before .before .before .before .pre) (t .before .before .before .before .before .loop .inv) (t .before .before .before .before .next-piece .ensures) (t .before .before .x .given .1) (c .before .before .before .p .given .1) (c .before .vertex-number .ensures) (c .with-vertex .ensures)
+    start-on (t .before .before .before .before .before .loop .inv) (t .before .before .before .before .next-piece .ensures) (t .before .before .x .given .1) (c .before .before .before .p .given .1) (c .before .vertex-number .ensures) (c .with-vertex .ensures)
 
 enum-known-p-2 : tie.Need-enum-known-p-2 Inv-loop μ-loop
 enum-known-p-2 c = search needs
 
 vertex-number-requires-2 : tie.Need-vertex-number-requires-2 Inv-loop μ-loop
-vertex-number-requires-2 c κs =
-    let t = c .before .before .before .before in
-    t .before .before .before .before .before .loop .inv .vertices .stored .within
+vertex-number-requires-2 c κs = c .before .before .before .before .before .before .before .before .before .loop .inv .vertices .stored .within
 
 with-vertex-requires-2 : tie.Need-with-vertex-requires-2 Inv-loop μ-loop
 with-vertex-requires-2 c κs =
     let t = c .before .before .before .before .before in
-    goes-own (t .before .before .before .before .before .before .before .before .before .before .before .before .before .before .pre) (t .before .before .before .before .before .loop .inv) (t .before .before .before .before .next-piece .ensures) (t .before .before .x .given .1) (c .before .before .before .p2 .given .1) (c .vertex-number2 .ensures)
+    goes-own (t .before .before .before .before .before .loop .inv) (t .before .before .before .before .next-piece .ensures) (t .before .before .x .given .1) (c .before .before .before .p2 .given .1) (c .vertex-number2 .ensures)
 
 edge-of-requires : tie.Need-edge-of-requires Inv-loop μ-loop
-edge-of-requires c κs = c .before .before .before .before .before .before .before .before .before .before .before .before .before .before .before .before .before .before .before .before .pre .fits
+edge-of-requires c κs = c .before .before .before .before .before .before .before .before .before .before .before .loop .inv .asked .fits
 
 mul-t41 : tie.Need-mul-t41 Inv-loop μ-loop
-mul-t41 c =
-    let t = c .before .before .before .before .before .before .before in
-    omega (arith, t .before .before .before .before .before .loop .inv .edges .stored .few)
+mul-t41 c = omega (arith, c .before .before .before .before .before .before .before .before .before .before .before .before .loop .inv .edges .stored .few)
 
 element-set-from-links : tie.Need-element-set-from-links Inv-loop μ-loop
 element-set-from-links c =
     let t = c .before .before .before .before .before .before .before in
-    goes-room (t .before .before .before .before .before .before .before .before .before .before .before .before .before .before .pre) (t .before .before .before .before .before .loop .inv) (t .before .before .before .before .next-piece .ensures) (t .before .before .x .given .1) (c .before .before .before .before .before .p2 .given .1) (c .before .before .vertex-number2 .ensures)
+    goes-room (t .before .before .before .before .before .loop .inv) (t .before .before .before .before .next-piece .ensures) (t .before .before .x .given .1) (c .before .before .before .before .before .p2 .given .1)
 
 add-links : tie.Need-add-links Inv-loop μ-loop
-add-links c =
-    let t = c .before .before .before .before .before .before .before in
-    omega (arith, goes-room (t .before .before .before .before .before .before .before .before .before .before .before .before .before .before .pre) (t .before .before .before .before .before .loop .inv) (t .before .before .before .before .next-piece .ensures) (t .before .before .x .given .1) (c .before .before .before .before .before .p2 .given .1) (c .before .before .vertex-number2 .ensures))
+add-links c = omega (arith, c .before .before .before .before .before .before .before .before .before .before .before .before .loop .inv .edges .stored .few)
 
 loop-less-2 : tie.Need-loop-less-2 Inv-loop μ-loop
 loop-less-2 c =
     let t = c .before .before .before .before .before .before .before in
-    fewer-pieces (t .before .before .before .before .before .before .before .before .before .before .before .before .before .before .args .s .now) (t .before .before .before .before .before .loop .place) (t .before .before .before .before .next-piece .result) (t .before .before .before .before .next-piece .ensures) (t .before .before .x .given .0 .0) (t .before .before .x .given .1)
+    fewer-pieces (t .before .before .before .before .next-piece .ensures) (t .before .before .x .given .1)
 
 loop-again-2 : tie.Need-loop-again-2 Inv-loop μ-loop
 loop-again-2 c =
     let t = c .before .before .before .before .before .before .before in
-    goes-on (t .before .before .before .before .before .before .before .before .before .before .before .before .before .before .pre) (t .before .before .before .before .before .loop .inv) (t .before .before .before .before .next-piece .ensures) (t .before .before .x .given .1) (c .before .before .before .before .before .p2 .given .1) (c .before .before .vertex-number2 .ensures) (c .before .with-vertex2 .ensures) (c .edge-of .ensures)
+    goes-on (t .before .before .before .before .before .loop .inv) (t .before .before .before .before .next-piece .ensures) (t .before .before .x .given .1) (c .before .before .before .before .before .p2 .given .1) (c .before .before .vertex-number2 .ensures) (c .before .with-vertex2 .ensures) (c .edge-of .ensures)
 
 enum-known-p-3 : tie.Need-enum-known-p-3 Inv-loop μ-loop
 enum-known-p-3 c = search needs
 
 vertex-number-requires-3 : tie.Need-vertex-number-requires-3 Inv-loop μ-loop
-vertex-number-requires-3 c κs =
-    let t = c .before .before .before .before in
-    t .before .before .before .before .before .loop .inv .vertices .stored .within
+vertex-number-requires-3 c κs = c .before .before .before .before .before .before .before .before .before .loop .inv .vertices .stored .within
 
 with-vertex-requires-3 : tie.Need-with-vertex-requires-3 Inv-loop μ-loop
 with-vertex-requires-3 c κs =
     let t = c .before .before .before .before .before in
-    comes-own (t .before .before .before .before .before .before .before .before .before .before .before .before .before .before .pre) (t .before .before .before .before .before .loop .inv) (t .before .before .before .before .next-piece .ensures) (t .before .before .x .given .1) (c .before .before .before .p3 .given .1) (c .vertex-number3 .ensures)
+    comes-own (t .before .before .before .before .before .loop .inv) (t .before .before .before .before .next-piece .ensures) (t .before .before .x .given .1) (c .before .before .before .p3 .given .1) (c .vertex-number3 .ensures)
 
 edge-of-requires-2 : tie.Need-edge-of-requires-2 Inv-loop μ-loop
-edge-of-requires-2 c κs = c .before .before .before .before .before .before .before .before .before .before .before .before .before .before .before .before .before .before .before .before .pre .fits
+edge-of-requires-2 c κs = c .before .before .before .before .before .before .before .before .before .before .before .loop .inv .asked .fits
 
 mul-t45 : tie.Need-mul-t45 Inv-loop μ-loop
-mul-t45 c =
-    let t = c .before .before .before .before .before .before .before in
-    omega (arith, t .before .before .before .before .before .loop .inv .edges .stored .few)
+mul-t45 c = omega (arith, c .before .before .before .before .before .before .before .before .before .before .before .before .loop .inv .edges .stored .few)
 
 element-set-from-links-2 : tie.Need-element-set-from-links-2 Inv-loop μ-loop
 element-set-from-links-2 c =
     let t = c .before .before .before .before .before .before .before in
-    comes-room (t .before .before .before .before .before .before .before .before .before .before .before .before .before .before .pre) (t .before .before .before .before .before .loop .inv) (t .before .before .before .before .next-piece .ensures) (t .before .before .x .given .1) (c .before .before .before .before .before .p3 .given .1) (c .before .before .vertex-number3 .ensures)
+    comes-room (t .before .before .before .before .before .loop .inv) (t .before .before .before .before .next-piece .ensures) (t .before .before .x .given .1) (c .before .before .before .before .before .p3 .given .1)
 
 add-links-2 : tie.Need-add-links-2 Inv-loop μ-loop
-add-links-2 c =
-    let t = c .before .before .before .before .before .before .before in
-    omega (arith, comes-room (t .before .before .before .before .before .before .before .before .before .before .before .before .before .before .pre) (t .before .before .before .before .before .loop .inv) (t .before .before .before .before .next-piece .ensures) (t .before .before .x .given .1) (c .before .before .before .before .before .p3 .given .1) (c .before .before .vertex-number3 .ensures))
+add-links-2 c = omega (arith, c .before .before .before .before .before .before .before .before .before .before .before .before .loop .inv .edges .stored .few)
 
 loop-less-3 : tie.Need-loop-less-3 Inv-loop μ-loop
 loop-less-3 c =
     let t = c .before .before .before .before .before .before .before in
-    fewer-pieces (t .before .before .before .before .before .before .before .before .before .before .before .before .before .before .args .s .now) (t .before .before .before .before .before .loop .place) (t .before .before .before .before .next-piece .result) (t .before .before .before .before .next-piece .ensures) (t .before .before .x .given .0 .0) (t .before .before .x .given .1)
+    fewer-pieces (t .before .before .before .before .next-piece .ensures) (t .before .before .x .given .1)
 
 loop-again-3 : tie.Need-loop-again-3 Inv-loop μ-loop
 loop-again-3 c =
     let t = c .before .before .before .before .before .before .before in
-    comes-on (t .before .before .before .before .before .before .before .before .before .before .before .before .before .before .pre) (t .before .before .before .before .before .loop .inv) (t .before .before .before .before .next-piece .ensures) (t .before .before .x .given .1) (c .before .before .before .before .before .p3 .given .1) (c .before .before .vertex-number3 .ensures) (c .before .with-vertex3 .ensures) (c .edge-of2 .ensures)
+    comes-on (t .before .before .before .before .before .loop .inv) (t .before .before .before .before .next-piece .ensures) (t .before .before .x .given .1) (c .before .before .before .before .before .p3 .given .1) (c .before .before .vertex-number3 .ensures) (c .before .with-vertex3 .ensures) (c .edge-of2 .ensures)
 
 enum-known-p-4 : tie.Need-enum-known-p-4 Inv-loop μ-loop
 enum-known-p-4 c = search needs
 
 exclusion-requires : tie.Need-exclusion-requires Inv-loop μ-loop
-exclusion-requires c κs =
-    let t = c .before .before .before in
-    t .before .before .before .before .before .loop .inv .vertices .stored .within
+exclusion-requires c κs = c .before .before .before .before .before .before .before .before .loop .inv .vertices .stored .within
 
 mul-t49 : tie.Need-mul-t49 Inv-loop μ-loop
 mul-t49 c = search needs
@@ -192,30 +176,26 @@ mul-t49 c = search needs
 element-set-from-conditions : tie.Need-element-set-from-conditions Inv-loop μ-loop
 element-set-from-conditions c =
     let t = c .before .before .before .before in
-    differ-room (t .before .before .before .before .before .before .before .before .before .before .before .before .before .before .pre) (t .before .before .before .before .before .loop .inv) (t .before .before .before .before .next-piece .ensures) (t .before .before .x .given .1) (c .before .before .p4 .given .1)
+    differ-room (t .before .before .before .before .before .loop .inv) (t .before .before .before .before .next-piece .ensures) (t .before .before .x .given .1) (c .before .before .p4 .given .1)
 
 add-conditions : tie.Need-add-conditions Inv-loop μ-loop
-add-conditions c =
-    let t = c .before .before .before .before in
-    omega (arith, differ-room (t .before .before .before .before .before .before .before .before .before .before .before .before .before .before .pre) (t .before .before .before .before .before .loop .inv) (t .before .before .before .before .next-piece .ensures) (t .before .before .x .given .1) (c .before .before .p4 .given .1))
+add-conditions c = search needs
 
 loop-less-4 : tie.Need-loop-less-4 Inv-loop μ-loop
 loop-less-4 c =
     let t = c .before .before .before .before in
-    fewer-pieces (t .before .before .before .before .before .before .before .before .before .before .before .before .before .before .args .s .now) (t .before .before .before .before .before .loop .place) (t .before .before .before .before .next-piece .result) (t .before .before .before .before .next-piece .ensures) (t .before .before .x .given .0 .0) (t .before .before .x .given .1)
+    fewer-pieces (t .before .before .before .before .next-piece .ensures) (t .before .before .x .given .1)
 
 loop-again-4 : tie.Need-loop-again-4 Inv-loop μ-loop
 loop-again-4 c =
     let t = c .before .before .before .before in
-    differ-on (t .before .before .before .before .before .before .before .before .before .before .before .before .before .before .pre) (t .before .before .before .before .before .loop .inv) (t .before .before .before .before .next-piece .ensures) (t .before .before .x .given .1) (c .before .before .p4 .given .1) (c .exclusion .ensures)
+    differ-on (t .before .before .before .before .before .loop .inv) (t .before .before .before .before .next-piece .ensures) (t .before .before .x .given .1) (c .before .before .p4 .given .1) (c .exclusion .ensures)
 
 enum-known-p-5 : tie.Need-enum-known-p-5 Inv-loop μ-loop
 enum-known-p-5 c = search needs
 
 requirement-requires : tie.Need-requirement-requires Inv-loop μ-loop
-requirement-requires c κs =
-    let t = c .before .before .before in
-    (t .before .before .before .before .before .before .before .before .before .before .before .before .before .before .pre .fits, t .before .before .before .before .before .loop .inv .vertices .stored .within, t .before .before .before .before .before .loop .inv .edges .stored .few)
+requirement-requires c κs = let so = c .before .before .before .before .before .before .before .before .loop .inv in (so .asked .fits, so .vertices .stored .within, so .edges .stored .few)
 
 mul-t54 : tie.Need-mul-t54 Inv-loop μ-loop
 mul-t54 c = search needs
@@ -223,30 +203,26 @@ mul-t54 c = search needs
 element-set-from-conditions-2 : tie.Need-element-set-from-conditions-2 Inv-loop μ-loop
 element-set-from-conditions-2 c =
     let t = c .before .before .before .before in
-    asks-room (t .before .before .before .before .before .before .before .before .before .before .before .before .before .before .pre) (t .before .before .before .before .before .loop .inv) (t .before .before .before .before .next-piece .ensures) (t .before .before .x .given .1) (c .before .before .p5 .given .1)
+    asks-room (t .before .before .before .before .before .loop .inv) (t .before .before .before .before .next-piece .ensures) (t .before .before .x .given .1) (c .before .before .p5 .given .1)
 
 add-conditions-2 : tie.Need-add-conditions-2 Inv-loop μ-loop
-add-conditions-2 c =
-    let t = c .before .before .before .before in
-    omega (arith, asks-room (t .before .before .before .before .before .before .before .before .before .before .before .before .before .before .pre) (t .before .before .before .before .before .loop .inv) (t .before .before .before .before .next-piece .ensures) (t .before .before .x .given .1) (c .before .before .p5 .given .1))
+add-conditions-2 c = search needs
 
 loop-less-5 : tie.Need-loop-less-5 Inv-loop μ-loop
 loop-less-5 c =
     let t = c .before .before .before .before in
-    fewer-pieces (t .before .before .before .before .before .before .before .before .before .before .before .before .before .before .args .s .now) (t .before .before .before .before .before .loop .place) (t .before .before .before .before .next-piece .result) (t .before .before .before .before .next-piece .ensures) (t .before .before .x .given .0 .0) (t .before .before .x .given .1)
+    fewer-pieces (t .before .before .before .before .next-piece .ensures) (t .before .before .x .given .1)
 
 loop-again-5 : tie.Need-loop-again-5 Inv-loop μ-loop
 loop-again-5 c =
     let t = c .before .before .before .before in
-    asks-on (t .before .before .before .before .before .before .before .before .before .before .before .before .before .before .pre) (t .before .before .before .before .before .loop .inv) (t .before .before .before .before .next-piece .ensures) (t .before .before .x .given .1) (c .before .before .p5 .given .1) (c .requirement .ensures)
+    asks-on (t .before .before .before .before .before .loop .inv) (t .before .before .before .before .next-piece .ensures) (t .before .before .x .given .1) (c .before .before .p5 .given .1) (c .requirement .ensures)
 
 enum-known-p-6 : tie.Need-enum-known-p-6 Inv-loop μ-loop
 enum-known-p-6 c = search needs
 
 vertex-number-requires-4 : tie.Need-vertex-number-requires-4 Inv-loop μ-loop
-vertex-number-requires-4 c κs =
-    let t = c .before .before .before in
-    t .before .before .before .before .before .loop .inv .vertices .stored .within
+vertex-number-requires-4 c κs = c .before .before .before .before .before .before .before .before .loop .inv .vertices .stored .within
 
 mul-returned : tie.Need-mul-returned Inv-loop μ-loop
 mul-returned c = search needs
@@ -254,81 +230,29 @@ mul-returned c = search needs
 element-write-returned : tie.Need-element-write-returned Inv-loop μ-loop
 element-write-returned c =
     let t = c .before .before .before .before in
-    return-room (t .before .before .before .before .before .before .before .before .before .before .before .before .before .before .pre) (t .before .before .before .before .before .loop .inv) (t .before .before .before .before .next-piece .ensures) (t .before .before .x .given .1) (c .before .before .p6 .given .1)
+    returned-room (t .before .before .before .before .before .loop .inv) (t .before .before .before .before .next-piece .ensures) (t .before .before .x .given .1) (c .before .before .p6 .given .1)
 
 add-returned : tie.Need-add-returned Inv-loop μ-loop
-add-returned c =
-    let t = c .before .before .before .before in
-    omega (arith, return-room (t .before .before .before .before .before .before .before .before .before .before .before .before .before .before .pre) (t .before .before .before .before .before .loop .inv) (t .before .before .before .before .next-piece .ensures) (t .before .before .x .given .1) (c .before .before .p6 .given .1))
+add-returned c = search needs
 
 loop-less-6 : tie.Need-loop-less-6 Inv-loop μ-loop
 loop-less-6 c =
     let t = c .before .before .before .before in
-    fewer-pieces (t .before .before .before .before .before .before .before .before .before .before .before .before .before .before .args .s .now) (t .before .before .before .before .before .loop .place) (t .before .before .before .before .next-piece .result) (t .before .before .before .before .next-piece .ensures) (t .before .before .x .given .0 .0) (t .before .before .x .given .1)
+    fewer-pieces (t .before .before .before .before .next-piece .ensures) (t .before .before .x .given .1)
 
 loop-again-6 : tie.Need-loop-again-6 Inv-loop μ-loop
 loop-again-6 c =
     let t = c .before .before .before .before in
-    returns-further (t .before .before .before .before .before .before .before .before .before .before .before .before .before .before .pre) (t .before .before .before .before .before .loop .inv) (t .before .before .before .before .next-piece .ensures) (t .before .before .x .given .1) (c .before .before .p6 .given .1) (c .vertex-number4 .ensures)
+    returned-on (t .before .before .before .before .before .loop .inv) (t .before .before .before .before .next-piece .ensures) (t .before .before .x .given .1) (c .before .before .p6 .given .1) (c .vertex-number4 .ensures)
 
 pub pattern-of-spec : {M : Type 1} → statement M
 pattern-of-spec =
     tie.close
-    (tie.spec
-    Inv-loop
-    μ-loop
-    text-start-requires
-    no-vertices-requires
-    no-edges-requires
-    no-clauses-requires
-    no-returns-requires
-    loop-holds
-    next-piece-requires
-    enum-known-x
-    enum-told
-    made-requires
-    returns
-    enum-known-p
-    vertex-number-requires
-    with-vertex-requires
-    loop-less
-    loop-again
-    enum-known-p-2
-    vertex-number-requires-2
-    with-vertex-requires-2
-    edge-of-requires
-    mul-t41
-    element-set-from-links
-    add-links
-    loop-less-2
-    loop-again-2
-    enum-known-p-3
-    vertex-number-requires-3
-    with-vertex-requires-3
-    edge-of-requires-2
-    mul-t45
-    element-set-from-links-2
-    add-links-2
-    loop-less-3
-    loop-again-3
-    enum-known-p-4
-    exclusion-requires
-    mul-t49
-    element-set-from-conditions
-    add-conditions
-    loop-less-4
-    loop-again-4
-    enum-known-p-5
-    requirement-requires
-    mul-t54
-    element-set-from-conditions-2
-    add-conditions-2
-    loop-less-5
-    loop-again-5
-    enum-known-p-6
-    vertex-number-requires-4
-    mul-returned
-    element-write-returned
-    add-returned
-    loop-less-6
-    loop-again-6)
+    (tie.spec Inv-loop μ-loop
+    text-start-requires no-vertices-requires no-edges-requires no-clauses-requires no-returns-requires loop-holds next-piece-requires enum-known-x
+    enum-told made-requires returns enum-known-p vertex-number-requires with-vertex-requires loop-less loop-again enum-known-p-2
+    vertex-number-requires-2 with-vertex-requires-2 edge-of-requires mul-t41 element-set-from-links add-links loop-less-2 loop-again-2 enum-known-p-3
+    vertex-number-requires-3 with-vertex-requires-3 edge-of-requires-2 mul-t45 element-set-from-links-2 add-links-2 loop-less-3 loop-again-3
+    enum-known-p-4 exclusion-requires mul-t49 element-set-from-conditions add-conditions loop-less-4 loop-again-4 enum-known-p-5 requirement-requires
+    mul-t54 element-set-from-conditions-2 add-conditions-2 loop-less-5 loop-again-5 enum-known-p-6 vertex-number-requires-4 mul-returned
+    element-write-returned add-returned loop-less-6 loop-again-6)
