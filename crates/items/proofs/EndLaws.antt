@@ -14,11 +14,9 @@ use Rattle.model.specs.Items.{Item, Items, none, onward, onwardWith, isList, li
 use Rattle.model.specs.Request.{Claim}
 use Rattle.model.specs.Forms.{asName, first, atEnd}
 use Rattle.model.specs.declared.Value.{Value as ValueData}
-use Rattle.text.specs.declared.End.{End}
 use Rattle.text.specs.declared.End.the-variants as end
 use Rattle.text.specs.Places.{peekAt, past, isSpace, endOf}
 use Rattle.text.proofs.PlaceLaws.{peek-drop}
-use Rattle.items.specs.declared.Next.{Next}
 use Rattle.items.specs.declared.Next.the-variants as next
 use Rattle.items.specs.declared.Piece.the-variants as piece
 use Rattle.items.specs.declared.ValueRead.the-variants as read
@@ -29,10 +27,13 @@ use Rattle.items.specs.declared.ClaimRead.the-variants as claim
 use Rattle.items.specs.Reads.{nextAt, listEnd}
 use Rattle.items.specs.Rest.{restAt}
 use Rattle.items.specs.Pieces.{namePlaces, nameNext, valueNext, openNext, closeAfter, closeNext, afterEnd}
-use Rattle.items.specs.Forms.{entryNamed, entryNext, onEntry, claimRest, onClaim}
+use Rattle.items.specs.Forms.{entryNext, onEntry, claimRest, onClaim}
 use Rattle.items.proofs.RestLaws.{rest-same}
-use Rattle.items.proofs.OnwardLaws.{none-is}
 use Rattle.items.proofs.ListLaws.{entryItems, entry-items, at-entry, entry-close, first-then, claim-rest, at-shut}
+
+-- what follows from two answers of different kinds being equal
+none-is : {A : Type 0} → _≡_ {A = ℕ} 0 1 → A
+none-is z = absurd (omega arith)
 
 -- the last byte of what was read of a list is a closing bracket
 Shut : Bytes → Maybe (Got Items) → Type 0

@@ -10,4 +10,4 @@ pub mod PieceTests
 pub mod FormLaws
 pub mod ListLaws
 pub mod EndLaws
-pub mod OnwardLaws
+pub mod PlacedLaws

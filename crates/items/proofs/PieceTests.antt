@@ -1,9 +1,9 @@
 -- What the tests of the readers of pieces say, and that a piece lies in the text.
-use Prim.Native.Nat.{ℕ, zero, suc, _+_, _-_, _≤_, _<_}
+use Prim.Native.Nat.{ℕ, zero, suc, _+_, _-_}
 use mathlib.Core.Path.{_≡_, refl, sym, ap, _∙_}
 use mathlib.Core.Bool.{Bool, true, false, not, _||_}
 use native.Mathlib.Omega.{arith}
-use lib.ListN.{length, drop}
+use lib.ListN.{drop}
 use lib.Dec.{eqb}
 use borrow.Author.Tests.{eq-eqb, ne-eqb, eqb-true, eqb-false}
 use Rattle.model.specs.Bytes.{Bytes, bytesOf, same}
@@ -20,34 +20,24 @@ use Rattle.text.specs.declared.End.the-variants as end
 use Rattle.text.specs.Places.{peekAt, endOf}
 use Rattle.items.specs.declared.ItemRead.{ItemRead}
 use Rattle.items.specs.declared.ItemRead.the-variants.{Word, Number, Text, Quoted, List, None}
-use Rattle.items.specs.declared.Next.{Next}
 use Rattle.items.specs.declared.Next.the-variants as next
-use Rattle.items.specs.declared.Piece.{Piece}
 use Rattle.items.specs.declared.Piece.the-variants as piece
 use Rattle.items.specs.declared.NameRead.the-variants as name
 use Rattle.items.specs.declared.ValueRead.the-variants as read
 use Rattle.items.specs.Reads.{kindAt, readOf, nextAt}
 use Rattle.items.specs.Pieces.{itemPlace, wordEnd, wordOf, quotedEnd, afterEnd, nameAfter, openAfter, wordPiece, quotedPiece, namePiece, truthPiece, valuePiece, readAt, wordNext, quotedNext, nameNext, valueNext}
-use Rattle.items.proofs.ReadLaws.{plain-word, plain-whole, plain-text, plain-quoted, plain-none, item-opened, item-deep, read-plain, Within, read-within, word-small}
+use Rattle.items.proofs.ReadLaws.{plain-word, plain-whole, plain-text, plain-quoted, plain-none, item-opened, item-deep, read-plain, Within, read-within}
 
 -- an item of a known kind lies in the text
 never : {A : Type 0} {q : ℕ} → end.At q ≡ end.None → A
 never e = let z : _≡_ {A = ℕ} 0 1 = cc in absurd (omega arith)
 
-pub record WordWithin (s : Bytes) (p q : ℕ) : Type 0 where
-  pub after : p < q
-  pub inside : q ≤ length s
-  pub small : q - p ≤ 24
-
 module _ (d : ℕ) (s : Bytes) (p q : ℕ) where
-  pub word-within : end.At q ≡ wordEnd (readAt d s p) → WordWithin s p q
+  pub word-within : end.At q ≡ wordEnd (readAt d s p) → Within s p q
   word-within e = go (readAt d s p) refl e
     where
-      go : (r : ItemRead) → r ≡ readAt d s p → end.At q ≡ wordEnd r → WordWithin s p q
-      go (Word x) w e =
-          let a : Within s p q = read-within d s p q (Word x) w (sym e) in
-          let h : q ≡ x = cc in
-          record { after = a .after; inside = a .inside; small = omega (arith, word-small d s p x w) }
+      go : (r : ItemRead) → r ≡ readAt d s p → end.At q ≡ wordEnd r → Within s p q
+      go (Word x) w e = read-within d s p q (Word x) w (sym e)
       go (Number n x) w e = never e
       go (Text x) w e = never e
       go (Quoted x) w e = never e
@@ -171,34 +161,3 @@ open-yes s p h = rw (eq-eqb (peekAt s p) 40 h)
 pub open-no : (s : Bytes) (p : ℕ) → (peekAt s p ≡ 40 → ⊥) → next.None ≡ openAfter s (next.Item p)
 unfolding openAfter
 open-no s p h = rw (ne-eqb (peekAt s p) 40 h)
-
--- a word or a name that follows lies in the text
-piece-within : (d : ℕ) (s : Bytes) (p q a : ℕ) (x : End) → x ≡ wordEnd (readAt d s a) → piece.At p q ≡ afterEnd x (λ q. piece.At a q) piece.None → WordWithin s p q
-unfolding afterEnd
-piece-within d s p q a (end.At b) w e = let h : p ≡ a = cc in let k : q ≡ b = cc in rw (h, k) (word-within d s a b w)
-piece-within d s p q a end.None w e = let z : _≡_ {A = ℕ} 0 1 = cc in absurd (omega arith)
-
-pub word-next-within : (d : ℕ) (free : Bool) (s : Bytes) (i p q : ℕ) → piece.At p q ≡ wordNext d free s i → WordWithin s p q
-unfolding wordNext wordPiece afterEnd
-word-next-within d free s i p q e = go (itemPlace (nextAt free s i)) e
-  where
-    go : (x : End) → piece.At p q ≡ afterEnd x (λ a. wordPiece a (readAt d s a)) piece.None → WordWithin s p q
-    go (end.At a) e = piece-within d s p q a (wordEnd (readAt d s a)) refl e
-    go end.None e = let z : _≡_ {A = ℕ} 0 1 = cc in absurd (omega arith)
-
-pub name-next-within : (d : ℕ) (free : Bool) (s : Bytes) (i p q : ℕ) → name.Name p q ≡ nameNext d free s i → WordWithin s p q
-unfolding nameNext nameAfter namePiece wordPiece
-name-next-within d free s i p q e = go (nextAt free s i) e
-  where
-    at : (a : ℕ) (w : Piece) → w ≡ wordPiece a (readAt d s a) → name.Name p q ≡ namePiece s w → WordWithin s p q
-    at a piece.None h e = let z : _≡_ {A = ℕ} 0 1 = cc in absurd (omega arith)
-    at a (piece.At x y) h e = by (not (mem (partOf s x (y - x)) neverNames)) e
-      where
-        by : (t : Bool) → name.Name p q ≡ pick t (name.Name x y) name.None → WordWithin s p q
-        by true e = let u : p ≡ x = cc in let v : q ≡ y = cc in rw (u, v) (piece-within d s x y a (wordEnd (readAt d s a)) refl h)
-        by false e = let z : _≡_ {A = ℕ} 0 1 = cc in absurd (omega arith)
-
-    go : (n : Next) → name.Name p q ≡ nameAfter d s n → WordWithin s p q
-    go (next.Item a) e = at a (wordPiece a (readAt d s a)) refl e
-    go (next.Close x) e = let z : _≡_ {A = ℕ} 0 1 = cc in absurd (omega arith)
-    go next.None e = let z : _≡_ {A = ℕ} 0 1 = cc in absurd (omega arith)

@@ -23,7 +23,7 @@ use Rattle.items.specs.declared.ItemRead.{ItemRead}
 use Rattle.items.specs.declared.ItemRead.the-variants.{Word, Text, Quoted, List, None}
 use Rattle.items.specs.Reads.{onEnd, onNumber, endRead, kindAt, readOf, itemsOr, insideAt, itemTo}
 use Rattle.items.proofs.FitLaws.{sizeOrZero, item-fits}
-use Rattle.items.proofs.SizeLaws.{sizeOr, item-size, text-room, word-room}
+use Rattle.items.proofs.SizeLaws.{sizeOr, item-size, text-room, quoted-room, word-room}
 
 -- the end of an item is the end that its kind tells
 pub end-read : (at : ℕ) (o : Maybe (Got Item)) → endRead (readOf at o) ≡ endOf at o
@@ -211,6 +211,13 @@ unfolding itemTo
 text-within d s p q e =
     let w : Within s p q = read-within d s p q (Text q) e refl in
     let k : 2 ≤ q - p = text-room d (drop p s) (partOf s (p + 1) (q - p - 2)) (q - p) (item-told d s p ∙ ap (itemTo d s p) (sym e)) in
+    (omega (arith, w .after), w .inside)
+
+pub quoted-within : (d : ℕ) (s : Bytes) (p q : ℕ) → Quoted q ≡ readOf p (itemAt d (drop p s)) → (p + 2 ≤ q) × (q ≤ length s)
+unfolding itemTo
+quoted-within d s p q e =
+    let w : Within s p q = read-within d s p q (Quoted q) e refl in
+    let k : 2 ≤ q - p = quoted-room d (drop p s) (partOf s (p + 1) (q - p - 2)) (q - p) (item-told d s p ∙ ap (itemTo d s p) (sym e)) in
     (omega (arith, w .after), w .inside)
 
 pub word-small : (d : ℕ) (s : Bytes) (p q : ℕ) → Word q ≡ readOf p (itemAt d (drop p s)) → q - p ≤ 24

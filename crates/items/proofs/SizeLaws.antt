@@ -147,12 +147,12 @@ module _ (P : Item → ℕ → Type 0) (w : (t : Bytes) → holds P (readAs word
   item-holds zero t = holds-pick P (opens t) nothing (plainAt t) tt (plain-holds t)
   item-holds (suc d) t = holds-pick P (opens t) (asList (listAt (itemAt d) true 0 (drop 1 t))) (plainAt t) (l (listAt (itemAt d) true 0 (drop 1 t))) (plain-holds t)
 
--- a word has at most 24 bytes, a text value at least its two apostrophes
+-- a word has at most 24 bytes, a text value at least its two apostrophes, a policy text its two quotes
 Sized : Item → ℕ → Type 0
 Sized (word w) n = n ≤ 24
 Sized (whole w) n = Unit {0}
 Sized (text w) n = 2 ≤ n
-Sized (quoted w) n = Unit {0}
+Sized (quoted w) n = 2 ≤ n
 Sized (list w) n = Unit {0}
 
 as-sized : {A : Type 0} (f : A → Item) (o : Maybe (Got A)) → ((a : A) (n : ℕ) → Sized (f a) n) → holds Sized (readAs f o)
@@ -180,6 +180,14 @@ text-sized t = go (before 39 t)
     go nothing = tt
     go (just u) = by u (isText u)
 
+quoted-sized : (t : Bytes) → holds Sized (readAs quoted (quotedAt t))
+unfolding readAs quotedAt andThen Sized
+quoted-sized t = go (before 34 t)
+  where
+    go : (o : Maybe Bytes) → holds Sized (readAs quoted (andThen o (λ u. just (record { got = u; size = length u + 2 }))))
+    go nothing = tt
+    go (just u) = omega arith
+
 list-sized : (o : Maybe (Got Items)) → holds Sized (asList o)
 unfolding asList Sized
 list-sized nothing = tt
@@ -187,11 +195,15 @@ list-sized (just g) = tt
 
 item-sized : (d : ℕ) (t : Bytes) → holds Sized (itemAt d t)
 unfolding Sized
-item-sized = item-holds Sized word-sized (λ t. as-sized whole (wholeAt t) (λ a n. tt)) text-sized (λ t. as-sized quoted (quotedAt t) (λ a n. tt)) list-sized
+item-sized = item-holds Sized word-sized (λ t. as-sized whole (wholeAt t) (λ a n. tt)) text-sized quoted-sized list-sized
 
 pub text-room : (d : ℕ) (t w : Bytes) (n : ℕ) → itemAt d t ≡ just (record { got = text w; size = n }) → 2 ≤ n
 unfolding Sized
 text-room d t w n e = rw e at (item-sized d t)
+
+pub quoted-room : (d : ℕ) (t w : Bytes) (n : ℕ) → itemAt d t ≡ just (record { got = quoted w; size = n }) → 2 ≤ n
+unfolding Sized
+quoted-room d t w n e = rw e at (item-sized d t)
 
 pub word-room : (d : ℕ) (t w : Bytes) (n : ℕ) → itemAt d t ≡ just (record { got = word w; size = n }) → n ≤ 24
 unfolding Sized

@@ -3,3 +3,4 @@ pub mod Reads
 pub mod Rest
 pub mod Pieces
 pub mod Forms
+pub mod Places

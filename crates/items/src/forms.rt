@@ -1,13 +1,15 @@
 // The one list of a line: where it opens, its pieces that are lists of a known form, and that nothing but spaces follows it.
 ghost use mathlib.Core.Path.{_≡_};
 ghost use Rattle.items.specs.Rest.{spacesFrom};
-ghost use Rattle.items.specs.Forms.{entryNext, claimRest, claimNext, formOpens, formCloses};
+ghost use Rattle.items.specs.Forms.{claimRest, claimNext, formOpens, formCloses};
+ghost use Rattle.items.specs.Places.{NextEntry};
 use crate::ClaimRead;
 use crate::EntryRead;
 use crate::Next;
 use crate::Piece;
 use crate::ValueRead;
 use crate::pieces;
+use crate::places;
 use crate::read;
 use text::End;
 use text::bytes;
@@ -44,7 +46,7 @@ pub fn form_closes(s: &[u8], from: usize) -> bool
 
 // The next (ATTR VALUE) of a form, which ends where the list reader says, or the form's closing bracket; in an entry `depth` lists may still be opened.
 pub fn entry(s: &[u8], from: usize, depth: usize) -> EntryRead
-    ensures { λ r. ⌜ r ≡ entryNext depth (now (s .entry)) from ⌝ }
+    ensures { λ r. ⌜ NextEntry depth (now (s .entry)) from r ⌝ }
 {
     match pieces::open_list(s, from) {
         Next::Item(i) => {
@@ -80,20 +82,10 @@ pub fn claim_rest(s: &[u8], from: usize, depth: usize) -> ClaimRead
     let End::At(next) = read::list(s, from, false, depth) else {
         return ClaimRead::None;
     };
-    let Piece::At(actor_start, actor_end) = pieces::name_places(pieces::next_name(
-        s,
-        from,
-        false,
-        depth,
-    )) else {
+    let Piece::At(actor_start, actor_end) = places::next_name(s, from, depth) else {
         return ClaimRead::None;
     };
-    let Piece::At(node_start, node_end) = pieces::name_places(pieces::next_name(
-        s,
-        actor_end,
-        false,
-        depth,
-    )) else {
+    let Piece::At(node_start, node_end) = places::next_name(s, actor_end, depth) else {
         return ClaimRead::None;
     };
     if pieces::only_closes(s, node_end, next) {
@@ -114,7 +106,7 @@ pub fn claim(s: &[u8], from: usize, depth: usize) -> ClaimRead
 {
     match pieces::open_list(s, from) {
         Next::Item(i) => {
-            let Piece::At(p, q) = pieces::next_word(s, i, true, depth) else {
+            let Piece::At(p, q) = places::next_word(s, i, true, depth) else {
                 return ClaimRead::None;
             };
             if compare::same_bytes(&s[p..q], b"id") {

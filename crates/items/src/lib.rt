@@ -1,6 +1,7 @@
 // Items, lists and forms of the bracket texts, read by places: what stands at a place, and what follows it.
 pub mod forms;
 pub mod pieces;
+pub mod places;
 pub mod read;
 
 use model::Value;

@@ -1,4 +1,4 @@
-// The next piece of a list: a word, a name, a value, a policy text, a list, or the closing bracket.
+// The next piece of a list: a name, a value, a list, or the closing bracket; and the end of a word or of a policy text.
 ghost use Prim.Native.Nat.{_-_, _<_};
 ghost use mathlib.Core.Path.{_≡_};
 ghost use mathlib.Core.Bool.{true};
@@ -7,7 +7,7 @@ ghost use lib.Dec.{eqb};
 ghost use Rattle.model.specs.Items.{itemAt};
 ghost use Rattle.text.specs.Places.{past, isSpace};
 ghost use Rattle.items.specs.Reads.{readOf};
-ghost use Rattle.items.specs.Pieces.{itemPlace, wordOf, quotedEnd, namePlaces, wordNext, quotedNext, nameNext, valuePiece, valueNext, openNext, closeNext};
+ghost use Rattle.items.specs.Pieces.{itemPlace, wordOf, quotedEnd, namePlaces, nameNext, valuePiece, valueNext, openNext, closeNext};
 use crate::ItemRead;
 use crate::NameRead;
 use crate::Next;
@@ -53,32 +53,6 @@ pub fn quoted_end(i: ItemRead) -> End
         ItemRead::List(_) => End::None,
         ItemRead::None => End::None,
     }
-}
-
-// The next item, if it is a word.
-pub fn next_word(s: &[u8], from: usize, free: bool, depth: usize) -> Piece
-    ensures { λ r. ⌜ r ≡ wordNext depth free (now (s .entry)) from ⌝ }
-{
-    let End::At(p) = item_place(read::next(s, from, free)) else {
-        return Piece::None;
-    };
-    let End::At(q) = word_at(s, p) else {
-        return Piece::None;
-    };
-    Piece::At(p, q)
-}
-
-// The next item, if it is a policy text: what stands between its quotes.
-pub fn next_quoted(s: &[u8], from: usize, free: bool, depth: usize) -> Piece
-    ensures { λ r. ⌜ r ≡ quotedNext depth free (now (s .entry)) from ⌝ }
-{
-    let End::At(p) = item_place(read::next(s, from, free)) else {
-        return Piece::None;
-    };
-    let End::At(q) = quoted_end(read::item(s, p, depth)) else {
-        return Piece::None;
-    };
-    Piece::At(p + 1, q - 1)
 }
 
 // The next item, if it is a name; or the closing bracket.

@@ -21,7 +21,8 @@ use Rattle.model.specs.declared.Value.{Value}
 use Rattle.items.specs.declared.EntryRead.{EntryRead}
 use Rattle.items.specs.declared.EntryRead.the-variants as entry
 use Rattle.items.specs.Rest.{spacesFrom, formAt}
-use Rattle.items.specs.Forms.{entryNext, onEntry}
+use Rattle.items.specs.Forms.{onEntry}
+use Rattle.items.specs.Places.{EntryPlaces, EntryPlaced, NextEntry}
 use Rattle.items.proofs.ListLaws.{form-entries}
 use Rattle.tables.specs.declared.BookCounts.{BookCounts}
 use Rattle.tables.specs.Listed.{listed}
@@ -35,7 +36,6 @@ use Rattle.entries.specs.Faults.{entriesFault}
 use Rattle.entries.specs.Known.{AttrTable, EntriesKnown, EntryAdded, entryRead}
 use Rattle.lines.specs.Forms.{FormAsked}
 use Rattle.lines.specs.Entries.{shift, Declares, entriesForm, EntriesGot}
-use Rattle.lines.proofs.Bounds.{EntryStands, EntryFits, entry-fits}
 use Rattle.lines.proofs.PieceLaws.{part-moved, value-moved}
 
 -- the attributes that entries may have
@@ -48,22 +48,22 @@ table-of text words c offset declared f d = either d
 abbrev restForm : Bytes → ℕ → (List Entry → Maybe BookLine) → Maybe BookLine
 restForm line at k = formAt true at line (λ is. andThen (each entryOf is) k)
 
-module _ (line : Bytes) (at : ℕ) (r : EntryRead) (e : r ≡ entryNext 2 line at) where
+module _ (line : Bytes) (at : ℕ) (r : EntryRead) (e : NextEntry 2 line at r) where
   entry-on : (k : List Entry → Maybe BookLine) (a b : ℕ) (v : Value) (q : ℕ) → r ≡ entry.Entry a b v q
       → restForm line at k ≡ restForm line q (λ es. k (record { attr = partOf line a (b - a); value = valueOf line v } ∷ es))
   unfolding onEntry
-  entry-on k a b v q h = form-entries line true at k ∙ rw (sym e ∙ h)
+  entry-on k a b v q h = form-entries line true at k ∙ rw (sym (e .is) ∙ h)
 
   entry-close : (k : List Entry → Maybe BookLine) (z : ℕ) → r ≡ entry.Close z → restForm line at k ≡ pick (spacesFrom line z) (k []) nothing
   unfolding onEntry
-  entry-close k z h = form-entries line true at k ∙ rw (sym e ∙ h)
+  entry-close k z h = form-entries line true at k ∙ rw (sym (e .is) ∙ h)
 
   entry-none : (k : List Entry → Maybe BookLine) → r ≡ entry.None → restForm line at k ≡ nothing
   unfolding onEntry
-  entry-none k h = form-entries line true at k ∙ rw (sym e ∙ h)
+  entry-none k h = form-entries line true at k ∙ rw (sym (e .is) ∙ h)
 
-  pub entry-stands : (a b : ℕ) (v : Value) (q : ℕ) → r ≡ entry.Entry a b v q → EntryStands line at a b v q
-  entry-stands a b v q h = subst (EntryFits line at) (sym e ∙ h) (entry-fits 2 line at)
+  pub entry-stands : (a b : ℕ) (v : Value) (q : ℕ) → r ≡ entry.Entry a b v q → EntryPlaces line at a b v q
+  entry-stands a b v q h = subst (EntryPlaced line at) h (e .placed)
 
 -- where reading the entries stands: those read, and that the line goes on behind them
 pub record Reading (text line : Bytes) (words words′ : List ℕ) (c : BookCounts) (offset declared from at : ℕ) (known : EntriesRead) : Type 0 where
@@ -96,7 +96,7 @@ module _ (text line : Bytes) (words : List ℕ) (c : BookCounts) (offset declare
   }
 
   module _ (words′ : List ℕ) (at : ℕ) (known : EntriesRead) (reading : Reading text line words words′ c offset declared from at known)
-      (r : EntryRead) (e : r ≡ entryNext 2 line at) where
+      (r : EntryRead) (e : NextEntry 2 line at r) where
     -- with one entry more
     pub reading-on : (base : ℕ) → FormAsked text line words c base → (words″ : List ℕ) (known′ : EntriesRead) (a b : ℕ) (v : Value) (q : ℕ) → r ≡ entry.Entry a b v q
         → EntryAdded text words′ words″ c offset declared (record { start = base + a; length = b - a }) (shift base v) known known′

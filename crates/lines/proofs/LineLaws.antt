@@ -19,7 +19,8 @@ use Rattle.text.specs.declared.End.the-variants as end
 use Rattle.items.specs.declared.Piece.{Piece}
 use Rattle.items.specs.declared.Piece.the-variants as piece
 use Rattle.items.specs.Rest.{spacesFrom, formAt}
-use Rattle.items.specs.Pieces.{namePlaces, nameNext, wordNext, onPiece, onPlace}
+use Rattle.items.specs.Places.{NextWord, NextName}
+use Rattle.items.specs.Pieces.{wordNext, onPiece, onPlace}
 use Rattle.items.specs.Forms.{formOpens, formCloses}
 use Rattle.items.proofs.RestLaws.{rest-same, rest-nothing}
 use Rattle.items.proofs.FormLaws.{line-form, form-word, form-end}
@@ -53,16 +54,16 @@ unfolding onPlace
 opens-none line r e h = line-form bookLine line ∙ rw (sym e ∙ h)
 
 -- the first word, or none
-module _ (line : Bytes) (from : ℕ) (r : Piece) (e : r ≡ wordNext 3 true line from) where
+module _ (line : Bytes) (from : ℕ) (r : Piece) (e : NextWord 3 true line from r) where
   pub headed : (p q : ℕ) → r ≡ piece.At p q → formAt true from line bookLine ≡ formAt false q line (lineOf (headOf (partOf line p (q - p))))
   unfolding bookLine onPiece
   headed p q h =
-      form-word true from line _ ∙ rw (sym e ∙ h)
+      form-word true from line _ ∙ rw (sym (e .is) ∙ h)
       (ap (λ (f : List Item → Maybe BookLine). formAt false q line f) (fun-ext (line-head (partOf line p (q - p)))))
 
   pub headless : r ≡ piece.None → formAt true from line bookLine ≡ nothing
   unfolding bookLine onPiece
-  headless h = form-word true from line _ ∙ rw (sym e ∙ h)
+  headless h = form-word true from line _ ∙ rw (sym (e .is) ∙ h)
 
 -- a reading after a word, which the rest of the line goes on with
 pick-none : {B : Type 0} (x : Bool) → pick {A = Maybe B} x nothing nothing ≡ nothing
@@ -103,17 +104,17 @@ kind-form line i k =
     go piece.None = refl
 
 -- NAME TYPE
-module _ (line : Bytes) (from : ℕ) (make : Bytes → Kind → BookLine) (r : Piece) (e : r ≡ namePlaces (nameNext 3 false line from)) where
+module _ (line : Bytes) (from : ℕ) (make : Bytes → Kind → BookLine) (r : Piece) (e : NextName 3 line from r) where
   pub attr-nameless : r ≡ piece.None → formAt false from line (attrLine make) ≡ nothing
   unfolding attrLine onPiece
-  attr-nameless h = name-form line from _ ∙ rw (sym e ∙ h)
+  attr-nameless h = name-form line from _ ∙ rw (sym (e .is) ∙ h)
 
   module _ (p q : ℕ) (h : r ≡ piece.At p q) (t : KindRead) (te : t ≡ kindPiece line (wordNext 3 false line q)) where
     attr-typed : formAt false from line (attrLine make) ≡ onKind t (λ k z. formAt false z line (λ is. atEnd is (make (partOf line p (q - p)) k)))
     unfolding attrLine onPiece
     attr-typed =
         let named : formAt false from line (attrLine make)
-        ≡ formAt false q line (λ is. first (λ x. andThen (asWord x) kindOf) is (λ k is. atEnd is (make (partOf line p (q - p)) k))) = name-form line from _ ∙ rw (sym e ∙ h) in
+        ≡ formAt false q line (λ is. first (λ x. andThen (asWord x) kindOf) is (λ k is. atEnd is (make (partOf line p (q - p)) k))) = name-form line from _ ∙ rw (sym (e .is) ∙ h) in
         named ∙ kind-form line q (λ k is. atEnd is (make (partOf line p (q - p)) k))
         ∙ ap (λ (x : KindRead). onKind x (λ k z. formAt false z line (λ is. atEnd is (make (partOf line p (q - p)) k)))) (sym te)
 
@@ -140,15 +141,15 @@ module _ (line : Bytes) (from : ℕ) (r : AttrRead)
   attr-none e = form make ∙ rw e
 
 -- NAME
-module _ (line : Bytes) (from : ℕ) (r : Piece) (e : r ≡ namePlaces (nameNext 3 false line from)) where
+module _ (line : Bytes) (from : ℕ) (r : Piece) (e : NextName 3 line from r) where
   pub label-nameless : r ≡ piece.None → formAt false from line labelLine ≡ nothing
   unfolding labelLine onPiece
-  label-nameless h = name-form line from _ ∙ rw (sym e ∙ h)
+  label-nameless h = name-form line from _ ∙ rw (sym (e .is) ∙ h)
 
   pub label-ends : (p q : ℕ) → r ≡ piece.At p q → (c : Bool) → c ≡ formCloses line q → formAt false from line labelLine ≡ pick c (just (label (partOf line p (q - p)))) nothing
   unfolding labelLine onPiece
   label-ends p q h c ce =
-      let named : formAt false from line labelLine ≡ formAt false q line (λ is. atEnd is (label (partOf line p (q - p)))) = name-form line from _ ∙ rw (sym e ∙ h) in
+      let named : formAt false from line labelLine ≡ formAt false q line (λ is. atEnd is (label (partOf line p (q - p)))) = name-form line from _ ∙ rw (sym (e .is) ∙ h) in
       named ∙ form-end false q line (label (partOf line p (q - p))) ∙ ap (λ (x : Bool). pick {A = Maybe BookLine} x (just (label (partOf line p (q - p)))) nothing) (sym ce)
 
 -- a first word that is none of the five

@@ -19,7 +19,9 @@ use Rattle.model.specs.declared.Part.{Part}
 use Rattle.items.specs.declared.Piece.{Piece}
 use Rattle.items.specs.declared.Piece.the-variants as piece
 use Rattle.items.specs.Rest.{formAt}
-use Rattle.items.specs.Pieces.{namePlaces, nameNext, onPiece}
+use Rattle.items.specs.Places.{WordPlaces, NextName}
+use Rattle.items.specs.Pieces.{onPiece}
+use Rattle.items.proofs.PlacedLaws.{placed-at}
 use Rattle.items.specs.Forms.{formCloses}
 use Rattle.tables.specs.declared.BookCounts.{BookCounts}
 use Rattle.tables.specs.View.{kindIn, bookAt}
@@ -35,13 +37,13 @@ use Rattle.lines.specs.declared.RelNames.{RelNames}
 use Rattle.lines.specs.declared.RelNames.the-variants as names
 use Rattle.lines.specs.Steps.{stepOf, NameAsked}
 use Rattle.lines.specs.Forms.{formStepOf, FormAsked, onAttr}
-use Rattle.lines.specs.Names.{Stands, AttrFits, movedPart, PartFits, NamesGot, NamesTold}
+use Rattle.lines.specs.Names.{AttrFits, movedPart, PartFits, NamesGot, NamesTold}
 use Rattle.lines.specs.Entries.{entriesForm, EntriesGot, EntriesTold, EntriesDone}
-use Rattle.lines.proofs.PieceLaws.{name-form, name-stands, name-moved, piece-named}
+use Rattle.lines.proofs.PieceLaws.{name-form, name-moved, piece-named}
 use Rattle.lines.proofs.LineLaws.{step-form, step-broken, attr-got, attr-none, label-nameless, label-ends}
 
 -- the places of an attribute's name
-pub attr-stands : (line : Bytes) (from : ℕ) (r : AttrRead) (p q k : ℕ) → AttrFits line from r → r ≡ attr.Attr p q k → Stands line from p q
+pub attr-stands : (line : Bytes) (from : ℕ) (r : AttrRead) (p q k : ℕ) → AttrFits line from r → r ≡ attr.Attr p q k → WordPlaces line from p q
 attr-stands line from r p q k h e = subst (AttrFits line from) e h
 
 module _ (text line : Bytes) (words : List ℕ) (c : BookCounts) (base from : ℕ) (f : FormAsked text line words c base) where
@@ -61,7 +63,7 @@ module _ (text line : Bytes) (words : List ℕ) (c : BookCounts) (base from : �
     attr-broken e = step-broken book _ (attr-none line from r form make e)
 
   -- (label NAME)
-  module _ (r : Piece) (e : r ≡ namePlaces (nameNext 3 false line from)) where
+  module _ (r : Piece) (e : NextName 3 line from r) where
     pub label-broken : r ≡ piece.None → formStepOf book (formAt false from line labelLine) ≡ fault 3
     label-broken h = step-broken book _ (label-nameless line from r e h)
 
@@ -72,19 +74,19 @@ module _ (text line : Bytes) (words : List ℕ) (c : BookCounts) (base from : �
         → formStepOf book (formAt false from line labelLine) ≡ stepOf book (label (nameAt text (record { start = base + p; length = q - p })))
     label-step p q h t te th =
         step-form book _ _ (label-ends line from r e p q h t te ∙ rw th)
-        ∙ ap (λ (n : Bytes). stepOf book (label n)) (sym (piece-named text line words c base from p q f (name-stands line from p q r e h)))
+        ∙ ap (λ (n : Bytes). stepOf book (label n)) (sym (piece-named text line words c base from p q f (placed-at line from r h (e .placed))))
 
   -- (node NAME (ATTR VALUE)...)
-  module _ (r : Piece) (e : r ≡ namePlaces (nameNext 3 false line from)) where
+  module _ (r : Piece) (e : NextName 3 line from r) where
     pub node-broken : r ≡ piece.None → formStepOf book (formAt false from line nodeLine) ≡ fault 3
     unfolding nodeLine onPiece
-    node-broken h = step-broken book _ (name-form line from _ ∙ rw (sym e ∙ h))
+    node-broken h = step-broken book _ (name-form line from _ ∙ rw (sym (e .is) ∙ h))
 
     module _ (p q : ℕ) (h : r ≡ piece.At p q) (words′ : List ℕ) (offset declared : ℕ) (a : EntriesAnswer)
         (done : EntriesDone text line words words′ c offset declared q a) where
       node-named : formAt false from line nodeLine ≡ entriesForm line q (λ es. just (node (partOf line p (q - p)) es))
       unfolding nodeLine onPiece
-      node-named = name-form line from _ ∙ rw (sym e ∙ h)
+      node-named = name-form line from _ ∙ rw (sym (e .is) ∙ h)
 
       pub node-spoilt : a ≡ answer.None → formStepOf book (formAt false from line nodeLine) ≡ fault 3
       node-spoilt n =
@@ -95,7 +97,7 @@ module _ (text line : Bytes) (words : List ℕ) (c : BookCounts) (base from : �
           → formStepOf book (formAt false from line nodeLine) ≡ stepOf (bookAt text words′ c) (node (nameAt text (record { start = base + p; length = q - p })) (got .got))
       node-step known n got =
           step-form book _ _ (node-named ∙ got .form (λ es. just (node (partOf line p (q - p)) es)))
-          ∙ ap (λ (x : Bytes). stepOf book (node x (got .got))) (sym (piece-named text line words c base from p q f (name-stands line from p q r e h)))
+          ∙ ap (λ (x : Bytes). stepOf book (node x (got .got))) (sym (piece-named text line words c base from p q f (placed-at line from r h (e .placed))))
           ∙ ap (λ (b : Book). stepOf b (node (nameAt text (record { start = base + p; length = q - p })) (got .got))) (sym (book-kept text words words′ c (done .agrees .tables) (f .fits)))
 
   -- (rel LABEL FROM TO (ATTR VALUE)...)
@@ -139,30 +141,30 @@ pub moved-asked : (text line : Bytes) (words : List ℕ) (c : BookCounts) (base 
 moved-asked text line words c base p f s = record { inside = omega (arith, f .inside, s .inside); short = s .short; limit = f .limit }
 
 -- LABEL FROM TO
-module _ (line : Bytes) (from : ℕ) (r : Piece) (e : r ≡ namePlaces (nameNext 3 false line from)) where
+module _ (line : Bytes) (from : ℕ) (r : Piece) (e : NextName 3 line from r) where
   pub names-first : r ≡ piece.None → NamesTold line from names.None
   unfolding onPiece
-  names-first h k = name-form line from _ ∙ rw (sym e ∙ h)
+  names-first h k = name-form line from _ ∙ rw (sym (e .is) ∙ h)
 
-  module _ (a b : ℕ) (h : r ≡ piece.At a b) (r₂ : Piece) (e₂ : r₂ ≡ namePlaces (nameNext 3 false line b)) where
+  module _ (a b : ℕ) (h : r ≡ piece.At a b) (r₂ : Piece) (e₂ : NextName 3 line b r₂) where
     pub names-second : r₂ ≡ piece.None → NamesTold line from names.None
     unfolding onPiece
-    names-second h₂ k = name-form line from _ ∙ rw (sym e ∙ h) (name-form line b _ ∙ rw (sym e₂ ∙ h₂))
+    names-second h₂ k = name-form line from _ ∙ rw (sym (e .is) ∙ h) (name-form line b _ ∙ rw (sym (e₂ .is) ∙ h₂))
 
-    module _ (c d : ℕ) (h₂ : r₂ ≡ piece.At c d) (r₃ : Piece) (e₃ : r₃ ≡ namePlaces (nameNext 3 false line d)) where
+    module _ (c d : ℕ) (h₂ : r₂ ≡ piece.At c d) (r₃ : Piece) (e₃ : NextName 3 line d r₃) where
       pub names-third : r₃ ≡ piece.None → NamesTold line from names.None
       unfolding onPiece
-      names-third h₃ k = name-form line from _ ∙ rw (sym e ∙ h) (name-form line b _ ∙ rw (sym e₂ ∙ h₂) (name-form line d _ ∙ rw (sym e₃ ∙ h₃)))
+      names-third h₃ k = name-form line from _ ∙ rw (sym (e .is) ∙ h) (name-form line b _ ∙ rw (sym (e₂ .is) ∙ h₂) (name-form line d _ ∙ rw (sym (e₃ .is) ∙ h₃)))
 
       pub names-all : (x y : ℕ) → r₃ ≡ piece.At x y
           → NamesGot line from (record { start = a; length = b - a }) (record { start = c; length = d - c }) (record { start = x; length = y - x }) y
       unfolding onPiece nameAt
       names-all x y h₃ =
-          let s = name-stands line from a b r e h in
-          let t = name-stands line b c d r₂ e₂ h₂ in
-          let u = name-stands line d x y r₃ e₃ h₃ in
+          let s = placed-at line from r h (e .placed) in
+          let t = placed-at line b r₂ h₂ (e₂ .placed) in
+          let u = placed-at line d r₃ h₃ (e₃ .placed) in
           record {
-            form = λ k. name-form line from _ ∙ rw (sym e ∙ h) (name-form line b _ ∙ rw (sym e₂ ∙ h₂) (name-form line d _ ∙ rw (sym e₃ ∙ h₃)));
+            form = λ k. name-form line from _ ∙ rw (sym (e .is) ∙ h) (name-form line b _ ∙ rw (sym (e₂ .is) ∙ h₂) (name-form line d _ ∙ rw (sym (e₃ .is) ∙ h₃)));
             label = record { inside = omega (arith, s .some, s .inside); short = omega (arith, s .short) };
             start = record { inside = omega (arith, t .some, t .inside); short = omega (arith, t .short) };
             end = record { inside = omega (arith, u .some, u .inside); short = omega (arith, u .short) };

@@ -1,6 +1,6 @@
 -- The pieces of a line and the rest behind them; parts of the line as parts of the whole text.
 use Prim.Native.Nat.{ℕ, _+_, _-_, _≤_, _<_}
-use mathlib.Core.Path.{_≡_, refl, sym, ap, _∙_, subst}
+use mathlib.Core.Path.{_≡_, refl, sym, ap, _∙_}
 use mathlib.Core.List.{List, [], _∷_, _++_}
 use mathlib.Core.Bool.{Bool, true, false}
 use native.Mathlib.Omega.{arith}
@@ -16,12 +16,11 @@ use Rattle.model.specs.Answers.{partOf, nameAt, valueOf}
 use Rattle.model.specs.declared.Part.{Part}
 use Rattle.model.specs.declared.Value.{Value}
 use Rattle.model.specs.declared.Value.the-variants.{Number, Text, Truth}
-use Rattle.items.specs.declared.Piece.{Piece}
-use Rattle.items.specs.declared.Piece.the-variants as piece
 use Rattle.items.specs.declared.NameRead.{NameRead}
 use Rattle.items.specs.declared.NameRead.the-variants as name
 use Rattle.items.specs.Rest.{formAt}
-use Rattle.items.specs.Pieces.{namePlaces, nameNext, wordNext, onPiece, onName}
+use Rattle.items.specs.Places.{WordPlaces, ValueInside}
+use Rattle.items.specs.Pieces.{namePlaces, nameNext, onPiece, onName}
 use Rattle.items.proofs.FormLaws.{form-word, form-name}
 use Rattle.tables.specs.declared.BookCounts.{BookCounts}
 use Rattle.tables.specs.View.{kindIn}
@@ -32,9 +31,8 @@ use Rattle.lines.specs.declared.KindRead.{KindRead}
 use Rattle.lines.specs.declared.KindRead.the-variants as kind
 use Rattle.lines.specs.Steps.{NameAsked}
 use Rattle.lines.specs.Forms.{FormAsked, headOf, lineOf, kindRead, kindPiece, onKind}
-use Rattle.lines.specs.Names.{Stands, movedPart, PartFits}
+use Rattle.lines.specs.Names.{movedPart}
 use Rattle.lines.specs.Entries.{shift}
-use Rattle.lines.proofs.Bounds.{PieceFits, NameFits, word-fits, name-fits}
 
 -- a name, and the rest behind it
 module _ {B : Type 0} (line : Bytes) (i : ℕ) where
@@ -61,21 +59,6 @@ module _ {B : Type 0} (line : Bytes) (i : ℕ) where
       go false false true = refl
       go false false false = refl
 
-pub name-places-fit : (line : Bytes) (i : ℕ) → PieceFits line i (namePlaces (nameNext 3 false line i))
-name-places-fit line i = go (nameNext 3 false line i) (name-fits 3 line i false)
-  where
-    go : (r : NameRead) → NameFits line i r → PieceFits line i (namePlaces r)
-    go (name.Name p q) h = h
-    go (name.Close e) h = tt
-    go name.None h = tt
-
--- the piece that a name is
-pub name-stands : (line : Bytes) (i p q : ℕ) (r : Piece) → r ≡ namePlaces (nameNext 3 false line i) → r ≡ piece.At p q → Stands line i p q
-name-stands line i p q r e h = subst (PieceFits line i) (sym e ∙ h) (name-places-fit line i)
-
-pub word-stands : (free : Bool) (line : Bytes) (i p q : ℕ) (r : Piece) → r ≡ wordNext 3 free line i → r ≡ piece.At p q → Stands line i p q
-word-stands free line i p q r e h = subst (PieceFits line i) (sym e ∙ h) (word-fits 3 line i free)
-
 -- a part of the line is a part of the text
 module _ (text line : Bytes) (base : ℕ) (is : line ≡ partOf text base (length line)) (inside : base + length line ≤ length text) where
   pub part-moved : (start size : ℕ) → start + size ≤ length line → partOf text (base + start) size ≡ partOf line start size
@@ -93,19 +76,19 @@ module _ (text line : Bytes) (base : ℕ) (is : line ≡ partOf text base (lengt
   unfolding nameAt
   name-moved p l = part-moved (p .start) (p .length) l
 
-  pub value-moved : (v : Value) → EndsBefore (length line) v → valueOf text (shift base v) ≡ valueOf line v
+  pub value-moved : (v : Value) → ValueInside line v → valueOf text (shift base v) ≡ valueOf line v
   unfolding valueOf
   value-moved (Number n) h = refl
   value-moved (Text start size) h = ap Rattle.model.specs.Values.Value.str (part-moved start size h)
   value-moved (Truth t) h = refl
 
-  pub ends-moved : (v : Value) → EndsBefore (length line) v → EndsBefore (length text) (shift base v)
+  pub ends-moved : (v : Value) → ValueInside line v → EndsBefore (length text) (shift base v)
   ends-moved (Number n) h = h
   ends-moved (Text start size) h = omega arith
   ends-moved (Truth t) h = h
 
 -- the part that a piece of the line is, in the text
-pub piece-asked : (text line : Bytes) (words : List ℕ) (c : BookCounts) (base i p q : ℕ) → FormAsked text line words c base → Stands line i p q
+pub piece-asked : (text line : Bytes) (words : List ℕ) (c : BookCounts) (base i p q : ℕ) → FormAsked text line words c base → WordPlaces line i p q
     → NameAsked text (record { start = base + p; length = q - p })
 piece-asked text line words c base i p q f s = record {
   inside = omega (arith, f .inside, s .inside, s .some);
@@ -113,7 +96,7 @@ piece-asked text line words c base i p q f s = record {
   limit = f .limit;
 }
 
-pub piece-named : (text line : Bytes) (words : List ℕ) (c : BookCounts) (base i p q : ℕ) → FormAsked text line words c base → Stands line i p q
+pub piece-named : (text line : Bytes) (words : List ℕ) (c : BookCounts) (base i p q : ℕ) → FormAsked text line words c base → WordPlaces line i p q
     → nameAt text (record { start = base + p; length = q - p }) ≡ partOf line p (q - p)
 unfolding nameAt
 piece-named text line words c base i p q f s = part-moved text line base (f .is) (f .inside) p (q - p) (omega (arith, s .inside, s .some))

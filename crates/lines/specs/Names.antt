@@ -12,6 +12,7 @@ use Rattle.model.specs.BookLines.{BookLine}
 use Rattle.model.specs.Answers.{nameAt}
 use Rattle.model.specs.declared.Part.{Part}
 use Rattle.items.specs.Rest.{formAt}
+use Rattle.items.specs.Places.{WordPlaces}
 use Rattle.tables.specs.Fits.{Inside}
 use Rattle.lines.specs.declared.AttrRead.{AttrRead}
 use Rattle.lines.specs.declared.AttrRead.the-variants as attr
@@ -22,15 +23,9 @@ use Rattle.lines.specs.declared.RelNames.the-variants as names
 abbrev pub movedPart : ℕ → Part → Part
 movedPart base p = record { start = base + p .start; length = p .length }
 
--- a word from p to q stands in the line, behind the place it was read from, and is short
-pub record Stands (line : Bytes) (i p q : ℕ) : Type 0 where
-  pub from : i ≤ p
-  pub some : p < q
-  pub inside : q ≤ length line
-  pub short : q ≤ p + 24
-
+-- the name of an attribute that was read stands in the line
 abbrev pub AttrFits : Bytes → ℕ → AttrRead → Type 0
-AttrFits line from (attr.Attr p q k) = Stands line from p q
+AttrFits line from (attr.Attr p q k) = WordPlaces line from p q
 AttrFits line from attr.None = Unit {0}
 
 -- a name's part stands in the line, and is short

@@ -19,6 +19,7 @@ use crate::owners;
 use crate::pieces;
 use crate::steps;
 use items::Piece;
+use items::places;
 use model::Part;
 use tables::BookCounts;
 use text::End;
@@ -55,7 +56,7 @@ fn read_head(
     requires { ⌜ FormAsked (now text) (now line) (now words) counts base ⌝ }
     ensures { λ r. ⌜ Stepped (now (text .entry)) (now (words .exit)) r (formStepOf (bookAt (now (text .entry)) (now (words .entry)) counts) (formAt true from (now (line .entry)) bookLine)) ⌝ }
 {
-    match items::pieces::next_word(line, from, true, pieces::FORM_DEPTH) {
+    match places::next_word(line, from, true, pieces::FORM_DEPTH) {
         Piece::At(p, q) => read_rest(
             text,
             line,
@@ -97,7 +98,7 @@ fn read_attr(line: &[u8], from: usize) -> AttrRead
     ensures form { λ r. ⌜ ((make : Bytes → Kind → BookLine) → formAt false from (now (line .entry)) (attrLine make) ≡ onAttr (now (line .entry)) r (λ n k. just (make n k))) ⌝ }
     ensures fits { λ r. ⌜ AttrFits (now (line .entry)) from r ⌝ }
 {
-    match pieces::next_name(line, from) {
+    match places::next_name(line, from, pieces::FORM_DEPTH) {
         Piece::At(p, q) => match pieces::next_kind(line, q) {
             KindRead::Kind(kind, end) => {
                 if items::forms::form_closes(line, end) {
@@ -177,7 +178,7 @@ fn label_line(
     requires { ⌜ FormAsked (now text) (now line) (now words) counts base ⌝ }
     ensures { λ r. ⌜ Stepped (now (text .entry)) (now (words .exit)) r (formStepOf (bookAt (now (text .entry)) (now (words .entry)) counts) (formAt false from (now (line .entry)) labelLine)) ⌝ }
 {
-    match pieces::next_name(line, from) {
+    match places::next_name(line, from, pieces::FORM_DEPTH) {
         Piece::At(p, q) => {
             if items::forms::form_closes(line, q) {
                 return steps::add_label(

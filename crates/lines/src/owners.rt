@@ -15,11 +15,12 @@ use crate::EntriesAnswer;
 use crate::LineStep;
 use crate::RelNames;
 use crate::forms::BROKEN;
-use crate::pieces;
+use crate::pieces::FORM_DEPTH;
 use crate::steps;
 use entries::EntriesRead;
 use items::EntryRead;
 use items::Piece;
+use items::places;
 use model::Part;
 use model::Value;
 use tables::BookCounts;
@@ -120,7 +121,7 @@ pub fn node_line(
     requires { ⌜ FormAsked (now text) (now line) (now words) counts base ⌝ }
     ensures { λ r. ⌜ Stepped (now (text .entry)) (now (words .exit)) r (formStepOf (bookAt (now (text .entry)) (now (words .entry)) counts) (formAt false from (now (line .entry)) nodeLine)) ⌝ }
 {
-    match pieces::next_name(line, from) {
+    match places::next_name(line, from, FORM_DEPTH) {
         Piece::At(p, q) => {
             let declared = counts.vattrs;
             match read_entries(text, line, base, q, words, counts, VATTR_NAMES, declared) {
@@ -145,9 +146,9 @@ pub fn node_line(
 fn read_names(line: &[u8], from: usize) -> RelNames
     ensures { λ r. ⌜ NamesTold (now (line .entry)) from r ⌝ }
 {
-    match pieces::next_name(line, from) {
-        Piece::At(a, b) => match pieces::next_name(line, b) {
-            Piece::At(c, d) => match pieces::next_name(line, d) {
+    match places::next_name(line, from, FORM_DEPTH) {
+        Piece::At(a, b) => match places::next_name(line, b, FORM_DEPTH) {
+            Piece::At(c, d) => match places::next_name(line, d, FORM_DEPTH) {
                 Piece::At(e, f) => RelNames::Read(
                     Part {
                         start: a,

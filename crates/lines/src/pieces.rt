@@ -1,12 +1,13 @@
-// The pieces of a book's lines: first words, names, types.
+// The pieces of a book's lines: first words, types.
 ghost use mathlib.Core.Path.{_≡_};
 ghost use mathlib.Core.Bool.{false};
 ghost use Rattle.model.specs.Choice.{Maybe, just};
-ghost use Rattle.items.specs.Pieces.{namePlaces, nameNext, wordNext};
+ghost use Rattle.items.specs.Pieces.{wordNext};
 ghost use Rattle.lines.specs.Forms.{headOf, kindRead, kindPiece};
 use crate::Head;
 use crate::KindRead;
 use items::Piece;
+use items::places;
 use tables::values::BOOL;
 use tables::values::INT;
 use tables::values::STR;
@@ -37,13 +38,6 @@ pub fn head(word: &[u8]) -> Head
     Head::Other
 }
 
-// Start and end of the name that follows a word or a name.
-pub fn next_name(line: &[u8], from: usize) -> Piece
-    ensures { λ r. ⌜ r ≡ namePlaces (nameNext 3 false (now (line .entry)) from) ⌝ }
-{
-    items::pieces::name_places(items::pieces::next_name(line, from, false, FORM_DEPTH))
-}
-
 // Which type a word is, and the place behind it.
 fn kind_of(word: &[u8], end: usize) -> KindRead
     ensures { λ r. ⌜ r ≡ kindRead (now (word .entry)) end ⌝ }
@@ -64,7 +58,7 @@ fn kind_of(word: &[u8], end: usize) -> KindRead
 pub fn next_kind(line: &[u8], from: usize) -> KindRead
     ensures { λ r. ⌜ r ≡ kindPiece (now (line .entry)) (wordNext 3 false (now (line .entry)) from) ⌝ }
 {
-    match items::pieces::next_word(line, from, false, FORM_DEPTH) {
+    match places::next_word(line, from, false, FORM_DEPTH) {
         Piece::At(p, q) => kind_of(&line[p..q], q),
         Piece::None => KindRead::None,
     }

@@ -1,9 +1,8 @@
 -- The steps of the readers of names: the head of a list, the end of its names, one name among the others.
-use Prim.Native.Nat.{ℕ, _+_, _-_, _≤_, _<_}
-use mathlib.Core.Path.{_≡_, refl, sym, ap, subst, _∙_}
+use Prim.Native.Nat.{ℕ, _-_}
+use mathlib.Core.Path.{_≡_, refl, sym, ap, _∙_}
 use mathlib.Core.List.{List, [], _∷_}
 use mathlib.Core.Bool.{Bool, true, false}
-use lib.ListN.{length}
 use Rattle.model.specs.Bytes.{Bytes, same}
 use Rattle.model.specs.Choice.{pick}
 use Rattle.model.specs.Lists.{any}
@@ -14,12 +13,8 @@ use Rattle.text.specs.declared.End.the-variants as end
 use Rattle.items.specs.declared.Piece.{Piece}
 use Rattle.items.specs.declared.Piece.the-variants as piece
 use Rattle.items.specs.Pieces.{itemPlace, afterEnd, wordNext, openNext}
-use Rattle.lists.specs.Places.{WordPlaces, Placed}
+pub use Rattle.items.proofs.PlacedLaws.{placed-at}
 use Rattle.lists.specs.Names.{headPiece, headedAt}
-
--- where a piece that was read stands
-pub placed-at : (s : Bytes) (i : ℕ) {p q : ℕ} (r : Piece) → r ≡ piece.At p q → Placed s i r → WordPlaces s i p q
-placed-at s i r e h = subst (Placed s i) e h
 
 -- the head of the list that follows
 module _ (head s : Bytes) (i : ℕ) where

@@ -1,5 +1,4 @@
 -- Laws of lists of names.
-pub mod Sizes
 pub mod Behind
 pub mod Heads
 pub mod Forms

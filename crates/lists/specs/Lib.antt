@@ -1,3 +1,2 @@
 -- Lists of names in a line, by places.
-pub mod Places
 pub mod Names

@@ -26,12 +26,12 @@ use Rattle.items.specs.declared.ClaimRead.the-variants as claim
 use Rattle.items.specs.Reads.{nextAt}
 use Rattle.items.specs.Rest.{formAt, spacesFrom}
 use Rattle.items.specs.Pieces.{afterEnd, namePlaces, wordNext, nameNext, openAfter, openNext, closeAfter, closeNext}
+use Rattle.items.specs.Places.{WordPlaces, Placed}
 use Rattle.items.specs.Forms.{claimNode, claimActor, claimRest, claimHead, claimAfter, claimNext, onClaim}
 use Rattle.items.proofs.RestLaws.{rest-end}
 use Rattle.items.proofs.NextLaws.{begins}
 use Rattle.items.proofs.ListLaws.{form-claims}
-use Rattle.lists.specs.Places.{WordPlaces, Placed}
-use Rattle.lists.proofs.Sizes.{word-placed, name-placed}
+use Rattle.items.proofs.PlacedLaws.{word-placed, name-placed}
 use Rattle.lists.proofs.Forms.{form-on}
 use Rattle.request.specs.declared.ClaimAt.{ClaimAt}
 use Rattle.request.specs.declared.ClaimAt.the-variants as at

@@ -16,7 +16,7 @@ use Rattle.items.specs.declared.ClaimRead.{ClaimRead}
 use Rattle.items.specs.declared.ClaimRead.the-variants as claim
 use Rattle.items.specs.Rest.{formAt}
 use Rattle.items.specs.Forms.{claimNext}
-use Rattle.lists.specs.Places.{WordPlaces}
+use Rattle.items.specs.Places.{WordPlaces}
 use Rattle.request.specs.declared.ClaimAt.{ClaimAt}
 use Rattle.request.specs.declared.ClaimAt.the-variants as at
 

@@ -11,7 +11,7 @@ use Rattle.model.specs.Answers.{partOf}
 use Rattle.model.specs.RequestPlaces.{wordsFrom}
 use Rattle.items.specs.declared.Piece.{Piece}
 use Rattle.items.specs.declared.Piece.the-variants as piece
-use Rattle.lists.specs.Places.{WordPlaces}
+use Rattle.items.specs.Places.{WordPlaces}
 use Rattle.request.specs.Claims.{wordsAt, claimsFrom}
 
 -- a request's line, the category's name standing from p to q

@@ -6,8 +6,8 @@ ghost use Rattle.request.specs.Forms.{FormRead};
 use crate::claims;
 use items::Piece;
 use items::forms;
+use items::places;
 use lists::LINE_DEPTH;
-use lists::places;
 use text::End;
 use text::compare;
 

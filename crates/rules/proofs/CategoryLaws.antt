@@ -38,7 +38,7 @@ use Rattle.ranks.proofs.AgreeLaws.{set-agrees, agree-trans, any-same, lower-kep
 use Rattle.ranks.proofs.Lowers.{category-names}
 use Rattle.ranks.proofs.Added.{category-added}
 use Rattle.ranks.proofs.Fewer.{fewer-names}
-use Rattle.lists.specs.Places.{WordPlaces}
+use Rattle.items.specs.Places.{WordPlaces}
 use Rattle.lists.specs.Names.{NamesRead}
 use Rattle.rules.specs.Forms.{between}
 use Rattle.rules.specs.Stored.{LineAt, NamesStored, CategoryClear, CategoryAdded}

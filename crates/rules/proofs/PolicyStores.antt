@@ -37,7 +37,7 @@ use Rattle.ranks.proofs.Added.{policy-added}
 use Rattle.ranks.proofs.Fewer.{fewer}
 use Rattle.tables.proofs.ListedLaws.{scan-found}
 use Rattle.tables.specs.Listed.{listed}
-use Rattle.lists.specs.Places.{WordPlaces}
+use Rattle.items.specs.Places.{WordPlaces}
 use Rattle.faults.specs.TextFault.{treeFault, textFault}
 use Rattle.rules.specs.Forms.{between}
 use Rattle.rules.specs.Stored.{LineAt}

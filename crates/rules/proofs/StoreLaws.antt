@@ -18,7 +18,7 @@ use Rattle.tables.specs.View.{wordAt, nameIn, nameOf, namesAt}
 use Rattle.tables.specs.Fits.{Inside}
 use Rattle.tables.proofs.NameLaws.{names-end}
 use Rattle.tables.proofs.AgreeLaws.{names-kept}
-use Rattle.lists.specs.Places.{WordPlaces}
+use Rattle.items.specs.Places.{WordPlaces}
 use Rattle.lists.specs.Names.{NamesRead, namesBehind}
 use Rattle.lists.proofs.Behind.{name-step, names-done}
 use Rattle.rules.specs.Forms.{between}

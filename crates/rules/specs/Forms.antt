@@ -14,7 +14,7 @@ use Rattle.model.specs.Answers.{partOf}
 use Rattle.items.specs.declared.Piece.{Piece}
 use Rattle.items.specs.declared.Piece.the-variants as piece
 use Rattle.items.specs.Rest.{formAt}
-use Rattle.lists.specs.Places.{WordPlaces}
+use Rattle.items.specs.Places.{WordPlaces}
 use Rattle.lists.specs.Names.{NamesRead, namesBehind}
 use Rattle.rules.specs.declared.RulesForm.{RulesForm}
 use Rattle.rules.specs.declared.RulesForm.the-variants.{Category, Policy, None}

@@ -15,7 +15,7 @@ use Rattle.model.specs.ReadRules.{RulesLine, policy, rulesFault, addRule}
 use Rattle.ranks.specs.declared.RulesCounts.{RulesCounts}
 use Rattle.ranks.specs.View.{rulesAt}
 use Rattle.ranks.specs.Fits.{Fits}
-use Rattle.lists.specs.Places.{WordPlaces}
+use Rattle.items.specs.Places.{WordPlaces}
 use Rattle.faults.specs.TextFault.{numberOr}
 use Rattle.rules.specs.Forms.{between}
 use Rattle.rules.specs.Stored.{LineAt}

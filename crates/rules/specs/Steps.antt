@@ -12,7 +12,7 @@ use Rattle.model.specs.ReadRules.{RulesLine, category, rulesFault, addRule}
 use Rattle.ranks.specs.declared.RulesCounts.{RulesCounts}
 use Rattle.ranks.specs.View.{rulesAt}
 use Rattle.ranks.specs.Fits.{Fits}
-use Rattle.lists.specs.Places.{WordPlaces}
+use Rattle.items.specs.Places.{WordPlaces}
 use Rattle.lists.specs.Names.{NamesRead, namesBehind}
 use Rattle.faults.specs.TextFault.{textFault}
 use Rattle.rules.specs.declared.RulesStep.{RulesStep}

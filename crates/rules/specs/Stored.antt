@@ -13,7 +13,7 @@ use Rattle.tables.specs.Fits.{Inside}
 use Rattle.ranks.specs.declared.RulesCounts.{RulesCounts}
 use Rattle.ranks.specs.View.{rulesAt}
 use Rattle.ranks.specs.Fits.{Fits}
-use Rattle.lists.specs.Places.{WordPlaces}
+use Rattle.items.specs.Places.{WordPlaces}
 use Rattle.lists.specs.Names.{NamesRead, namesBehind}
 use Rattle.rules.specs.Forms.{between}
 

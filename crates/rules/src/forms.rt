@@ -8,8 +8,8 @@ ghost use Rattle.rules.specs.Forms.{NamesList, FormRead};
 use crate::RulesForm;
 use items::Piece;
 use items::forms;
+use items::places;
 use lists::LINE_DEPTH;
-use lists::places;
 use lists::scans;
 use text::End;
 use text::compare;
@@ -18,7 +18,7 @@ use text::compare;
 fn names_list(s: &[u8], from: usize, head: &[u8]) -> Piece
     ensures { λ r. ⌜ NamesList (now (head .entry)) (now (s .entry)) from r ⌝ }
 {
-    let End::At(a) = places::headed(s, from, head) else {
+    let End::At(a) = lists::places::headed(s, from, head) else {
         return Piece::None;
     };
     let End::At(e) = scans::names_end(s, a) else {

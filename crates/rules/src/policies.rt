@@ -11,7 +11,7 @@ ghost use Rattle.model.specs.ReadRules.{hasPolicy};
 ghost use Rattle.ranks.specs.View.{rulesAt};
 ghost use Rattle.ranks.specs.Fits.{Within, Fits};
 ghost use Rattle.ranks.specs.Enforced.{hasOne};
-ghost use Rattle.lists.specs.Places.{WordPlaces};
+ghost use Rattle.items.specs.Places.{WordPlaces};
 ghost use Rattle.faults.specs.TextFault.{textFault};
 ghost use Rattle.rules.specs.Forms.{between};
 ghost use Rattle.rules.specs.Policies.{lineNumber, policyOn, combined, PolicyClear, PolicyAdded};

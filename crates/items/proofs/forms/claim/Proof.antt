@@ -1,10 +1,9 @@
 -- `items::forms::claim` meets its contract.
 use Rattle.items.proofs.ListLaws.{at-claim, claim-yes, claim-no}
-use Rattle.items.proofs.PieceTests.{word-next-within}
+use Rattle.items.proofs.PlacedLaws.{placed-at}
 use Rattle.items.specs.Forms.{claimHead, claimAfter, claimNext}
 use Rattle.model.specs.Answers.{partOf}
 use native.Mathlib.Omega.{arith}
-use mathlib.Core.Bool.{true}
 use mathlib.Core.Path.{sym, ap, _∙_}
 use borrow.Author.Needs.{needs}
 use Rattle.items.proofs.forms.claim.Statement.{statement}
@@ -27,16 +26,16 @@ enum-told c = search needs
 
 returns : tie.Need-returns
 unfolding claimHead
-returns c = at-claim (c .before .before .before .before .before .before .before .before .args .depth) (c .before .before .before .before .before .before .before .before .args .s .now) (c .before .before .before .before .before .before .before .before .args .from) (c .before .before .before .before .i .given .0 .0) (sym (c .before .before .before .before .i .given .1) ∙ c .before .before .before .before .before .before .open-list .ensures) _ (sym (c .enum-told .given .1) ∙ c .before .before .next-word .ensures)
+returns c = at-claim (c .before .before .before .before .before .before .before .before .args .depth) (c .before .before .before .before .before .before .before .before .args .s .now) (c .before .before .before .before .before .before .before .before .args .from) (c .before .before .before .before .i .given .0 .0) (sym (c .before .before .before .before .i .given .1) ∙ c .before .before .before .before .before .before .open-list .ensures) _ (sym (c .enum-told .given .1) ∙ c .before .before .next-word .ensures .is)
 
 sub-same-bytes : tie.Need-sub-same-bytes
-sub-same-bytes c = omega (arith, word-next-within (c .before .before .before .before .before .before .before .before .before .args .depth) true (c .before .before .before .before .before .before .before .before .before .args .s .now) (c .before .before .before .before .before .i .given .0 .0) _ _ (sym (c .before .p .given .1) ∙ c .before .before .before .next-word .ensures))
+sub-same-bytes c = omega (arith, placed-at _ _ _ (c .before .p .given .1) (c .before .before .before .next-word .ensures .placed))
 
 part-same-bytes-start : tie.Need-part-same-bytes-start
-part-same-bytes-start c = omega (arith, word-next-within (c .before .before .before .before .before .before .before .before .before .args .depth) true (c .before .before .before .before .before .before .before .before .before .args .s .now) (c .before .before .before .before .before .i .given .0 .0) _ _ (sym (c .before .p .given .1) ∙ c .before .before .before .next-word .ensures))
+part-same-bytes-start c = omega (arith, placed-at _ _ _ (c .before .p .given .1) (c .before .before .before .next-word .ensures .placed))
 
 part-same-bytes-end : tie.Need-part-same-bytes-end
-part-same-bytes-end c = omega (arith, word-next-within (c .before .before .before .before .before .before .before .before .before .args .depth) true (c .before .before .before .before .before .before .before .before .before .args .s .now) (c .before .before .before .before .before .i .given .0 .0) _ _ (sym (c .before .p .given .1) ∙ c .before .before .before .next-word .ensures))
+part-same-bytes-end c = omega (arith, placed-at _ _ _ (c .before .p .given .1) (c .before .before .before .next-word .ensures .placed))
 
 slice-aggregate-same-bytes : tie.Need-slice-aggregate-same-bytes
 slice-aggregate-same-bytes c = search needs
@@ -49,7 +48,7 @@ claim-rest-requires c κs = search needs
 
 returns-2 : tie.Need-returns-2
 unfolding partOf
-returns-2 c = c .claim-rest .ensures ∙ claim-yes (c .before .before .before .before .before .before .before .before .before .before .before .before .before .before .args .depth) (c .before .before .before .before .before .before .before .before .before .before .before .before .before .before .args .s .now) (c .before .before .before .before .before .before .p .given .0 .0) (c .before .before .before .before .before .before .p .given .0 .1 .0) (sym (c .before .before .same-bytes .ensures) ∙ c .before .if1 .taken) ∙ at-claim (c .before .before .before .before .before .before .before .before .before .before .before .before .before .before .args .depth) (c .before .before .before .before .before .before .before .before .before .before .before .before .before .before .args .s .now) (c .before .before .before .before .before .before .before .before .before .before .before .before .before .before .args .from) (c .before .before .before .before .before .before .before .before .before .before .i .given .0 .0) (sym (c .before .before .before .before .before .before .before .before .before .before .i .given .1) ∙ c .before .before .before .before .before .before .before .before .before .before .before .before .open-list .ensures) _ (sym (c .before .before .before .before .before .before .p .given .1) ∙ c .before .before .before .before .before .before .before .before .next-word .ensures)
+returns-2 c = c .claim-rest .ensures ∙ claim-yes (c .before .before .before .before .before .before .before .before .before .before .before .before .before .before .args .depth) (c .before .before .before .before .before .before .before .before .before .before .before .before .before .before .args .s .now) (c .before .before .before .before .before .before .p .given .0 .0) (c .before .before .before .before .before .before .p .given .0 .1 .0) (sym (c .before .before .same-bytes .ensures) ∙ c .before .if1 .taken) ∙ at-claim (c .before .before .before .before .before .before .before .before .before .before .before .before .before .before .args .depth) (c .before .before .before .before .before .before .before .before .before .before .before .before .before .before .args .s .now) (c .before .before .before .before .before .before .before .before .before .before .before .before .before .before .args .from) (c .before .before .before .before .before .before .before .before .before .before .i .given .0 .0) (sym (c .before .before .before .before .before .before .before .before .before .before .i .given .1) ∙ c .before .before .before .before .before .before .before .before .before .before .before .before .open-list .ensures) _ (sym (c .before .before .before .before .before .before .p .given .1) ∙ c .before .before .before .before .before .before .before .before .next-word .ensures .is)
 
 enum-known-e : tie.Need-enum-known-e
 enum-known-e c = search needs
@@ -59,7 +58,7 @@ enum-told-2 c = search needs
 
 returns-3 : tie.Need-returns-3
 unfolding partOf
-returns-3 c = claim-no (c .before .before .before .before .before .before .before .before .before .before .before .before .before .args .depth) (c .before .before .before .before .before .before .before .before .before .before .before .before .before .args .s .now) (c .before .before .before .before .before .p .given .0 .0) (c .before .before .before .before .before .p .given .0 .1 .0) (sym (c .before .same-bytes .ensures) ∙ c .if1 .left) ∙ at-claim (c .before .before .before .before .before .before .before .before .before .before .before .before .before .args .depth) (c .before .before .before .before .before .before .before .before .before .before .before .before .before .args .s .now) (c .before .before .before .before .before .before .before .before .before .before .before .before .before .args .from) (c .before .before .before .before .before .before .before .before .before .i .given .0 .0) (sym (c .before .before .before .before .before .before .before .before .before .i .given .1) ∙ c .before .before .before .before .before .before .before .before .before .before .before .open-list .ensures) _ (sym (c .before .before .before .before .before .p .given .1) ∙ c .before .before .before .before .before .before .before .next-word .ensures)
+returns-3 c = claim-no (c .before .before .before .before .before .before .before .before .before .before .before .before .before .args .depth) (c .before .before .before .before .before .before .before .before .before .before .before .before .before .args .s .now) (c .before .before .before .before .before .p .given .0 .0) (c .before .before .before .before .before .p .given .0 .1 .0) (sym (c .before .same-bytes .ensures) ∙ c .if1 .left) ∙ at-claim (c .before .before .before .before .before .before .before .before .before .before .before .before .before .args .depth) (c .before .before .before .before .before .before .before .before .before .before .before .before .before .args .s .now) (c .before .before .before .before .before .before .before .before .before .before .before .before .before .args .from) (c .before .before .before .before .before .before .before .before .before .i .given .0 .0) (sym (c .before .before .before .before .before .before .before .before .before .i .given .1) ∙ c .before .before .before .before .before .before .before .before .before .before .before .open-list .ensures) _ (sym (c .before .before .before .before .before .p .given .1) ∙ c .before .before .before .before .before .before .before .next-word .ensures .is)
 
 returns-4 : tie.Need-returns-4
 unfolding claimNext claimAfter

@@ -2,7 +2,6 @@
 use Rattle.items.proofs.ListLaws.{at-node}
 use Rattle.items.proofs.EndLaws.{ends-shut, claim-nowhere, claim-there, claim-past}
 use Rattle.items.specs.Forms.{claimRest, claimActor, claimNode}
-use Rattle.items.specs.Pieces.{namePlaces}
 use mathlib.Core.Bool.{false}
 use mathlib.Core.Path.{sym, ap, _∙_}
 use borrow.Author.Needs.{needs}
@@ -24,9 +23,6 @@ returns c = claim-nowhere (c .before .before .before .before .args .depth) (c .b
 next-name-requires : tie.Need-next-name-requires
 next-name-requires c κs = search needs
 
-name-places-requires : tie.Need-name-places-requires
-name-places-requires c κs = search needs
-
 enum-known-actor-start : tie.Need-enum-known-actor-start
 enum-known-actor-start c = search needs
 
@@ -35,13 +31,10 @@ enum-told-2 c = search needs
 
 returns-2 : tie.Need-returns-2
 unfolding claimRest claimActor
-returns-2 c = ap (claimActor (c .before .before .before .before .before .before .before .before .before .args .depth) (c .before .before .before .before .before .before .before .before .before .args .s .now)) (sym (c .enum-told2 .given .1) ∙ c .before .before .name-places .ensures ∙ ap namePlaces (c .before .before .before .next-name .ensures))
+returns-2 c = ap (claimActor (c .before .before .before .before .before .before .before .before .args .depth) (c .before .before .before .before .before .before .before .before .args .s .now)) (sym (c .enum-told2 .given .1) ∙ c .before .before .next-name .ensures .is)
 
 next-name-requires-2 : tie.Need-next-name-requires-2
 next-name-requires-2 c κs = search needs
-
-name-places-requires-2 : tie.Need-name-places-requires-2
-name-places-requires-2 c κs = search needs
 
 enum-known-node-start : tie.Need-enum-known-node-start
 enum-known-node-start c = search needs
@@ -51,16 +44,16 @@ enum-told-3 c = search needs
 
 returns-3 : tie.Need-returns-3
 unfolding claimNode
-returns-3 c = at-node (c .before .before .before .before .before .before .before .before .before .before .before .before .before .before .args .depth) (c .before .before .before .before .before .before .before .before .before .before .before .before .before .before .args .s .now) (c .before .before .before .before .before .before .before .before .before .before .before .before .before .before .args .from) _ _ (sym (c .before .before .before .before .before .actor-start .given .1) ∙ c .before .before .before .before .before .before .before .name-places .ensures ∙ ap namePlaces (c .before .before .before .before .before .before .before .before .next-name .ensures)) _ (sym (c .enum-told3 .given .1) ∙ c .before .before .name-places2 .ensures ∙ ap namePlaces (c .before .before .before .next-name2 .ensures))
+returns-3 c = at-node (c .before .before .before .before .before .before .before .before .before .before .before .before .args .depth) (c .before .before .before .before .before .before .before .before .before .before .before .before .args .s .now) (c .before .before .before .before .before .before .before .before .before .before .before .before .args .from) _ _ (sym (c .before .before .before .before .actor-start .given .1) ∙ c .before .before .before .before .before .before .next-name .ensures .is) _ (sym (c .enum-told3 .given .1) ∙ c .before .before .next-name2 .ensures .is)
 
 only-closes-requires : tie.Need-only-closes-requires
-only-closes-requires c κs = ends-shut (c .before .before .before .before .before .before .before .before .before .before .before .before .before .before .before .args .depth) false (c .before .before .before .before .before .before .before .before .before .before .before .before .before .before .before .args .s .now) (c .before .before .before .before .before .before .before .before .before .before .before .before .before .before .before .args .from) (c .before .before .before .before .before .before .before .before .before .before .before .next .given .0 .0) (sym (c .before .before .before .before .before .before .before .before .before .before .before .next .given .1) ∙ c .before .before .before .before .before .before .before .before .before .before .before .before .before .list .ensures) .0
+only-closes-requires c κs = ends-shut (c .before .before .before .before .before .before .before .before .before .before .before .before .before .args .depth) false (c .before .before .before .before .before .before .before .before .before .before .before .before .before .args .s .now) (c .before .before .before .before .before .before .before .before .before .before .before .before .before .args .from) (c .before .before .before .before .before .before .before .before .before .next .given .0 .0) (sym (c .before .before .before .before .before .before .before .before .before .next .given .1) ∙ c .before .before .before .before .before .before .before .before .before .before .before .list .ensures) .0
 
 returns-4 : tie.Need-returns-4
-returns-4 c = claim-there (c .before .before .before .before .before .before .before .before .before .before .before .before .before .before .before .before .before .args .depth) (c .before .before .before .before .before .before .before .before .before .before .before .before .before .before .before .before .before .args .s .now) (c .before .before .before .before .before .before .before .before .before .before .before .before .before .before .before .before .before .args .from) _ _ (sym (c .before .before .before .before .before .before .before .before .actor-start .given .1) ∙ c .before .before .before .before .before .before .before .before .before .before .name-places .ensures ∙ ap namePlaces (c .before .before .before .before .before .before .before .before .before .before .before .next-name .ensures)) _ _ (sym (c .before .before .before .node-start .given .1) ∙ c .before .before .before .before .before .name-places2 .ensures ∙ ap namePlaces (c .before .before .before .before .before .before .next-name2 .ensures)) (c .before .before .before .before .before .before .before .before .before .before .before .before .before .next .given .0 .0) (sym (c .before .before .before .before .before .before .before .before .before .before .before .before .before .next .given .1) ∙ c .before .before .before .before .before .before .before .before .before .before .before .before .before .before .before .list .ensures) (sym (c .if1 .taken) ∙ c .before .only-closes .ensures)
+returns-4 c = claim-there (c .before .before .before .before .before .before .before .before .before .before .before .before .before .before .before .args .depth) (c .before .before .before .before .before .before .before .before .before .before .before .before .before .before .before .args .s .now) (c .before .before .before .before .before .before .before .before .before .before .before .before .before .before .before .args .from) _ _ (sym (c .before .before .before .before .before .before .before .actor-start .given .1) ∙ c .before .before .before .before .before .before .before .before .before .next-name .ensures .is) _ _ (sym (c .before .before .before .node-start .given .1) ∙ c .before .before .before .before .before .next-name2 .ensures .is) (c .before .before .before .before .before .before .before .before .before .before .before .next .given .0 .0) (sym (c .before .before .before .before .before .before .before .before .before .before .before .next .given .1) ∙ c .before .before .before .before .before .before .before .before .before .before .before .before .before .list .ensures) (sym (c .if1 .taken) ∙ c .before .only-closes .ensures)
 
 returns-5 : tie.Need-returns-5
-returns-5 c = claim-past (c .before .before .before .before .before .before .before .before .before .before .before .before .before .before .before .before .before .args .depth) (c .before .before .before .before .before .before .before .before .before .before .before .before .before .before .before .before .before .args .s .now) (c .before .before .before .before .before .before .before .before .before .before .before .before .before .before .before .before .before .args .from) _ _ (sym (c .before .before .before .before .before .before .before .before .actor-start .given .1) ∙ c .before .before .before .before .before .before .before .before .before .before .name-places .ensures ∙ ap namePlaces (c .before .before .before .before .before .before .before .before .before .before .before .next-name .ensures)) _ _ (sym (c .before .before .before .node-start .given .1) ∙ c .before .before .before .before .before .name-places2 .ensures ∙ ap namePlaces (c .before .before .before .before .before .before .next-name2 .ensures)) (c .before .before .before .before .before .before .before .before .before .before .before .before .before .next .given .0 .0) (sym (c .before .before .before .before .before .before .before .before .before .before .before .before .before .next .given .1) ∙ c .before .before .before .before .before .before .before .before .before .before .before .before .before .before .before .list .ensures) (sym (c .if1 .left) ∙ c .before .only-closes .ensures)
+returns-5 c = claim-past (c .before .before .before .before .before .before .before .before .before .before .before .before .before .before .before .args .depth) (c .before .before .before .before .before .before .before .before .before .before .before .before .before .before .before .args .s .now) (c .before .before .before .before .before .before .before .before .before .before .before .before .before .before .before .args .from) _ _ (sym (c .before .before .before .before .before .before .before .actor-start .given .1) ∙ c .before .before .before .before .before .before .before .before .before .next-name .ensures .is) _ _ (sym (c .before .before .before .node-start .given .1) ∙ c .before .before .before .before .before .next-name2 .ensures .is) (c .before .before .before .before .before .before .before .before .before .before .before .next .given .0 .0) (sym (c .before .before .before .before .before .before .before .before .before .before .before .next .given .1) ∙ c .before .before .before .before .before .before .before .before .before .before .before .before .before .list .ensures) (sym (c .if1 .left) ∙ c .before .only-closes .ensures)
 
 pub claim-rest-spec : {M : Type 1} → statement M
 claim-rest-spec =
@@ -71,12 +64,10 @@ claim-rest-spec =
     enum-told
     returns
     next-name-requires
-    name-places-requires
     enum-known-actor-start
     enum-told-2
     returns-2
     next-name-requires-2
-    name-places-requires-2
     enum-known-node-start
     enum-told-3
     returns-3

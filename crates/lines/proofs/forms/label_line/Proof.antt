@@ -1,5 +1,6 @@
 use Rattle.lines.proofs.LineSteps.{label-broken, label-open, label-step}
-use Rattle.lines.proofs.PieceLaws.{piece-asked, name-stands}
+use Rattle.lines.proofs.PieceLaws.{piece-asked}
+use Rattle.items.proofs.PlacedLaws.{placed-at}
 use native.Mathlib.Omega.{arith}
 use borrow.Author.Needs.{needs}
 use Rattle.lines.proofs.forms.label_line.Statement.{statement}
@@ -7,7 +8,6 @@ use Rattle.lines.proofs.forms.label_line.Tie as tie
 use Rattle.lines.proofs.forms.label_line.Reads as reads
 use Rattle.lines.proofs.forms.label_line.Lts as lts
 use Rattle.items.proofs.forms.form_closes.Reads as form-closes-reads
-use Rattle.lines.proofs.pieces.next_name.Reads as next-name-reads
 use Rattle.lines.proofs.steps.add_label.Reads as add-label-reads
 
 -- src/forms.rt:128:11
@@ -24,15 +24,15 @@ form-closes-requires c κs = search needs
 
 -- src/forms.rt:136:32
 add-t14 : tie.Need-add-t14
-add-t14 c = omega (arith, c .before .before .before .before .before .before .before .before .before .before .pre .inside, c .before .before .before .before .before .before .before .before .before .before .pre .limit, name-stands (c .before .before .before .before .before .before .before .before .before .before .args .line .now) (c .before .before .before .before .before .before .before .before .before .before .args .from) _ _ _ (c .before .before .before .before .before .before .next-name .ensures) (c .before .before .before .before .p .given .1))
+add-t14 c = omega (arith, c .before .before .before .before .before .before .before .before .before .before .pre .inside, c .before .before .before .before .before .before .before .before .before .before .pre .limit, placed-at (c .before .before .before .before .before .before .before .before .before .before .args .line .now) (c .before .before .before .before .before .before .before .before .before .before .args .from) _ (c .before .before .before .before .p .given .1) (c .before .before .before .before .before .before .next-name .ensures .placed))
 
 -- src/forms.rt:137:33
 sub-t15 : tie.Need-sub-t15
-sub-t15 c = omega (arith, name-stands (c .before .before .before .before .before .before .before .before .before .before .args .line .now) (c .before .before .before .before .before .before .before .before .before .before .args .from) _ _ _ (c .before .before .before .before .before .before .next-name .ensures) (c .before .before .before .before .p .given .1))
+sub-t15 c = omega (arith, placed-at (c .before .before .before .before .before .before .before .before .before .before .args .line .now) (c .before .before .before .before .before .before .before .before .before .before .args .from) _ (c .before .before .before .before .p .given .1) (c .before .before .before .before .before .before .next-name .ensures .placed))
 
 -- src/forms.rt:131:17
 add-label-requires : tie.Need-add-label-requires
-add-label-requires c κs = (piece-asked (c .before .before .before .before .before .before .before .before .before .before .args .text .now) (c .before .before .before .before .before .before .before .before .before .before .args .line .now) (c .before .before .before .before .before .before .before .before .before .before .args .words .now) (c .before .before .before .before .before .before .before .before .before .before .args .counts) (c .before .before .before .before .before .before .before .before .before .before .args .base) (c .before .before .before .before .before .before .before .before .before .before .args .from) _ _ (c .before .before .before .before .before .before .before .before .before .before .pre) (name-stands (c .before .before .before .before .before .before .before .before .before .before .args .line .now) (c .before .before .before .before .before .before .before .before .before .before .args .from) _ _ _ (c .before .before .before .before .before .before .next-name .ensures) (c .before .before .before .before .p .given .1)), c .before .before .before .before .before .before .before .before .before .before .pre .fits)
+add-label-requires c κs = (piece-asked (c .before .before .before .before .before .before .before .before .before .before .args .text .now) (c .before .before .before .before .before .before .before .before .before .before .args .line .now) (c .before .before .before .before .before .before .before .before .before .before .args .words .now) (c .before .before .before .before .before .before .before .before .before .before .args .counts) (c .before .before .before .before .before .before .before .before .before .before .args .base) (c .before .before .before .before .before .before .before .before .before .before .args .from) _ _ (c .before .before .before .before .before .before .before .before .before .before .pre) (placed-at (c .before .before .before .before .before .before .before .before .before .before .args .line .now) (c .before .before .before .before .before .before .before .before .before .before .args .from) _ (c .before .before .before .before .p .given .1) (c .before .before .before .before .before .before .next-name .ensures .placed)), c .before .before .before .before .before .before .before .before .before .before .pre .fits)
 
 -- src/forms.rt:131:17
 same-length : tie.Need-same-length

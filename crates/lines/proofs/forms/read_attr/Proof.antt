@@ -1,5 +1,5 @@
 use Rattle.lines.proofs.LineLaws.{attr-nameless, attr-kindless, attr-ends}
-use Rattle.lines.proofs.PieceLaws.{name-stands}
+use Rattle.items.proofs.PlacedLaws.{placed-at}
 use Rattle.lines.specs.Forms.{onAttr}
 use mathlib.Core.Path.{sym, ap, _∙_}
 use native.Mathlib.Omega.{arith}
@@ -10,7 +10,6 @@ use Rattle.lines.proofs.forms.read_attr.Reads as reads
 use Rattle.lines.proofs.forms.read_attr.Lts as lts
 use Rattle.items.proofs.forms.form_closes.Reads as form-closes-reads
 use Rattle.lines.proofs.pieces.next_kind.Reads as next-kind-reads
-use Rattle.lines.proofs.pieces.next_name.Reads as next-name-reads
 
 -- src/forms.rt:71:11
 next-name-requires : tie.Need-next-name-requires
@@ -35,7 +34,7 @@ form-closes-requires c κs = search needs
 -- src/forms.rt:75:21
 returns : tie.Need-returns
 unfolding onAttr
-returns c = (λ make. attr-ends (c .before .before .before .before .before .before .before .before .before .before .before .args .line .now) (c .before .before .before .before .before .before .before .before .before .before .before .args .from) make _ (c .before .before .before .before .before .before .before .before .before .next-name .ensures) _ _ (c .before .before .before .before .before .before .before .p .given .1) _ (c .before .before .before .before .before .next-kind .ensures) _ _ (c .before .before .before .kind .given .1) _ (c .before .form-closes .ensures) ∙ rw (c .if1 .taken), name-stands (c .before .before .before .before .before .before .before .before .before .before .before .args .line .now) (c .before .before .before .before .before .before .before .before .before .before .before .args .from) _ _ _ (c .before .before .before .before .before .before .before .before .before .next-name .ensures) (c .before .before .before .before .before .before .before .p .given .1))
+returns c = (λ make. attr-ends (c .before .before .before .before .before .before .before .before .before .before .before .args .line .now) (c .before .before .before .before .before .before .before .before .before .before .before .args .from) make _ (c .before .before .before .before .before .before .before .before .before .next-name .ensures) _ _ (c .before .before .before .before .before .before .before .p .given .1) _ (c .before .before .before .before .before .next-kind .ensures) _ _ (c .before .before .before .kind .given .1) _ (c .before .form-closes .ensures) ∙ rw (c .if1 .taken), placed-at (c .before .before .before .before .before .before .before .before .before .before .before .args .line .now) (c .before .before .before .before .before .before .before .before .before .before .before .args .from) _ (c .before .before .before .before .before .before .before .p .given .1) (c .before .before .before .before .before .before .before .before .before .next-name .ensures .placed))
 
 -- src/forms.rt:79:31
 enum-told : tie.Need-enum-told

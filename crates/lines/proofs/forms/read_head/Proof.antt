@@ -1,8 +1,7 @@
 use Rattle.lines.proofs.LineLaws.{step-broken, headed, headless}
-use Rattle.lines.proofs.PieceLaws.{word-stands}
+use Rattle.items.proofs.PlacedLaws.{placed-at}
 use Rattle.model.specs.Answers.{partOf}
 use Rattle.lines.specs.declared.Head.{Head}
-use mathlib.Core.Bool.{true}
 use mathlib.Core.Path.{sym, ap, _∙_}
 use native.Mathlib.Omega.{arith}
 use borrow.Author.Needs.{needs}
@@ -10,7 +9,6 @@ use Rattle.lines.proofs.forms.read_head.Statement.{statement}
 use Rattle.lines.proofs.forms.read_head.Tie as tie
 use Rattle.lines.proofs.forms.read_head.Reads as reads
 use Rattle.lines.proofs.forms.read_head.Lts as lts
-use Rattle.items.proofs.pieces.next_word.Reads as next-word-reads
 use Rattle.lines.proofs.forms.read_rest.Reads as read-rest-reads
 use Rattle.lines.proofs.pieces.head.Reads as head-reads
 
@@ -24,15 +22,15 @@ enum-known-p c = search needs
 
 -- src/forms.rt:46:72
 sub-head : tie.Need-sub-head
-sub-head c = omega (arith, word-stands true (c .before .before .before .before .before .before .before .args .line .now) (c .before .before .before .before .before .before .before .args .from) _ _ _ (c .before .before .before .next-word .ensures) (c .before .p .given .1))
+sub-head c = omega (arith, placed-at (c .before .before .before .before .before .before .before .args .line .now) (c .before .before .before .before .before .before .before .args .from) _ (c .before .p .given .1) (c .before .before .before .next-word .ensures .placed))
 
 -- src/forms.rt:46:72
 part-head-start : tie.Need-part-head-start
-part-head-start c = omega (arith, word-stands true (c .before .before .before .before .before .before .before .args .line .now) (c .before .before .before .before .before .before .before .args .from) _ _ _ (c .before .before .before .next-word .ensures) (c .before .p .given .1))
+part-head-start c = omega (arith, placed-at (c .before .before .before .before .before .before .before .args .line .now) (c .before .before .before .before .before .before .before .args .from) _ (c .before .p .given .1) (c .before .before .before .next-word .ensures .placed))
 
 -- src/forms.rt:46:72
 part-head-end : tie.Need-part-head-end
-part-head-end c = omega (arith, word-stands true (c .before .before .before .before .before .before .before .args .line .now) (c .before .before .before .before .before .before .before .args .from) _ _ _ (c .before .before .before .next-word .ensures) (c .before .p .given .1))
+part-head-end c = omega (arith, placed-at (c .before .before .before .before .before .before .before .args .line .now) (c .before .before .before .before .before .before .before .args .from) _ (c .before .p .given .1) (c .before .before .before .next-word .ensures .placed))
 
 -- src/forms.rt:46:59
 head-requires : tie.Need-head-requires

@@ -1,5 +1,6 @@
 use Rattle.lines.proofs.LineSteps.{node-broken, node-spoilt, node-step, entries-got}
-use Rattle.lines.proofs.PieceLaws.{piece-asked, name-stands}
+use Rattle.lines.proofs.PieceLaws.{piece-asked}
+use Rattle.items.proofs.PlacedLaws.{placed-at}
 use Rattle.tables.proofs.AgreeLaws.{fits-kept}
 use mathlib.Core.Logic.{inl}
 use mathlib.Core.Path.{refl}
@@ -10,7 +11,6 @@ use Rattle.lines.proofs.owners.node_line.Tie as tie
 use Rattle.lines.proofs.owners.node_line.Reads as reads
 use Rattle.lines.proofs.owners.node_line.Lts as lts
 use Rattle.lines.proofs.owners.read_entries.Reads as read-entries-reads
-use Rattle.lines.proofs.pieces.next_name.Reads as next-name-reads
 use Rattle.lines.proofs.steps.add_node.Reads as add-node-reads
 
 -- src/owners.rt:116:11
@@ -23,7 +23,7 @@ enum-known-p c = search needs
 
 -- src/owners.rt:119:19
 read-entries-requires : tie.Need-read-entries-requires
-read-entries-requires c κs = (c .before .before .before .before .before .before .before .before .pre, inl (refl, refl), name-stands (c .before .before .before .before .before .before .before .before .args .line .now) (c .before .before .before .before .before .before .before .before .args .from) _ _ _ (c .before .before .before .before .next-name .ensures) (c .before .before .p .given .1) .inside)
+read-entries-requires c κs = (c .before .before .before .before .before .before .before .before .pre, inl (refl, refl), placed-at (c .before .before .before .before .before .before .before .before .args .line .now) (c .before .before .before .before .before .before .before .before .args .from) _ (c .before .before .p .given .1) (c .before .before .before .before .next-name .ensures .placed) .inside)
 
 -- src/owners.rt:120:37
 enum-known-read : tie.Need-enum-known-read
@@ -31,15 +31,15 @@ enum-known-read c = search needs
 
 -- src/owners.rt:125:32
 add-t19 : tie.Need-add-t19
-add-t19 c = omega (arith, c .before .before .before .before .before .before .before .before .before .before .before .before .before .before .before .pre .inside, c .before .before .before .before .before .before .before .before .before .before .before .before .before .before .before .pre .limit, name-stands (c .before .before .before .before .before .before .before .before .before .before .before .before .before .before .before .args .line .now) (c .before .before .before .before .before .before .before .before .before .before .before .before .before .before .before .args .from) _ _ _ (c .before .before .before .before .before .before .before .before .before .before .before .next-name .ensures) (c .before .before .before .before .before .before .before .before .before .p .given .1))
+add-t19 c = omega (arith, c .before .before .before .before .before .before .before .before .before .before .before .before .before .before .before .pre .inside, c .before .before .before .before .before .before .before .before .before .before .before .before .before .before .before .pre .limit, placed-at (c .before .before .before .before .before .before .before .before .before .before .before .before .before .before .before .args .line .now) (c .before .before .before .before .before .before .before .before .before .before .before .before .before .before .before .args .from) _ (c .before .before .before .before .before .before .before .before .before .p .given .1) (c .before .before .before .before .before .before .before .before .before .before .before .next-name .ensures .placed))
 
 -- src/owners.rt:126:33
 sub-t20 : tie.Need-sub-t20
-sub-t20 c = omega (arith, name-stands (c .before .before .before .before .before .before .before .before .before .before .before .before .before .before .before .args .line .now) (c .before .before .before .before .before .before .before .before .before .before .before .before .before .before .before .args .from) _ _ _ (c .before .before .before .before .before .before .before .before .before .before .before .next-name .ensures) (c .before .before .before .before .before .before .before .before .before .p .given .1))
+sub-t20 c = omega (arith, placed-at (c .before .before .before .before .before .before .before .before .before .before .before .before .before .before .before .args .line .now) (c .before .before .before .before .before .before .before .before .before .before .before .before .before .before .before .args .from) _ (c .before .before .before .before .before .before .before .before .before .p .given .1) (c .before .before .before .before .before .before .before .before .before .before .before .next-name .ensures .placed))
 
 -- src/owners.rt:120:46
 add-node-requires : tie.Need-add-node-requires
-add-node-requires c κs = (piece-asked (c .before .before .before .before .before .before .before .before .before .before .before .before .before .before .before .args .text .now) (c .before .before .before .before .before .before .before .before .before .before .before .before .before .before .before .args .line .now) (c .before .before .before .before .before .before .before .before .before .before .before .before .before .before .before .args .words .now) (c .before .before .before .before .before .before .before .before .before .before .before .before .before .before .before .args .counts) (c .before .before .before .before .before .before .before .before .before .before .before .before .before .before .before .args .base) (c .before .before .before .before .before .before .before .before .before .before .before .before .before .before .before .args .from) _ _ (c .before .before .before .before .before .before .before .before .before .before .before .before .before .before .before .pre) (name-stands (c .before .before .before .before .before .before .before .before .before .before .before .before .before .before .before .args .line .now) (c .before .before .before .before .before .before .before .before .before .before .before .before .before .before .before .args .from) _ _ _ (c .before .before .before .before .before .before .before .before .before .before .before .next-name .ensures) (c .before .before .before .before .before .before .before .before .before .p .given .1)), fits-kept (c .before .before .before .before .before .before .before .before .before .before .before .before .before .before .before .args .text .now) (c .before .before .before .before .before .before .before .before .before .before .before .before .before .before .before .args .words .now) _ (c .before .before .before .before .before .before .before .before .before .before .before .before .before .before .before .args .counts) (c .before .before .before .before .before .before .read-entries .ensures .agrees) (c .before .before .before .before .before .before .before .before .before .before .before .before .before .before .before .pre .fits), entries-got (c .before .before .before .before .before .before .before .before .before .before .before .before .before .before .before .args .text .now) (c .before .before .before .before .before .before .before .before .before .before .before .before .before .before .before .args .line .now) (c .before .before .before .before .before .before .before .before .before .before .before .before .before .before .before .args .words .now) _ (c .before .before .before .before .before .before .before .before .before .before .before .before .before .before .before .args .counts) _ _ _ _ _ (c .before .before .before .before .before .before .read-entries .ensures) (c .before .before .read .given .1) .few)
+add-node-requires c κs = (piece-asked (c .before .before .before .before .before .before .before .before .before .before .before .before .before .before .before .args .text .now) (c .before .before .before .before .before .before .before .before .before .before .before .before .before .before .before .args .line .now) (c .before .before .before .before .before .before .before .before .before .before .before .before .before .before .before .args .words .now) (c .before .before .before .before .before .before .before .before .before .before .before .before .before .before .before .args .counts) (c .before .before .before .before .before .before .before .before .before .before .before .before .before .before .before .args .base) (c .before .before .before .before .before .before .before .before .before .before .before .before .before .before .before .args .from) _ _ (c .before .before .before .before .before .before .before .before .before .before .before .before .before .before .before .pre) (placed-at (c .before .before .before .before .before .before .before .before .before .before .before .before .before .before .before .args .line .now) (c .before .before .before .before .before .before .before .before .before .before .before .before .before .before .before .args .from) _ (c .before .before .before .before .before .before .before .before .before .p .given .1) (c .before .before .before .before .before .before .before .before .before .before .before .next-name .ensures .placed)), fits-kept (c .before .before .before .before .before .before .before .before .before .before .before .before .before .before .before .args .text .now) (c .before .before .before .before .before .before .before .before .before .before .before .before .before .before .before .args .words .now) _ (c .before .before .before .before .before .before .before .before .before .before .before .before .before .before .before .args .counts) (c .before .before .before .before .before .before .read-entries .ensures .agrees) (c .before .before .before .before .before .before .before .before .before .before .before .before .before .before .before .pre .fits), entries-got (c .before .before .before .before .before .before .before .before .before .before .before .before .before .before .before .args .text .now) (c .before .before .before .before .before .before .before .before .before .before .before .before .before .before .before .args .line .now) (c .before .before .before .before .before .before .before .before .before .before .before .before .before .before .before .args .words .now) _ (c .before .before .before .before .before .before .before .before .before .before .before .before .before .before .before .args .counts) _ _ _ _ _ (c .before .before .before .before .before .before .read-entries .ensures) (c .before .before .read .given .1) .few)
 
 -- src/owners.rt:130:40
 enum-told : tie.Need-enum-told

@@ -1,12 +1,11 @@
 use Rattle.lines.proofs.LineSteps.{names-first, names-second, names-third, names-all}
-use Rattle.lines.proofs.PieceLaws.{name-stands}
+use Rattle.items.proofs.PlacedLaws.{placed-at}
 use native.Mathlib.Omega.{arith}
 use borrow.Author.Needs.{needs}
 use Rattle.lines.proofs.owners.read_names.Statement.{statement}
 use Rattle.lines.proofs.owners.read_names.Tie as tie
 use Rattle.lines.proofs.owners.read_names.Reads as reads
 use Rattle.lines.proofs.owners.read_names.Lts as lts
-use Rattle.lines.proofs.pieces.next_name.Reads as next-name-reads
 
 -- src/owners.rt:141:11
 next-name-requires : tie.Need-next-name-requires
@@ -34,15 +33,15 @@ enum-known-e c = search needs
 
 -- src/owners.rt:147:33
 sub-t15 : tie.Need-sub-t15
-sub-t15 c = omega (arith, name-stands (c .before .before .before .before .before .before .before .before .before .before .before .before .before .args .line .now) (c .before .before .before .before .before .before .before .before .before .before .before .before .before .args .from) _ _ _ (c .before .before .before .before .before .before .before .before .before .before .before .next-name .ensures) (c .before .before .before .before .before .before .before .before .before .a .given .1))
+sub-t15 c = omega (arith, placed-at (c .before .before .before .before .before .before .before .before .before .before .before .before .before .args .line .now) (c .before .before .before .before .before .before .before .before .before .before .before .before .before .args .from) _ (c .before .before .before .before .before .before .before .before .before .a .given .1) (c .before .before .before .before .before .before .before .before .before .before .before .next-name .ensures .placed))
 
 -- src/owners.rt:151:33
 sub-t17 : tie.Need-sub-t17
-sub-t17 c = omega (arith, name-stands (c .before .before .before .before .before .before .before .before .before .before .before .before .before .args .line .now) _ _ _ _ (c .before .before .before .before .before .before .before .next-name2 .ensures) (c .before .before .before .before .before .c .given .1))
+sub-t17 c = omega (arith, placed-at (c .before .before .before .before .before .before .before .before .before .before .before .before .before .args .line .now) _ _ (c .before .before .before .before .before .c .given .1) (c .before .before .before .before .before .before .before .next-name2 .ensures .placed))
 
 -- src/owners.rt:155:33
 sub-t19 : tie.Need-sub-t19
-sub-t19 c = omega (arith, name-stands (c .before .before .before .before .before .before .before .before .before .before .before .before .before .args .line .now) _ _ _ _ (c .before .before .before .next-name3 .ensures) (c .before .e .given .1))
+sub-t19 c = omega (arith, placed-at (c .before .before .before .before .before .before .before .before .before .before .before .before .before .args .line .now) _ _ (c .before .e .given .1) (c .before .before .before .next-name3 .ensures .placed))
 
 -- src/owners.rt:159:32
 enum-told : tie.Need-enum-told

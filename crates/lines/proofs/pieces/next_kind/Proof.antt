@@ -1,7 +1,6 @@
-use Rattle.lines.proofs.PieceLaws.{word-stands}
+use Rattle.items.proofs.PlacedLaws.{placed-at}
 use Rattle.model.specs.Answers.{partOf}
 use Rattle.lines.specs.Forms.{kindRead, kindPiece}
-use mathlib.Core.Bool.{false}
 use mathlib.Core.Path.{sym, ap, _∙_}
 use native.Mathlib.Omega.{arith}
 use borrow.Author.Needs.{needs}
@@ -9,7 +8,6 @@ use Rattle.lines.proofs.pieces.next_kind.Statement.{statement}
 use Rattle.lines.proofs.pieces.next_kind.Tie as tie
 use Rattle.lines.proofs.pieces.next_kind.Reads as reads
 use Rattle.lines.proofs.pieces.next_kind.Lts as lts
-use Rattle.items.proofs.pieces.next_word.Reads as next-word-reads
 use Rattle.lines.proofs.pieces.kind_of.Reads as kind-of-reads
 
 -- src/pieces.rt:67:11
@@ -22,15 +20,15 @@ enum-known-p c = search needs
 
 -- src/pieces.rt:68:36
 sub-kind-of : tie.Need-sub-kind-of
-sub-kind-of c = omega (arith, word-stands false (c .before .before .before .before .before .args .line .now) (c .before .before .before .before .before .args .from) _ _ _ (c .before .before .before .next-word .ensures) (c .before .p .given .1))
+sub-kind-of c = omega (arith, placed-at (c .before .before .before .before .before .args .line .now) (c .before .before .before .before .before .args .from) _ (c .before .p .given .1) (c .before .before .before .next-word .ensures .placed))
 
 -- src/pieces.rt:68:36
 part-kind-of-start : tie.Need-part-kind-of-start
-part-kind-of-start c = omega (arith, word-stands false (c .before .before .before .before .before .args .line .now) (c .before .before .before .before .before .args .from) _ _ _ (c .before .before .before .next-word .ensures) (c .before .p .given .1))
+part-kind-of-start c = omega (arith, placed-at (c .before .before .before .before .before .args .line .now) (c .before .before .before .before .before .args .from) _ (c .before .p .given .1) (c .before .before .before .next-word .ensures .placed))
 
 -- src/pieces.rt:68:36
 part-kind-of-end : tie.Need-part-kind-of-end
-part-kind-of-end c = omega (arith, word-stands false (c .before .before .before .before .before .args .line .now) (c .before .before .before .before .before .args .from) _ _ _ (c .before .before .before .next-word .ensures) (c .before .p .given .1))
+part-kind-of-end c = omega (arith, placed-at (c .before .before .before .before .before .args .line .now) (c .before .before .before .before .before .args .from) _ (c .before .p .given .1) (c .before .before .before .next-word .ensures .placed))
 
 -- src/pieces.rt:68:28
 kind-of-requires : tie.Need-kind-of-requires
@@ -43,12 +41,12 @@ enum-told c = search needs
 -- src/pieces.rt:64:1
 returns : tie.Need-returns
 unfolding kindPiece partOf
-returns c = c .kind-of .ensures ∙ sym (ap (kindPiece (c .before .before .before .before .before .before .before .args .line .now)) (sym (c .before .before .before .before .before .next-word .ensures) ∙ c .before .before .before .p .given .1))
+returns c = c .kind-of .ensures ∙ sym (ap (kindPiece (c .before .before .before .before .before .before .before .args .line .now)) (sym (c .before .before .before .before .before .next-word .ensures .is) ∙ c .before .before .before .p .given .1))
 
 -- src/pieces.rt:64:1
 returns-2 : tie.Need-returns-2
 unfolding kindPiece
-returns-2 c = sym (ap (kindPiece (c .before .before .before .before .args .line .now)) (sym (c .before .before .next-word .ensures) ∙ c .enum-told .given .1))
+returns-2 c = sym (ap (kindPiece (c .before .before .before .before .args .line .now)) (sym (c .before .before .next-word .ensures .is) ∙ c .enum-told .given .1))
 
 pub next-kind-spec : {M : Type 1} → statement M
 next-kind-spec =

@@ -4,7 +4,7 @@ use native.Mathlib.Omega.{arith}
 use borrow.Author.Tests.{not-true, not-false}
 use borrow.Author.Needs.{needs}
 use Rattle.model.specs.Answers.{partOf}
-use Rattle.lists.proofs.Heads.{placed-at}
+use Rattle.items.proofs.PlacedLaws.{placed-at}
 use Rattle.request.proofs.FormLaws.{unopened, wordless, of-other, unnamed, unclaimed, line-read}
 use Rattle.request.proofs.forms.request_form.Statement.{statement}
 use Rattle.request.proofs.forms.request_form.Tie as tie

@@ -9,7 +9,7 @@ use Rattle.model.specs.Choice.{just}
 use Rattle.rules.proofs.StoreLaws.{stored-none, storing-next, storing-done, storing-room}
 use Rattle.rules.specs.Stored.{Storing}
 use Rattle.lists.proofs.Behind.{names-over}
-use Rattle.lists.proofs.Heads.{placed-at}
+use Rattle.items.proofs.PlacedLaws.{placed-at}
 use Rattle.lists.specs.Names.{NamesRead, namesBehind}
 use Rattle.rules.proofs.categories.store_names.Statement.{statement}
 use Rattle.rules.proofs.categories.store_names.Tie as tie

@@ -4,7 +4,7 @@ use native.Mathlib.Omega.{arith}
 use borrow.Author.Needs.{needs}
 use Rattle.model.specs.Answers.{partOf}
 use Rattle.rules.proofs.FormLaws.{unopened, wordless, of-category, of-policy, of-neither, form-moved}
-use Rattle.lists.proofs.Heads.{placed-at}
+use Rattle.items.proofs.PlacedLaws.{placed-at}
 use Rattle.rules.proofs.forms.rules_form.Statement.{statement}
 use Rattle.rules.proofs.forms.rules_form.Tie as tie
 

@@ -11,7 +11,7 @@ use Rattle.model.specs.Names.{mem, place}
 use Rattle.model.specs.Lists.{all}
 use Rattle.model.specs.Bytes.{Bytes}
 use Rattle.rules.proofs.TestLaws.{miss-none, miss-found, miss-other}
-use Rattle.lists.proofs.Heads.{placed-at}
+use Rattle.items.proofs.PlacedLaws.{placed-at}
 use Rattle.lists.proofs.Behind.{left-start, left-next, left-found, left-done, left-over}
 use Rattle.lists.specs.Names.{Left}
 use Rattle.ranks.specs.Layout.{names}

@@ -1,0 +1,19 @@
+-- `items::places::next_name` meets its contract.
+use mathlib.Core.Path.{ap, _∙_}
+use borrow.Author.Needs.{needs}
+use Rattle.items.specs.Pieces.{namePlaces}
+use Rattle.items.proofs.PlacedLaws.{told-name}
+use Rattle.items.proofs.places.next_name.Statement.{statement}
+use Rattle.items.proofs.places.next_name.Tie as tie
+
+next-name-requires : tie.Need-next-name-requires
+next-name-requires c κs = search needs
+
+name-places-requires : tie.Need-name-places-requires
+name-places-requires c κs = search needs
+
+returns : tie.Need-returns
+returns c = told-name (c .name-places .ensures ∙ ap namePlaces (c .before .next-name .ensures))
+
+pub next-name-spec : {M : Type 1} → statement M
+next-name-spec = tie.close (tie.spec next-name-requires name-places-requires returns)
