@@ -48,6 +48,15 @@ fn queries(bytes: usize) -> Vec<String> {
     ]
 }
 
+/// Names of four bytes that share one slot of the index of names (`chains::slots`), so that each look-up walks all those before it.
+fn in_one_slot(i: usize) -> String {
+    let digits = b"abcdefghijklmnopqrstuvwxyz0123456789";
+    let name = |n: usize| format!("n{}{}{}", digits[n / 1296 % 36] as char, digits[n / 36 % 36] as char, digits[n % 36] as char);
+    let slot = |w: &String| w.bytes().fold(0usize, |m, b| (m * 197 + b as usize % 32) % 256);
+    let wanted = slot(&name(0));
+    (0..46_656).map(name).filter(|w| slot(w) == wanted).nth(i).unwrap_or_else(|| format!("m{i}"))
+}
+
 fn rules() -> Vec<String> {
     let policy = |q: &String| format!("(category view (actors requestor) (over))\n(policy view \"{q}\")\n");
     let long = queries(16_384 - policy(&String::new()).len());
@@ -55,6 +64,7 @@ fn rules() -> Vec<String> {
     let mut all: Vec<String> = long.iter().map(|q| policy(&q.replace('\n', " "))).collect();
     all.push(fill("(category view (actors requestor", ") (over))\n", &|i| format!(" a{i}")));
     all.push(fill("(category view (actors requestor", ") (over))\n", &|_| " requestor".into()));
+    all.push(fill("(category view (actors requestor", ") (over))\n", &|i| format!(" {}", in_one_slot(i))));
     all.push(fill("(category view (actors requestor) (over", "))\n", &|i| format!(" c{i}")));
     all.push(fill("(category view (actors requestor) (over))\n", "", &|_| "(policy view \"Match (requestor)-[r:l]->(h) Return h\")\n".into()));
     all.push(fill("", "", &|i| format!("(category c{i} (actors requestor) (over))\n")));
