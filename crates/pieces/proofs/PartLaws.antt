@@ -1,6 +1,6 @@
 -- What the readers of signs give, put to use in a row of reads.
 use Prim.Native.Nat.{ℕ, _<_}
-use mathlib.Core.Path.{_≡_, refl, sym, ap, _∙_, subst}
+use mathlib.Core.Path.{_≡_, refl, ap, _∙_, subst}
 use mathlib.Core.List.{List, [], _∷_, _++_}
 use mathlib.Core.Bool.{Bool, true, false}
 use Rattle.model.specs.Bytes.{Bytes, bytesOf}
@@ -10,7 +10,7 @@ use Rattle.model.specs.Signs.{Sign, mark, isMark, signName, signValue, next, ex
 use Rattle.model.specs.QueryText.{Relation, Condition}
 use Rattle.model.specs.Grammar.{signRelation}
 use Rattle.model.specs.Answers.{nameAt, relationOf, valueOf}
-use Rattle.model.specs.Places.{Bracket, none, bracketOf, Standing, vertex, edge, variableAt}
+use Rattle.model.specs.Places.{Bracket, none, bracketOf, Standing, vertex, variableAt}
 use Rattle.model.specs.declared.Part.{Part}
 use Rattle.model.specs.declared.Relation.{Relation as RelationData}
 use Rattle.model.specs.declared.Value.{Value as ValueData}
@@ -24,16 +24,13 @@ use Rattle.signs.specs.declared.ValueRead.{ValueRead}
 use Rattle.signs.specs.declared.ValueRead.the-variants as value
 use Rattle.signs.specs.Marks.{markBytes}
 use Rattle.signs.specs.Reads.{signsFrom, standingsFrom}
-use Rattle.signs.specs.Expected.{Then, behindMark, MarkBehind, MarkStands, MarkNext, behindName, NameBehind, NameStands, NameNext, behindRelation, RelationBehind, RelationStands, RelationNext, behindValue, ValueBehind, ValueStands, ValueNext, valueStanding}
+use Rattle.signs.specs.Expected.{behindMark, MarkBehind, MarkStands, MarkNext, behindName, NameBehind, NameStands, NameNext, behindRelation, RelationBehind, RelationStands, RelationNext, behindValue, ValueBehind, ValueStands, ValueNext, valueStanding}
 use Rattle.signs.proofs.ExpectLaws.{expect-then, next-then}
 use Rattle.pieces.specs.Walk.{Walk}
 use native.Mathlib.Omega.{arith}
 use Rattle.pieces.specs.declared.PieceRead.{PieceRead}
 use Rattle.pieces.specs.declared.PieceRead.the-variants as read
-use Rattle.pieces.specs.declared.Link.{Link}
-use Rattle.pieces.specs.declared.LinkRead.{LinkRead}
-use Rattle.pieces.specs.declared.LinkRead.the-variants as link
-use Rattle.pieces.specs.Steps.{otherThen, valueThen, restThen, vertexThen, onVertex, VertexBehind, VertexStands, VertexNext, linkThen, onLink, LinkBehind, LinkStands, LinkNext, StepBehind, StepStands}
+use Rattle.pieces.specs.Steps.{otherThen, valueThen, restThen, vertexThen, onVertex, VertexBehind, VertexStands, VertexNext, StepBehind, StepStands}
 
 module _ (chain close : Bool) (s : Bytes) (from code : ℕ) (r : End) (h : MarkNext chain close s from code r) where
   pub mark-read : (q : ℕ) → r ≡ end.At q → (f : List Sign → Maybe Walk) → expect (markBytes code) (signsFrom chain close s from) f ≡ f (signsFrom chain false s q)
@@ -140,22 +137,6 @@ module _ (close : Bool) (s : Bytes) (from : ℕ) (r : NameRead) (h : VertexNext 
 
   pub vertex-stands : (p : Part) (q : ℕ) → r ≡ name.Found p q → (o : Bracket) → standingsFrom o true close s from ≡ vertex p ∷ standingsFrom none true false s q
   vertex-stands p q e o = subst (VertexStands o close s from) e (h .stands o)
-
-module _ (arrow : ℕ) (s : Bytes) (from : ℕ) (r : LinkRead) (h : LinkNext (markBytes arrow) s from r) where
-  pub link-read : (l : Link) (q : ℕ) → r ≡ link.Found l q → (f : Bytes → Bytes → Bytes → List Sign → Maybe Walk)
-      → linkThen (markBytes arrow) (signsFrom true false s from) f ≡ f (nameAt s (l .edge)) (nameAt s (l .label)) (nameAt s (l .vertex)) (signsFrom true false s q)
-  unfolding onLink
-  link-read l q e f = h .reads f ∙ ap (λ x. onLink s x f) e
-
-  pub link-unread : r ≡ link.None → (f : Bytes → Bytes → Bytes → List Sign → Maybe Walk) → linkThen (markBytes arrow) (signsFrom true false s from) f ≡ nothing
-  unfolding onLink
-  link-unread e f = h .reads f ∙ ap (λ x. onLink s x f) e
-
-  pub link-moves : (l : Link) (q : ℕ) → r ≡ link.Found l q → from < q
-  link-moves l q e = subst (LinkBehind from) e (h .moves)
-
-  pub link-stands : (l : Link) (q : ℕ) → r ≡ link.Found l q → standingsFrom none true false s from ≡ edge (l .edge) ∷ vertex (l .vertex) ∷ standingsFrom none true false s q
-  link-stands l q e = subst (LinkStands s from) e (h .stands)
 
 -- what is behind a place is behind each place before it
 pub step-farther : (a b : ℕ) (r : PieceRead) → a < b → StepBehind b r → StepBehind a r

@@ -3,7 +3,7 @@ use Prim.Native.Nat.{ℕ, _-_, _<_}
 use mathlib.Core.Path.{_≡_}
 use mathlib.Core.List.{List, [], _∷_, _++_}
 use mathlib.Core.Bool.{Bool, true, false}
-use lib.Dec.{T}
+use lib.Dec.{T, eqb}
 use Rattle.model.specs.Bytes.{Bytes, bytesOf}
 use Rattle.model.specs.Choice.{pick, Maybe, nothing, just, andThen}
 use Rattle.model.specs.Words.{Got}
@@ -27,8 +27,6 @@ use Rattle.pieces.specs.declared.Piece.{Piece as PieceData}
 use Rattle.pieces.specs.declared.Piece.the-variants as piece
 use Rattle.pieces.specs.declared.PieceRead.{PieceRead}
 use Rattle.pieces.specs.declared.PieceRead.the-variants as read
-use Rattle.pieces.specs.declared.LinkRead.{LinkRead}
-use Rattle.pieces.specs.declared.LinkRead.the-variants as link
 use Rattle.pieces.specs.Walk.{Walk, stopped, ahead, orStopped, walk}
 
 -- the spot that each case is, and whether signs are read as in a chain there
@@ -144,22 +142,17 @@ linkThen arrow ts f =
     expect arrow ts (λ ts.
     vertexThen ts (λ v ts. f e l v ts)))))))
 
-unfoldable pub onLink : Bytes → LinkRead → (Bytes → Bytes → Bytes → List Sign → Maybe Walk) → Maybe Walk
-onLink s link.None f = nothing
-onLink s (link.Found l q) f = f (nameAt s (l .edge)) (nameAt s (l .label)) (nameAt s (l .vertex)) (signsFrom true false s q)
+-- the piece of a chain by the mark at its arrow's end, and what follows it
+unfoldable pub linkPiece : ℕ → Bytes → Bytes → Bytes → Piece
+linkPiece arrow e l v = pick (eqb arrow 45) (comes e l v) (goes e l v)
 
-abbrev pub LinkBehind : ℕ → LinkRead → Type 0
-LinkBehind from link.None = T true
-LinkBehind from (link.Found l q) = from < q
+abbrev pub chained : ℕ → Bytes → Bytes → Bytes → List Sign → Maybe Walk
+chained arrow e l v ts = just (ahead (linkPiece arrow e l v) (walk inChain 0 ts))
 
-abbrev pub LinkStands : Bytes → ℕ → LinkRead → Type 0
-LinkStands s from link.None = T true
-LinkStands s from (link.Found l q) = standingsFrom none true false s from ≡ edge (l .edge) ∷ vertex (l .vertex) ∷ standingsFrom none true false s q
-
-pub record LinkNext (arrow : Bytes) (s : Bytes) (from : ℕ) (r : LinkRead) : Type 0 where
-  pub reads : (f : Bytes → Bytes → Bytes → List Sign → Maybe Walk) → linkThen arrow (signsFrom true false s from) f ≡ onLink s r f
-  pub moves : LinkBehind from r
-  pub stands : LinkStands s from r
+-- p is that piece, of a link
+pub record LinkIs (arrow : ℕ) (l : Link) (p : PieceData) : Type 0 where
+  pub reads : (s : Bytes) → linkPiece arrow (nameAt s (l .edge)) (nameAt s (l .label)) (nameAt s (l .vertex)) ≡ pieceOf s p
+  pub stands : pieceStanding p ≡ edge (l .edge) ∷ vertex (l .vertex) ∷ []
 
 -- v <> u, and then the rest; or x.attr REL value, from behind the variable x
 unfoldable pub otherThen : Bytes → List Sign → (Condition → List Sign → Maybe Walk) → Maybe Walk

@@ -58,9 +58,3 @@ pub enum PieceRead {
     Found(Step),
     None(bool),
 }
-
-// An edge with the vertex behind it, and the place behind them; or none.
-pub enum LinkRead {
-    Found(Link, usize),
-    None,
-}

@@ -10,10 +10,9 @@ ghost use Rattle.signs.specs.Marks.{markBytes};
 ghost use Rattle.model.specs.Places.{none};
 ghost use Rattle.signs.specs.Reads.{signsFrom, standingsFrom};
 ghost use Rattle.pieces.specs.Walk.{orStopped};
-ghost use Rattle.pieces.specs.Steps.{VertexNext, LinkNext, StepIs, piecesBy, otherThen, valueThen, asked};
+ghost use Rattle.pieces.specs.Steps.{VertexNext, LinkIs, StepIs, piecesBy, linkThen, chained, otherThen, valueThen, asked};
 use crate::Demand;
 use crate::Link;
-use crate::LinkRead;
 use crate::Piece;
 use crate::PieceRead;
 use crate::Place;
@@ -43,40 +42,55 @@ pub fn vertex(s: &[u8], from: usize, close: bool) -> NameRead
     NameRead::Found(v, q)
 }
 
+// The piece that a link makes, by the mark at its arrow's end.
+fn linked(arrow: usize, l: Link) -> Piece
+    ensures { λ r. ⌜ LinkIs arrow l r ⌝ }
+{
+    if arrow == marks::MINUS {
+        return Piece::Comes(l);
+    }
+    Piece::Goes(l)
+}
+
 // An edge in its brackets, an arrow's end, and the vertex behind it.
-fn link(s: &[u8], from: usize, arrow: usize) -> LinkRead
+fn link(s: &[u8], from: usize, arrow: usize) -> PieceRead
     requires { ⌜ 0 < arrow ⌝ }
-    ensures { λ r. ⌜ LinkNext (markBytes arrow) (now (s .entry)) from r ⌝ }
+    ensures { λ r. ⌜ StepIs (orStopped (linkThen (markBytes arrow) (signsFrom true false (now (s .entry)) from) (chained arrow))) (standingsFrom none true false (now (s .entry)) from) (now (s .entry)) from r ⌝ }
 {
     let End::At(a) = expected::mark_next(s, from, true, false, marks::OPEN_SQUARE) else {
-        return LinkRead::None;
+        return PieceRead::None(false);
     };
     let NameRead::Found(edge, b) = expected::name_next(s, a, true, false) else {
-        return LinkRead::None;
+        return PieceRead::None(false);
     };
     let End::At(c) = expected::mark_next(s, b, true, true, marks::COLON) else {
-        return LinkRead::None;
+        return PieceRead::None(false);
     };
     let NameRead::Found(label, d) = expected::name_next(s, c, true, false) else {
-        return LinkRead::None;
+        return PieceRead::None(false);
     };
     let End::At(e) = expected::mark_next(s, d, true, true, marks::CLOSE_SQUARE) else {
-        return LinkRead::None;
+        return PieceRead::None(false);
     };
     let End::At(f) = expected::mark_next(s, e, true, false, arrow) else {
-        return LinkRead::None;
+        return PieceRead::None(false);
     };
     let NameRead::Found(vertex, q) = vertex(s, f, false) else {
-        return LinkRead::None;
+        return PieceRead::None(false);
     };
-    LinkRead::Found(
-        Link {
-            edge,
-            label,
-            vertex,
+    let l = Link {
+        edge,
+        label,
+        vertex,
+    };
+    PieceRead::Found(Step {
+        piece: linked(arrow, l),
+        next: Place {
+            at: q,
+            close: false,
+            spot: Spot::InChain,
         },
-        q,
-    )
+    })
 }
 
 // Match (v), from behind Match.
@@ -100,34 +114,14 @@ pub fn start(s: &[u8], from: usize) -> PieceRead
 pub fn goes(s: &[u8], from: usize) -> PieceRead
     ensures { λ r. ⌜ StepIs (piecesBy (linkAt Rattle.model.specs.Grammar.Piece.goes (bytesOf "->") (signsFrom true false (now (s .entry)) from)) (signsFrom true false (now (s .entry)) from)) (standingsFrom none true false (now (s .entry)) from) (now (s .entry)) from r ⌝ }
 {
-    let LinkRead::Found(l, q) = link(s, from, marks::RIGHTWARD) else {
-        return PieceRead::None(false);
-    };
-    PieceRead::Found(Step {
-        piece: Piece::Goes(l),
-        next: Place {
-            at: q,
-            close: false,
-            spot: Spot::InChain,
-        },
-    })
+    link(s, from, marks::RIGHTWARD)
 }
 
 // <-[e:id]-(v), from behind the arrow.
 pub fn comes(s: &[u8], from: usize) -> PieceRead
     ensures { λ r. ⌜ StepIs (piecesBy (linkAt Rattle.model.specs.Grammar.Piece.comes (bytesOf "-") (signsFrom true false (now (s .entry)) from)) (signsFrom true false (now (s .entry)) from)) (standingsFrom none true false (now (s .entry)) from) (now (s .entry)) from r ⌝ }
 {
-    let LinkRead::Found(l, q) = link(s, from, marks::MINUS) else {
-        return PieceRead::None(false);
-    };
-    PieceRead::Found(Step {
-        piece: Piece::Comes(l),
-        next: Place {
-            at: q,
-            close: false,
-            spot: Spot::InChain,
-        },
-    })
+    link(s, from, marks::MINUS)
 }
 
 // v <> u, from behind the sign.
