@@ -48,13 +48,13 @@ fn queries(bytes: usize) -> Vec<String> {
     ]
 }
 
-/// Names of four bytes that share one slot of the index of names (`chains::slots`), so that each look-up walks all those before it.
-fn in_one_slot(i: usize) -> String {
+/// Names of five bytes that share one slot of the index of names (`chains::slots`), so that each look-up walks all those before it.
+fn in_one_slot() -> Vec<String> {
     let digits = b"abcdefghijklmnopqrstuvwxyz0123456789";
-    let name = |n: usize| format!("n{}{}{}", digits[n / 1296 % 36] as char, digits[n / 36 % 36] as char, digits[n % 36] as char);
+    let name = |n: usize| "n".to_string() + &[46_656, 1_296, 36, 1].map(|p| (digits[n / p % 36] as char).to_string()).concat();
     let slot = |w: &String| w.bytes().fold(0usize, |m, b| (m * 197 + b as usize % 32) % 256);
     let wanted = slot(&name(0));
-    (0..46_656).map(name).filter(|w| slot(w) == wanted).nth(i).unwrap_or_else(|| format!("m{i}"))
+    (0..36 * 46_656).map(name).filter(|w| slot(w) == wanted).take(2_800).collect()
 }
 
 fn rules() -> Vec<String> {
@@ -64,7 +64,8 @@ fn rules() -> Vec<String> {
     let mut all: Vec<String> = long.iter().map(|q| policy(&q.replace('\n', " "))).collect();
     all.push(fill("(category view (actors requestor", ") (over))\n", &|i| format!(" a{i}")));
     all.push(fill("(category view (actors requestor", ") (over))\n", &|_| " requestor".into()));
-    all.push(fill("(category view (actors requestor", ") (over))\n", &|i| format!(" {}", in_one_slot(i))));
+    let shared = in_one_slot();
+    all.push(fill("(category view (actors requestor", ") (over))\n", &|i| format!(" {}", shared[i])));
     all.push(fill("(category view (actors requestor) (over", "))\n", &|i| format!(" c{i}")));
     all.push(fill("(category view (actors requestor) (over))\n", "", &|_| "(policy view \"Match (requestor)-[r:l]->(h) Return h\")\n".into()));
     all.push(fill("", "", &|i| format!("(category c{i} (actors requestor) (over))\n")));
