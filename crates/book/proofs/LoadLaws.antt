@@ -7,7 +7,7 @@ use lib.ListN.{length, take, drop, length-drop}
 use lib.Seq.{length-take-le}
 use borrow.Author.Tests.{lt-ltb, le-ltb}
 use Rattle.model.specs.Bytes.{Bytes}
-use Rattle.model.specs.Choice.{nothing, andThen}
+use Rattle.model.specs.Choice.{andThen}
 use Rattle.model.specs.Lists.{sum}
 use Rattle.model.specs.Lines.{Step, fault, known, formStep}
 use Rattle.model.specs.Items.{lineItems}

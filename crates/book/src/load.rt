@@ -1,15 +1,11 @@
 // A whole book, line by line, into the tables.
-ghost use mathlib.Core.Path.{_≡_};
-ghost use Prim.Native.Nat.{_-_, _≤_, _<_};
+ghost use Prim.Native.Nat.{_≤_, _<_};
 ghost use lib.ListN.{length};
-ghost use mathlib.Core.Bool.{true};
 ghost use Rattle.model.specs.Lines.{readLines, linesOf};
 ghost use Rattle.model.specs.Book.{emptyBook};
 ghost use Rattle.model.specs.ReadBook.{bookStep, readBook};
-ghost use Rattle.model.specs.Answers.{partOf};
 ghost use Rattle.text.specs.Lines.{lineAt};
 ghost use Rattle.tables.specs.View.{bookAt};
-ghost use Rattle.tables.specs.Fits.{Fits};
 ghost use Rattle.lines.specs.Steps.{Stepped};
 ghost use Rattle.book.specs.Loaded.{LineAsked, Loaded};
 use crate::BookLoad;

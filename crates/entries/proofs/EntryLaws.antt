@@ -17,7 +17,6 @@ use Rattle.model.specs.declared.Value.{Value}
 use Rattle.tables.specs.declared.BookCounts.{BookCounts}
 use Rattle.tables.specs.Layout.{typesBehind}
 use Rattle.tables.specs.View.{wordAt, nameOf, namesAt, kindIn, attrsAt}
-use Rattle.tables.specs.Agree.{Agree}
 use Rattle.tables.proofs.AgreeLaws.{agree-same, name-kept, attrs-kept}
 use Rattle.tables.proofs.NameLaws.{attr-names, place-named, place-mem, place-out}
 use Rattle.tables.proofs.Owners.{agree-counted}

@@ -1,14 +1,13 @@
 -- The lowest fault of entries, when one entry more comes behind them.
 use Prim.Native.Nat.{ℕ}
-use mathlib.Core.Path.{_≡_, refl, sym, ap, _∙_}
+use mathlib.Core.Path.{_≡_, refl}
 use mathlib.Core.List.{List, [], _∷_, _++_, map}
 use mathlib.Core.Bool.{Bool, true, false, not, _||_, _&&_}
 use lib.Dec.{ltb}
 use borrow.Author.Tests.{ne-eqb}
 use Rattle.facts.specs.Tests.{either, equal-or-not}
-use Rattle.model.specs.Bytes.{Bytes}
 use Rattle.model.specs.Choice.{pick}
-use Rattle.model.specs.Lists.{any, all}
+use Rattle.model.specs.Lists.{all}
 use Rattle.model.specs.Names.{mem, twice}
 use Rattle.model.specs.Values.{Entry}
 use Rattle.model.specs.Book.{Attr, attrNames}

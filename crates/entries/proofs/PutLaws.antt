@@ -16,11 +16,11 @@ use Rattle.model.specs.declared.Value.{Value}
 use Rattle.tables.specs.declared.BookCounts.{BookCounts}
 use Rattle.tables.specs.declared.ValueWords.{ValueWords}
 use Rattle.tables.specs.Layout.{entries, bookWords}
-use Rattle.tables.specs.View.{wordAt, nameOf, valueIn, entryHead, entryOf}
-use Rattle.tables.specs.Fits.{Within, EntryFits, Fits}
+use Rattle.tables.specs.View.{wordAt, nameOf, entryHead, entryOf}
+use Rattle.tables.specs.Fits.{Within, EntryFits}
 use Rattle.tables.specs.Agree.{Free, Agree}
 use Rattle.tables.specs.Stores.{withEntry, EntriesStored}
-use Rattle.tables.specs.ValueWords.{EndsBefore, Says}
+use Rattle.tables.specs.ValueWords.{EndsBefore}
 use Rattle.tables.proofs.AgreeLaws.{set-agrees, agree-same, agree-trans}
 use Rattle.tables.proofs.Grow.{stored-more}
 use Rattle.tables.proofs.Owners.{pending, stored-kept}

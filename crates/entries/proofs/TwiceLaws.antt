@@ -1,5 +1,5 @@
 -- A list that grows at its end has a name twice exactly if it had before, or if the new name stands in it.
-use mathlib.Core.Path.{_≡_, refl, sym, ap, _∙_}
+use mathlib.Core.Path.{_≡_, refl, sym, _∙_}
 use mathlib.Core.List.{List, [], _∷_, _++_}
 use mathlib.Core.Bool.{Bool, true, false, _||_}
 use Rattle.model.specs.Bytes.{Bytes, same}

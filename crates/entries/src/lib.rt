@@ -1,7 +1,7 @@
 // The attribute entries of one line of a book: their faults, and their words.
 ghost use mathlib.Core.Path.{_≡_};
 ghost use mathlib.Core.Bool.{true};
-ghost use Prim.Native.Nat.{_<_, _≤_};
+ghost use Prim.Native.Nat.{_<_};
 ghost use lib.ListN.{length};
 ghost use Rattle.entries.specs.Faults.{entryFault, lower};
 ghost use Rattle.entries.specs.Known.{EntryAsked, EntryAdded, EntryPutAsked, EntryPut};

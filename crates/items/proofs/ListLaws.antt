@@ -6,7 +6,7 @@ use mathlib.Core.Bool.{Bool, true, false}
 use Rattle.model.specs.Bytes.{Bytes, bytesOf, same}
 use Rattle.model.specs.Choice.{pick, Maybe, nothing, just, andThen}
 use Rattle.model.specs.Lists.{each}
-use Rattle.model.specs.Items.{Item, itemsOf}
+use Rattle.model.specs.Items.{Item}
 use Rattle.model.specs.Values.{Value, Entry}
 use Rattle.model.specs.Request.{Claim, claimOf}
 use Rattle.model.specs.Forms.{asWord, asName, asValue, first, atEnd, entryOf}

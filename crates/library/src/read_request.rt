@@ -1,10 +1,8 @@
 // Reading a request, for programs in other languages.
 ghost use mathlib.Core.Path.{_≡_};
-ghost use Prim.Native.Nat.{_<_};
 ghost use lib.ListN.{length};
 ghost use Rattle.model.specs.Service.{ones};
 ghost use Rattle.model.specs.RequestAnswer.{requestRead};
-ghost use Rattle.answer_words.specs.Words.{identityRow, identityWord, identityWords};
 ghost use Rattle.library.specs.Told.{RequestTold};
 use crate::tell::tell;
 use answer_words::identities::ALL_IDENTITY_WORDS;

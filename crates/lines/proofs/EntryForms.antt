@@ -1,5 +1,5 @@
 -- The entries at the end of a line, one after another.
-use Prim.Native.Nat.{ℕ, _+_, _-_, _≤_, _<_}
+use Prim.Native.Nat.{ℕ, _+_, _-_, _≤_}
 use mathlib.Core.Path.{_≡_, refl, sym, ap, _∙_, subst}
 use mathlib.Core.List.{List, [], _∷_, _++_, append-assoc, append-nil}
 use mathlib.Core.Bool.{Bool, true, false}
@@ -8,7 +8,7 @@ use lib.ListN.{length}
 use Rattle.facts.specs.Tests.{either}
 use Rattle.bits.specs.WordLaws.{bit-zero}
 use Rattle.model.specs.Bytes.{Bytes}
-use Rattle.model.specs.Choice.{pick, Maybe, nothing, just, andThen}
+use Rattle.model.specs.Choice.{pick, Maybe, nothing, andThen}
 use Rattle.model.specs.Lists.{any, all, each}
 use Rattle.model.specs.Names.{mem, twice}
 use Rattle.model.specs.Values.{Entry}
@@ -16,7 +16,6 @@ use Rattle.model.specs.Forms.{entryOf}
 use Rattle.model.specs.BookLines.{BookLine}
 use Rattle.model.specs.ReadBook.{undeclared}
 use Rattle.model.specs.Answers.{partOf, nameAt, valueOf}
-use Rattle.model.specs.declared.Part.{Part}
 use Rattle.model.specs.declared.Value.{Value}
 use Rattle.items.specs.declared.EntryRead.{EntryRead}
 use Rattle.items.specs.declared.EntryRead.the-variants as entry
@@ -29,8 +28,7 @@ use Rattle.tables.specs.Listed.{listed}
 use Rattle.tables.specs.View.{entriesFrom}
 use Rattle.tables.specs.Fits.{Fits}
 use Rattle.tables.specs.Agree.{Agree}
-use Rattle.tables.specs.ValueWords.{EndsBefore}
-use Rattle.tables.proofs.AgreeLaws.{agree-same, agree-trans, fits-kept}
+use Rattle.tables.proofs.AgreeLaws.{agree-same, agree-trans}
 use Rattle.entries.specs.declared.EntriesRead.{EntriesRead}
 use Rattle.entries.specs.Faults.{entriesFault}
 use Rattle.entries.specs.Known.{AttrTable, EntriesKnown, EntryAdded, entryRead}

@@ -1,16 +1,14 @@
 -- Lines by their forms: what was read makes the line, or breaks the grammar.
-use Prim.Native.Nat.{ℕ, _+_, _-_, _≤_, _<_}
-use mathlib.Core.Path.{_≡_, refl, sym, ap, _∙_, subst, fun-ext}
+use Prim.Native.Nat.{ℕ, _-_}
+use mathlib.Core.Path.{_≡_, refl, sym, ap, _∙_, fun-ext}
 use mathlib.Core.List.{List, [], _∷_}
 use mathlib.Core.Bool.{Bool, true, false}
-use native.Mathlib.Omega.{arith}
-use lib.ListN.{length}
 use Rattle.model.specs.Bytes.{Bytes}
 use Rattle.model.specs.Choice.{pick, Maybe, nothing, just, andThen}
 use Rattle.model.specs.Items.{Item, lineItems}
-use Rattle.model.specs.Lines.{Step, fault, formStep}
+use Rattle.model.specs.Lines.{fault, formStep}
 use Rattle.model.specs.Values.{Kind}
-use Rattle.model.specs.Forms.{asWord, asName, kindOf, first, atEnd}
+use Rattle.model.specs.Forms.{asWord, kindOf, first, atEnd}
 use Rattle.model.specs.Book.{Book}
 use Rattle.model.specs.BookLines.{BookLine, label, attrLine, labelLine, bookLine}
 use Rattle.model.specs.Answers.{partOf}

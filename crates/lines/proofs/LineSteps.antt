@@ -1,16 +1,15 @@
 -- What each kind of line gives after the book: the step of the line that was read, in the whole text's parts.
-use Prim.Native.Nat.{ℕ, _+_, _-_, _≤_, _<_}
-use mathlib.Core.Path.{_≡_, refl, sym, ap, _∙_, subst}
+use Prim.Native.Nat.{ℕ, _+_, _-_}
+use mathlib.Core.Path.{_≡_, sym, ap, _∙_, subst}
 use mathlib.Core.List.{List}
 use mathlib.Core.Bool.{Bool, true, false}
 use native.Mathlib.Omega.{arith}
 use lib.ListN.{length}
 use Rattle.model.specs.Bytes.{Bytes}
-use Rattle.model.specs.Choice.{pick, Maybe, nothing, just, andThen}
-use Rattle.model.specs.Items.{Item}
+use Rattle.model.specs.Choice.{just, andThen}
 use Rattle.model.specs.Lists.{each}
-use Rattle.model.specs.Lines.{Step, fault}
-use Rattle.model.specs.Values.{Kind, Entry}
+use Rattle.model.specs.Lines.{fault}
+use Rattle.model.specs.Values.{Kind}
 use Rattle.model.specs.Forms.{entryOf}
 use Rattle.model.specs.Book.{Book}
 use Rattle.model.specs.BookLines.{BookLine, label, node, rel, attrLine, labelLine, nodeLine, relLine}
@@ -25,9 +24,7 @@ use Rattle.items.proofs.PlacedLaws.{placed-at}
 use Rattle.items.specs.Forms.{formCloses}
 use Rattle.tables.specs.declared.BookCounts.{BookCounts}
 use Rattle.tables.specs.View.{kindIn, bookAt}
-use Rattle.tables.specs.Fits.{Fits}
-use Rattle.tables.specs.Agree.{Agree}
-use Rattle.tables.proofs.AgreeLaws.{book-kept, fits-kept}
+use Rattle.tables.proofs.AgreeLaws.{book-kept}
 use Rattle.entries.specs.declared.EntriesRead.{EntriesRead}
 use Rattle.lines.specs.declared.AttrRead.{AttrRead}
 use Rattle.lines.specs.declared.AttrRead.the-variants as attr

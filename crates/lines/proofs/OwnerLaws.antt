@@ -1,40 +1,38 @@
 -- Lines of nodes and relationships: each fault, and the line added.
 use Prim.Native.Nat.{ℕ, _+_, _*_, _≤_, _<_}
-use mathlib.Core.Path.{_≡_, refl, sym, ap, _∙_, subst}
-use mathlib.Core.Logic.{⊎-elim}
+use mathlib.Core.Path.{_≡_, refl, sym, ap, _∙_}
 use mathlib.Core.List.{List, [], _∷_, map}
 use mathlib.Core.Bool.{Bool, true, false, not, _||_}
 use native.Mathlib.Omega.{arith}
 use lib.ListN.{length}
 use lib.Dec.{leb, ltb, eqb}
-use borrow.Author.Tests.{le-leb, lt-leb, lt-ltb, le-ltb, ne-eqb, leb-false, ltb-false}
+use borrow.Author.Tests.{ne-eqb, leb-false, ltb-false}
 use Rattle.facts.specs.Tests.{either, equal-or-not}
 use Rattle.model.specs.Bytes.{Bytes}
 use Rattle.model.specs.Choice.{pick, Maybe, nothing, just}
 use Rattle.model.specs.Lists.{all}
 use Rattle.model.specs.Names.{mem, twice, place}
 use Rattle.model.specs.Refusal.{lowest, _if_}
-use Rattle.model.specs.Lines.{Step, fault, known}
+use Rattle.model.specs.Lines.{fault, known}
 use Rattle.model.specs.Values.{Entry}
-use Rattle.model.specs.Book.{Attr, Book, nodeNames, entryCount}
-use Rattle.model.specs.BookLines.{BookLine, node, rel}
-use Rattle.model.specs.ReadBook.{suits, undeclared, related, nodeFault, relFault, lineFault, addLine}
+use Rattle.model.specs.Book.{Book, nodeNames}
+use Rattle.model.specs.BookLines.{node}
+use Rattle.model.specs.ReadBook.{suits, undeclared, nodeFault, lineFault, addLine}
 use Rattle.model.specs.Answers.{nameAt}
 use Rattle.model.specs.declared.Part.{Part}
 use Rattle.tables.specs.declared.BookCounts.{BookCounts}
-use Rattle.tables.specs.Listed.{listed}
-use Rattle.tables.specs.Layout.{vattrNames, eattrNames, labelNames, nodeNames as nodesAt}
-use Rattle.tables.specs.View.{nameOf, nodeOf, relOf, namesAt, attrsAt, bookAt}
+use Rattle.tables.specs.Layout.{vattrNames, nodeNames as nodesAt}
+use Rattle.tables.specs.View.{nodeOf, relOf, bookAt}
 use Rattle.tables.specs.Fits.{Fits, Holds}
-use Rattle.tables.specs.Stores.{moreNodes, moreRels, withNode, withRel}
+use Rattle.tables.specs.Stores.{moreNodes, withNode}
 use Rattle.tables.proofs.ListedLaws.{length-listed}
-use Rattle.tables.proofs.NameLaws.{mem-place, length-names, node-names, place-named}
-use Rattle.tables.proofs.Owners.{node-added, rel-added}
+use Rattle.tables.proofs.NameLaws.{mem-place, length-names, node-names}
+use Rattle.tables.proofs.Owners.{node-added}
 use Rattle.entries.specs.declared.EntriesRead.{EntriesRead}
 use Rattle.entries.specs.Faults.{entriesFault}
 use Rattle.entries.specs.Known.{EntriesKnown}
 use Rattle.lines.specs.Steps.{stepOf, NameAsked, ownerFault}
-use Rattle.lines.proofs.StepLaws.{step-fault, step-added, name-new, word-name, word-new}
+use Rattle.lines.proofs.StepLaws.{step-fault, step-added, word-name, word-new}
 
 -- a fault's number, 0 being none
 abbrev pub numbered : ℕ → Maybe ℕ

@@ -1,17 +1,17 @@
 -- The pieces of a line and the rest behind them; parts of the line as parts of the whole text.
-use Prim.Native.Nat.{ℕ, _+_, _-_, _≤_, _<_}
+use Prim.Native.Nat.{ℕ, _+_, _-_, _≤_}
 use mathlib.Core.Path.{_≡_, refl, sym, ap, _∙_}
-use mathlib.Core.List.{List, [], _∷_, _++_}
+use mathlib.Core.List.{List}
 use mathlib.Core.Bool.{Bool, true, false}
 use native.Mathlib.Omega.{arith}
-use lib.ListN.{length, take, drop, take-append-drop, length-take, length-drop}
+use lib.ListN.{length, take, drop, take-append-drop, length-drop}
 use lib.Seq.{take-append-le, drop-append-le, drop-drop}
 use Rattle.model.specs.Bytes.{Bytes, bytesOf, same}
 use Rattle.model.specs.Choice.{pick, Maybe, nothing, just, andThen}
 use Rattle.model.specs.Items.{Item}
 use Rattle.model.specs.Values.{Kind, ints, strs, bools}
-use Rattle.model.specs.Forms.{asWord, asName, kindOf, first}
-use Rattle.model.specs.BookLines.{BookLine, vattr, eattr, attrLine, labelLine, nodeLine, relLine, bookLine}
+use Rattle.model.specs.Forms.{asName, kindOf, first}
+use Rattle.model.specs.BookLines.{vattr, eattr, attrLine, labelLine, nodeLine, relLine}
 use Rattle.model.specs.Answers.{partOf, nameAt, valueOf}
 use Rattle.model.specs.declared.Part.{Part}
 use Rattle.model.specs.declared.Value.{Value}
@@ -21,7 +21,7 @@ use Rattle.items.specs.declared.NameRead.the-variants as name
 use Rattle.items.specs.Rest.{formAt}
 use Rattle.items.specs.Places.{WordPlaces, ValueInside}
 use Rattle.items.specs.Pieces.{namePlaces, nameNext, onPiece, onName}
-use Rattle.items.proofs.FormLaws.{form-word, form-name}
+use Rattle.items.proofs.FormLaws.{form-name}
 use Rattle.tables.specs.declared.BookCounts.{BookCounts}
 use Rattle.tables.specs.View.{kindIn}
 use Rattle.tables.specs.ValueWords.{EndsBefore}
@@ -30,7 +30,7 @@ use Rattle.lines.specs.declared.Head.the-variants as head
 use Rattle.lines.specs.declared.KindRead.{KindRead}
 use Rattle.lines.specs.declared.KindRead.the-variants as kind
 use Rattle.lines.specs.Steps.{NameAsked}
-use Rattle.lines.specs.Forms.{FormAsked, headOf, lineOf, kindRead, kindPiece, onKind}
+use Rattle.lines.specs.Forms.{FormAsked, headOf, lineOf, kindRead, onKind}
 use Rattle.lines.specs.Names.{movedPart}
 use Rattle.lines.specs.Entries.{shift}
 

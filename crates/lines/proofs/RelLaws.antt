@@ -1,25 +1,23 @@
 -- Lines of relationships: each fault, and the line added.
 use Prim.Native.Nat.{ℕ, _+_, _*_, _≤_, _<_}
-use mathlib.Core.Path.{_≡_, refl, sym, ap, _∙_, subst}
-use mathlib.Core.List.{List, [], _∷_, map}
+use mathlib.Core.Path.{_≡_, refl, sym, ap, _∙_}
+use mathlib.Core.List.{List, map}
 use mathlib.Core.Bool.{Bool, true, false, not, _||_, _&&_}
 use native.Mathlib.Omega.{arith}
-use lib.ListN.{length}
 use lib.Dec.{leb, ltb}
 use borrow.Author.Tests.{lt-ltb, le-ltb, leb-false, ltb-false}
 use Rattle.model.specs.Bytes.{Bytes}
-use Rattle.model.specs.Choice.{pick, Maybe, nothing, just}
 use Rattle.model.specs.Lists.{all}
 use Rattle.model.specs.Names.{mem, twice, place}
-use Rattle.model.specs.Refusal.{lowest, _if_}
-use Rattle.model.specs.Lines.{Step, fault, known}
+use Rattle.model.specs.Refusal.{lowest}
+use Rattle.model.specs.Lines.{fault, known}
 use Rattle.model.specs.Values.{Entry}
 use Rattle.model.specs.Book.{Book, nodeNames}
-use Rattle.model.specs.BookLines.{BookLine, rel}
-use Rattle.model.specs.ReadBook.{suits, undeclared, related, relFault, lineFault, addLine}
+use Rattle.model.specs.BookLines.{rel}
+use Rattle.model.specs.ReadBook.{suits, undeclared, related, relFault, lineFault}
 use Rattle.tables.specs.declared.BookCounts.{BookCounts}
 use Rattle.tables.specs.Layout.{eattrNames, labelNames}
-use Rattle.tables.specs.View.{nameOf, namesAt, bookAt}
+use Rattle.tables.specs.View.{nameOf, bookAt}
 use Rattle.tables.specs.Fits.{Fits}
 use Rattle.tables.specs.Stores.{moreRels, withRel}
 use Rattle.tables.proofs.NameLaws.{mem-place, length-names, place-named}
@@ -29,7 +27,7 @@ use Rattle.entries.specs.Faults.{entriesFault}
 use Rattle.entries.specs.Known.{EntriesKnown}
 use Rattle.lines.specs.Steps.{stepOf, ownerFault}
 use Rattle.lines.proofs.StepLaws.{step-fault, step-added}
-use Rattle.lines.proofs.OwnerLaws.{numbered, table, owner-fine, numbered-fault, or-false, holds, nodes-length, rels-count, node-mem}
+use Rattle.lines.proofs.OwnerLaws.{numbered, table, owner-fine, numbered-fault, or-false, holds, rels-count, node-mem}
 
 -- one of three names is missing
 some-missing : (a b c u : Bool) → (a && b && c) ≡ false → (not a || not b || not c || u) ≡ true

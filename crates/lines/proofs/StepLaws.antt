@@ -1,25 +1,24 @@
 -- Lines that declare a name: each fault, and the line added.
 use Prim.Native.Nat.{ℕ, _+_, _-_, _*_, _/_, _%_, _≤_, _<_}
-use mathlib.Core.Path.{_≡_, refl, sym, ap, _∙_, subst}
-use mathlib.Core.List.{List, [], _∷_}
-use mathlib.Core.Bool.{Bool, true, false}
+use mathlib.Core.Path.{_≡_, refl, ap, _∙_}
+use mathlib.Core.List.{List}
+use mathlib.Core.Bool.{false}
 use native.Mathlib.Omega.{arith}
 use lib.ListN.{length, take, drop}
-use lib.Dec.{leb}
 use borrow.Author.Tests.{le-leb, lt-leb, lt-ltb, le-ltb}
 use Rattle.model.specs.Bytes.{Bytes}
-use Rattle.model.specs.Choice.{Maybe, nothing, just}
+use Rattle.model.specs.Choice.{nothing, just}
 use Rattle.model.specs.Names.{mem, place}
-use Rattle.model.specs.Refusal.{lowest, _if_}
-use Rattle.model.specs.Lines.{Step, fault, known, faultOr}
-use Rattle.model.specs.Book.{Book, attrNames, nodeNames}
-use Rattle.model.specs.BookLines.{BookLine, label, vattr, eattr, node, rel}
+use Rattle.model.specs.Refusal.{lowest}
+use Rattle.model.specs.Lines.{fault, known, faultOr}
+use Rattle.model.specs.Book.{Book, attrNames}
+use Rattle.model.specs.BookLines.{BookLine, label, vattr, eattr}
 use Rattle.model.specs.ReadBook.{nameFault, lineFault, addLine}
 use Rattle.model.specs.Answers.{partOf, nameAt}
 use Rattle.model.specs.declared.Part.{Part}
 use Rattle.tables.specs.declared.BookCounts.{BookCounts}
 use Rattle.tables.specs.Layout.{vattrNames, eattrNames, labelNames}
-use Rattle.tables.specs.View.{nameIn, namesAt, kindIn, bookAt}
+use Rattle.tables.specs.View.{nameIn, kindIn, bookAt}
 use Rattle.tables.specs.Fits.{Fits, Holds}
 use Rattle.tables.specs.Stores.{moreVattrs, moreEattrs, moreLabels, withAttr, withLabel}
 use Rattle.tables.proofs.NameLaws.{mem-place, length-names, attr-names}

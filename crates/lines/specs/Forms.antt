@@ -4,7 +4,7 @@ use mathlib.Core.Path.{_≡_}
 use mathlib.Core.List.{List}
 use lib.ListN.{length}
 use Rattle.model.specs.Bytes.{Bytes, bytesOf, same}
-use Rattle.model.specs.Choice.{pick, Maybe, nothing, just}
+use Rattle.model.specs.Choice.{pick, Maybe, nothing}
 use Rattle.model.specs.Items.{Item}
 use Rattle.model.specs.Lines.{Step, formStep}
 use Rattle.model.specs.Values.{Kind}

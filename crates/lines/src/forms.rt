@@ -2,7 +2,7 @@
 ghost use mathlib.Core.Path.{_≡_};
 ghost use mathlib.Core.Bool.{true, false};
 ghost use Rattle.model.specs.Bytes.{Bytes};
-ghost use Rattle.model.specs.Choice.{Maybe, just, andThen};
+ghost use Rattle.model.specs.Choice.{just, andThen};
 ghost use Rattle.model.specs.Items.{lineItems};
 ghost use Rattle.model.specs.Values.{Kind};
 ghost use Rattle.model.specs.BookLines.{BookLine, vattr, eattr, attrLine, labelLine, bookLine};

@@ -1,7 +1,6 @@
 // The pieces of a book's lines: first words, types.
 ghost use mathlib.Core.Path.{_≡_};
 ghost use mathlib.Core.Bool.{false};
-ghost use Rattle.model.specs.Choice.{Maybe, just};
 ghost use Rattle.items.specs.Pieces.{wordNext};
 ghost use Rattle.lines.specs.Forms.{headOf, kindRead, kindPiece};
 use crate::Head;

@@ -1,5 +1,5 @@
 -- The names of a list one after another, and the list that a head word begins.
-use Prim.Native.Nat.{ℕ, _+_, _-_, _≤_, _<_}
+use Prim.Native.Nat.{ℕ, _+_, _-_, _≤_}
 use mathlib.Core.Path.{_≡_, refl, sym, ap, _∙_}
 use mathlib.Core.List.{List, [], _∷_}
 use mathlib.Core.Bool.{Bool, true, false, not, _||_}
@@ -11,7 +11,7 @@ use Rattle.model.specs.Choice.{pick, Maybe, nothing, just, andThen}
 use Rattle.model.specs.Lists.{each}
 use Rattle.model.specs.Names.{mem}
 use Rattle.model.specs.Words.{Got}
-use Rattle.model.specs.Items.{Item, Items, listAt, itemAt, itemList, itemsOf}
+use Rattle.model.specs.Items.{Item, Items, listAt, itemAt, itemList}
 use Rattle.model.specs.Forms.{neverNames, asWord, asName, first}
 use Rattle.model.specs.ReadRules.{namesAfter}
 use Rattle.model.specs.Answers.{partOf}

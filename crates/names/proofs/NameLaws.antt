@@ -2,15 +2,14 @@
 use Prim.Native.Nat.{ℕ, _/_, _%_, _≤_, _<_}
 use mathlib.Core.Path.{_≡_, refl, sym, ap, _∙_, subst}
 use mathlib.Core.List.{List, []}
-use native.Mathlib.Omega.{arith}
 use lib.ListN.{length, getD, replicate, List·getD-eq-default}
 use borrow.Author.Tests.{lt-ltb, le-ltb}
 use Rattle.model.specs.Bytes.{Bytes}
-use Rattle.model.specs.Refusal.{Outcome, accepted, refused, refusal}
-use Rattle.model.specs.Book.{Book, emptyBook, nodeNames}
+use Rattle.model.specs.Refusal.{refusal}
+use Rattle.model.specs.Book.{emptyBook, nodeNames}
 use Rattle.model.specs.ReadBook.{readBook}
 use Rattle.model.specs.Service.{withWork}
-use Rattle.model.specs.Answers.{refusalOf, bookOf}
+use Rattle.model.specs.Answers.{bookOf}
 use Rattle.model.specs.declared.Refusal.{Refusal as RefusalData}
 use Rattle.tables.specs.declared.BookCounts.{BookCounts}
 use Rattle.tables.specs.Layout as layout

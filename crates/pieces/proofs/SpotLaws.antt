@@ -1,17 +1,17 @@
 -- The piece at each spot, by what its first sign is.
 use Prim.Native.Nat.{ℕ, _≤_, _<_}
 use mathlib.Core.Path.{_≡_, refl, sym, ap, _∙_, subst}
-use mathlib.Core.List.{List, [], _∷_, _++_}
-use mathlib.Core.Bool.{Bool, true, false}
+use mathlib.Core.List.{List, [], _∷_}
+use mathlib.Core.Bool.{true, false}
 use native.Mathlib.Omega.{arith}
 use lib.ListN.{length}
-use lib.Dec.{T, eqb}
-use borrow.Author.Tests.{eq-eqb, ne-eqb}
+use lib.Dec.{T}
+use borrow.Author.Tests.{ne-eqb}
 use Rattle.model.specs.Bytes.{Bytes, bytesOf, same}
-use Rattle.model.specs.Choice.{pick, Maybe, nothing, just, andThen}
-use Rattle.model.specs.Signs.{Sign, word, whole, text, mark, broken, isWord, isMark, wordy, signs}
+use Rattle.model.specs.Choice.{nothing, just, andThen}
+use Rattle.model.specs.Signs.{Sign, word, whole, text, mark, broken, isWord, isMark, wordy}
 use Rattle.model.specs.Signs.{chainBehind}
-use Rattle.model.specs.Grammar.{Piece, goes, comes, Spot, atStart, inChain, inWhere, inReturn, startAt, linkAt, conditionAt, returnAt, pieceAt}
+use Rattle.model.specs.Grammar.{goes, comes, Spot, atStart, inChain, inWhere, inReturn, startAt, linkAt, conditionAt, returnAt, pieceAt}
 use Rattle.model.specs.Places.{none, bracketOf, Standing, variableAt, standingAt}
 use Rattle.model.proofs.Decides.{same→eq}
 use Rattle.signs.specs.declared.Sign.{Sign as SignData}
@@ -31,7 +31,7 @@ use Rattle.pieces.specs.declared.Spot.the-variants.{AtStart, InChain, In
 use Rattle.pieces.specs.declared.PieceRead.{PieceRead}
 use Rattle.pieces.specs.Walk.{Walk, stopped, orStopped, endsWell, walk}
 use Rattle.pieces.proofs.PartLaws.{step-stands}
-use Rattle.pieces.specs.Steps.{spotOf, chainAt, walkAt, stepOf, StepBehind, piecesBy, StepIs, signsBehind, walkBy, standingsAt, standingsBy}
+use Rattle.pieces.specs.Steps.{spotOf, chainAt, walkAt, piecesBy, StepIs, walkBy, standingsAt, standingsBy}
 
 -- a sign that is this word
 word-is : (w : Bytes) (x : Sign) → isWord w x ≡ true → x ≡ word w

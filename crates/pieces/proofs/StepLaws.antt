@@ -1,16 +1,14 @@
 -- A piece that was read, and what follows it, with the signs that it took passed over.
-use Prim.Native.Nat.{ℕ, zero, suc, _-_}
-use mathlib.Core.Path.{_≡_, refl, sym, ap, _∙_}
+use Prim.Native.Nat.{_-_}
+use mathlib.Core.Path.{_≡_, refl, ap}
 use mathlib.Core.List.{List, [], _∷_}
 use mathlib.Core.Bool.{Bool, true, false}
 use Rattle.model.specs.Bytes.{Bytes, bytesOf}
 use Rattle.model.specs.Choice.{pick, Maybe, nothing, just, andThen}
 use Rattle.model.specs.Words.{Got}
-use Rattle.model.specs.Values.{Value}
 use Rattle.model.specs.Signs.{Sign, isMark, signName, signValue, next, expect}
-use Rattle.model.specs.QueryText.{Relation, Condition, differ, demand}
-use Rattle.model.specs.Grammar.{Piece, start, goes, comes, asks, returns, Spot, atStart, inChain, inWhere, inReturn, spotAfter, signRelation, vertexAt, startAt, linkAt, conditionAt, returnAt, pieceAt}
-use Rattle.pieces.specs.Walk.{Walk, stopped, ahead, orStopped, walk}
+use Rattle.model.specs.Grammar.{Piece, start, returns, inChain, inReturn, spotAfter, signRelation, vertexAt, startAt, linkAt, conditionAt, returnAt}
+use Rattle.pieces.specs.Walk.{Walk, ahead, orStopped, walk}
 use Rattle.pieces.specs.Steps.{piecesBy, vertexThen, linkThen, otherThen, valueThen, restThen, asked}
 
 -- what is read at the front, made more of with the signs behind the front

@@ -1,23 +1,22 @@
 -- The faults 4, 5, 6 and 8 of a text, found piece by piece.
-use mathlib.Core.Path.{_≡_, refl, sym, ap, ap₂, _∙_}
+use mathlib.Core.Path.{_≡_, refl, sym, ap, _∙_}
 use mathlib.Core.Logic.{⊎-elim}
 use mathlib.Core.List.{List, [], _∷_, _++_, map, append-assoc, append-nil}
 use mathlib.Core.Bool.{Bool, true, false, not, _||_}
-use lib.Dec.{T}
 use Rattle.model.specs.Bytes.{Bytes}
 use Rattle.model.specs.Choice.{pick}
 use Rattle.model.specs.Lists.{any, joined}
 use Rattle.model.specs.Names.{mem, twice, firsts}
 use Rattle.model.specs.Book.{Book}
-use Rattle.model.specs.QueryText.{Condition, QueryText}
+use Rattle.model.specs.QueryText.{QueryText}
 use Rattle.model.specs.Grammar.{Piece, start, goes, comes, asks, returns, atStart, tailOf}
-use Rattle.model.specs.Query.{ChainEdge, vertexNames, edgesOf, edgeNames, conditionsOf}
-use Rattle.model.specs.ReadQuery.{Scoped, scoped, unknown, mistyped, fromItself, hasUndeclared, hasTwice, hasMistyped, hasFromItself}
-use Rattle.model.proofs.Members.{_∈_, is-true, is-false, test, mem-e, mem-i, firsts-i, firsts-e}
+use Rattle.model.specs.Query.{ChainEdge, vertexNames, edgeNames}
+use Rattle.model.specs.ReadQuery.{Scoped, unknown, mistyped, fromItself, hasUndeclared, hasTwice, hasMistyped, hasFromItself}
+use Rattle.model.proofs.Members.{is-true, is-false, test, mem-e, mem-i, firsts-i, firsts-e}
 use Rattle.pieces.specs.Walk.{Ordered}
 use Rattle.pieces.specs.Named.{vertexIn, edgeIn, returnIn, conditionIn, verticesIn, edgesIn, returnsIn, conditionsIn, linksFrom, scopedFrom}
-use Rattle.pieces.specs.Faults.{Test, someWhere, undeclaredAt, twiceAt, mistypedAt, fromItselfAt}
-use Rattle.pieces.proofs.Trees.{SameNames, tree-names, returns-same, link-names}
+use Rattle.pieces.specs.Faults.{someWhere, undeclaredAt, twiceAt, mistypedAt, fromItselfAt}
+use Rattle.pieces.proofs.Trees.{tree-names, returns-same, link-names}
 
 -- first appearances keep members
 pub mem-firsts : (v : Bytes) (vs : List Bytes) → mem v (firsts [] vs) ≡ mem v vs

@@ -1,13 +1,11 @@
 -- What the syntax tree of ordered pieces names is what the pieces name, in the same order.
 use mathlib.Core.Path.{_≡_, refl, sym, ap, ap₂, _∙_}
 use mathlib.Core.List.{List, [], _∷_, _++_, map, append-assoc, append-nil}
-use mathlib.Core.Bool.{Bool, true, false}
-use lib.Dec.{T}
 use Rattle.model.specs.Bytes.{Bytes}
 use Rattle.model.specs.Lists.{joined}
-use Rattle.model.specs.QueryText.{Chain, end, right, left, Condition, Match, QueryText}
-use Rattle.model.specs.Grammar.{Piece, start, goes, comes, asks, returns, Spot, atStart, inChain, inWhere, inReturn, spotAfter, Tail, tailOf}
-use Rattle.model.specs.Query.{ChainEdge, hd, chainVertices, chainEdges, edgesOf, conditionsOf}
+use Rattle.model.specs.QueryText.{Chain, end, Condition, Match}
+use Rattle.model.specs.Grammar.{Piece, start, goes, comes, asks, returns, Spot, atStart, inChain, inWhere, inReturn, spotAfter, tailOf}
+use Rattle.model.specs.Query.{hd, chainVertices, chainEdges, edgesOf, conditionsOf}
 use Rattle.model.specs.ReadQuery.{Scoped, scoped}
 use Rattle.pieces.specs.Walk.{mayStand, Ordered}
 use Rattle.pieces.specs.Named.{vertexIn, edgeIn, returnIn, conditionIn, verticesIn, edgesIn, returnsIn, conditionsIn, linksFrom, scopedFrom}

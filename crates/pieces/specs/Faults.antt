@@ -4,7 +4,6 @@ use mathlib.Core.Bool.{Bool, true, false, not, _||_}
 use Rattle.model.specs.Choice.{pick}
 use Rattle.model.specs.Names.{mem}
 use Rattle.model.specs.Book.{Book}
-use Rattle.model.specs.QueryText.{Condition}
 use Rattle.model.specs.Grammar.{Piece, start, goes, comes, asks, returns}
 use Rattle.model.specs.ReadQuery.{unknown, mistyped, fromItself}
 use Rattle.pieces.specs.Named.{verticesIn, edgesIn, returnsIn}

@@ -1,8 +1,6 @@
 -- What a list of pieces names: vertices, edges, conditions, returned names.
 use mathlib.Core.List.{List, [], _∷_, _++_}
-use mathlib.Core.Bool.{Bool, true, false}
 use Rattle.model.specs.Bytes.{Bytes}
-use Rattle.model.specs.Choice.{pick}
 use Rattle.model.specs.Lists.{joined}
 use Rattle.model.specs.QueryText.{Condition}
 use Rattle.model.specs.Grammar.{Piece, start, goes, comes, asks, returns}

@@ -7,9 +7,8 @@ use lib.Dec.{T, eqb}
 use Rattle.model.specs.Bytes.{Bytes, bytesOf}
 use Rattle.model.specs.Choice.{pick, Maybe, nothing, just, andThen}
 use Rattle.model.specs.Words.{Got}
-use Rattle.model.specs.Values.{Value}
 use Rattle.model.specs.Signs.{Sign, isMark, wordy, signName, signValue, next, expect}
-use Rattle.model.specs.QueryText.{Relation, Condition, differ, demand}
+use Rattle.model.specs.QueryText.{Condition, differ, demand}
 use Rattle.model.specs.Grammar.{Piece, start, goes, comes, asks, returns, Spot, atStart, inChain, inWhere, inReturn, spotAfter, signRelation, pieceAt}
 use Rattle.model.specs.Answers.{nameAt, relationOf, valueOf}
 use Rattle.model.specs.Places.{Bracket, none, bracketOf, Standing, vertex, edge}
@@ -22,7 +21,6 @@ use Rattle.pieces.specs.declared.Spot.{Spot as SpotData}
 use Rattle.pieces.specs.declared.Spot.the-variants as spot
 use Rattle.pieces.specs.declared.Place.{Place}
 use Rattle.pieces.specs.declared.Link.{Link}
-use Rattle.pieces.specs.declared.Demand.{Demand}
 use Rattle.pieces.specs.declared.Piece.{Piece as PieceData}
 use Rattle.pieces.specs.declared.Piece.the-variants as piece
 use Rattle.pieces.specs.declared.PieceRead.{PieceRead}

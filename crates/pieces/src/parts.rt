@@ -1,5 +1,4 @@
 // What pieces are made of: a vertex in its brackets, an edge with the vertex behind it, a condition, a returned name.
-ghost use mathlib.Core.Path.{_≡_};
 ghost use mathlib.Core.Bool.{true, false};
 ghost use Prim.Native.Nat.{_<_};
 ghost use Rattle.model.specs.Bytes.{bytesOf};

@@ -1,6 +1,6 @@
 -- A refusal or a list that is put at the start of a buffer is what is printed, whole. Assumes nothing.
 use Prim.Native.Nat.{ℕ, _*_, _≤_}
-use mathlib.Core.Path.{_≡_, sym, subst}
+use mathlib.Core.Path.{_≡_, subst}
 use mathlib.Core.List.{List}
 use native.Mathlib.Omega.{arith}
 use lib.ListN.{length}
@@ -26,7 +26,7 @@ use Rattle.writer.proofs.PuttingLaws.{puts-same}
 use Rattle.printing.specs.Printing.{Prints}
 use Rattle.printing.proofs.FrontLaws.{prints}
 use Rattle.printing.proofs.LengthLaws.{refusal-short, names-short, list-short}
-use Rattle.printing.proofs.AnswerLaws.{book-refused, list-refused, Shown, list-shown}
+use Rattle.printing.proofs.AnswerLaws.{book-refused, list-refused, Shown}
 
 -- a book that was loaded
 pub loaded : (text : Bytes) (words : List ℕ) (r : BookLoad) (c : BookCounts) → r ≡ load.Loaded c → Loaded text words r (readBook text)

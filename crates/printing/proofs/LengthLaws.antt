@@ -1,12 +1,12 @@
 -- How long printed lines are: a refusal's at most 38 bytes, a list's 13 for the header and 38 for each row word, as a name has at most 31 bytes.
-use Prim.Native.Nat.{ℕ, zero, suc, _+_, _*_, _/_, _%_, _≤_, _<_}
-use mathlib.Core.Path.{_≡_, refl, sym, ap, _∙_}
+use Prim.Native.Nat.{ℕ, zero, suc, _+_, _*_, _/_, _%_, _≤_}
+use mathlib.Core.Path.{_≡_, refl}
 use mathlib.Core.Bool.{Bool, true, false}
 use mathlib.Core.List.{List, [], _∷_, _++_, map, List·Memᴰ·head, List·Memᴰ·tail}
 use native.Mathlib.Nat.{suc-mul, mod-lt}
 use native.Mathlib.Omega.{arith}
 use lib.Dec.{ltb}
-use lib.ListN.{length, getD, take, drop, length-append, length-take}
+use lib.ListN.{length, getD, length-append, length-take}
 use Rattle.facts.specs.Tests.{either, below-or-not}
 use Rattle.model.specs.Bytes.{Bytes, bytesOf}
 use Rattle.model.specs.Choice.{pick}

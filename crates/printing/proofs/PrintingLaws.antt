@@ -2,7 +2,7 @@
 use Prim.Native.Nat.{ℕ, zero, suc, _+_, _≤_, _<_}
 use mathlib.Core.Path.{_≡_, refl, sym, ap, _∙_}
 use mathlib.Core.List.{List, [], _∷_, _++_, map}
-use lib.ListN.{length, getD, take}
+use lib.ListN.{length, getD}
 use lib.Seq.{take-all}
 use native.Mathlib.Omega.{arith}
 use Rattle.model.specs.Bytes.{Bytes, bytesOf}
@@ -18,7 +18,7 @@ use Rattle.tables.proofs.NameLaws.{node-names}
 use Rattle.tables.specs.declared.BookCounts.{BookCounts}
 use Rattle.writer.specs.Pieces.{before, listing}
 use Rattle.writer.specs.Putting.{Puts}
-use Rattle.writer.proofs.PuttingLaws.{puts-then, puts-same}
+use Rattle.writer.proofs.PuttingLaws.{puts-same}
 use Rattle.writer.proofs.PieceLaws.{before-all, puts-none, puts-one-more}
 use Rattle.printing.specs.Printing.{headerText, nameIn, namesText}
 

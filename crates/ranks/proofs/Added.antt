@@ -1,18 +1,16 @@
 -- One category or one policy more: words that agree on all before it, and hold it behind, hold the rules with it.
-use Prim.Native.Nat.{ℕ, _+_, _*_, _/_, _%_, _≤_, _<_}
-use mathlib.Core.Path.{_≡_, refl, sym, ap, _∙_}
-use mathlib.Core.List.{List, [], _∷_, _++_}
-use mathlib.Core.Bool.{Bool, true, false}
+use Prim.Native.Nat.{ℕ, _+_, _/_, _%_, _<_}
+use mathlib.Core.Path.{_≡_, sym, ap, _∙_}
+use mathlib.Core.List.{List}
+use mathlib.Core.Bool.{false}
 use native.Mathlib.Omega.{arith}
-use lib.ListN.{length}
 use Rattle.facts.specs.Tests.{either, equal-or-not}
 use Rattle.model.specs.Bytes.{Bytes, same}
 use Rattle.model.specs.Names.{mem}
-use Rattle.model.specs.Rules.{Category, Policy, Rules, categoryNames}
+use Rattle.model.specs.Rules.{Policy, Rules, categoryNames}
 use Rattle.model.specs.ReadRules.{category, policy, hasPolicy, addRule}
-use Rattle.tables.specs.Listed.{listed}
 use Rattle.tables.specs.View.{wordAt, nameOf, namesAt}
-use Rattle.tables.specs.Fits.{Inside, NamesFit}
+use Rattle.tables.specs.Fits.{Inside}
 use Rattle.tables.proofs.ListedLaws.{listed-more, scan-found}
 use Rattle.tables.proofs.NameLaws.{names-fit-more, equal-same}
 use Rattle.ranks.specs.declared.RulesCounts.{RulesCounts}

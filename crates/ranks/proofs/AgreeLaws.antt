@@ -1,26 +1,24 @@
 -- Words that agree on all that is counted hold the same rules; so a store to a word that is not counted changes nothing.
-use Prim.Native.Nat.{ℕ, zero, suc, _+_, _*_, _≤_, _<_}
+use Prim.Native.Nat.{ℕ, zero, suc, _+_, _*_, _<_}
 use mathlib.Core.Path.{_≡_, refl, sym, ap, _∙_}
-use mathlib.Core.List.{List, [], _∷_}
+use mathlib.Core.List.{List}
 use mathlib.Core.Bool.{Bool, _||_}
 use native.Mathlib.Omega.{arith}
-use lib.ListN.{length, set, length-set}
+use lib.ListN.{set, length-set}
 use lib.Seq.{getD-set-other}
 use lib.Dec.{eqb}
 use Rattle.bits.specs.Word.{bit}
 use Rattle.model.specs.Bytes.{Bytes}
 use Rattle.model.specs.Lists.{any}
 use Rattle.model.specs.Names.{place}
-use Rattle.model.specs.Rules.{Rules}
 use Rattle.tables.specs.Listed.{listed}
 use Rattle.tables.specs.View.{wordAt, nameOf, namesAt}
-use Rattle.tables.specs.Fits.{NamesFit}
 use Rattle.tables.specs.Agree.{At}
 use Rattle.tables.proofs.ListedLaws.{listed-same, any-end}
 use Rattle.tables.proofs.AgreeLaws.{name-kept, names-kept, names-fit-kept}
 use Rattle.ranks.specs.declared.RulesCounts.{RulesCounts}
-use Rattle.ranks.specs.Layout.{names, slot, actorCountAt, overCountAt, lowerAt, actorsFrom, overFrom, policyAt}
-use Rattle.ranks.specs.View.{actorsAt, overAt, lowerSet, categoryOf, policyCategory, policyText, treeOf, policyOf, rulesAt}
+use Rattle.ranks.specs.Layout.{names, slot, actorCountAt, overCountAt, actorsFrom, overFrom, policyAt}
+use Rattle.ranks.specs.View.{actorsAt, overAt, lowerSet, categoryOf, policyCategory, policyText, policyOf, rulesAt}
 use Rattle.ranks.specs.Fits.{rank, belowSome, CategoryFits, PolicyFits, Fits}
 use Rattle.ranks.specs.Agree.{Free, Agree}
 

@@ -1,29 +1,26 @@
 -- The enforced policies are those of the categories in the lower set, in the order of the categories.
 use Prim.Native.Nat.{ℕ, zero, suc, _+_, _≤_, _<_}
 use mathlib.Core.Path.{_≡_, refl, sym, ap, subst, _∙_}
-use mathlib.Core.Logic.{⊎-elim}
 use mathlib.Core.List.{List, [], _∷_, _++_, map, List·Memᴰ·head, List·Memᴰ·tail, append-assoc, append-nil}
 use mathlib.Core.Bool.{Bool, true, false, _&&_, _||_}
 use native.Mathlib.Omega.{arith}
-use native.Mathlib.Numerals.{add-one}
 use lib.ListN.{length}
 use lib.Dec.{T, eqb, ltb, eqb→eq}
 use borrow.Author.Tests.{lt-ltb, le-ltb, eq-eqb, ne-eqb}
 use Rattle.facts.specs.Tests.{same-test, either, equal-or-not, below-or-not}
-use Rattle.bits.specs.Word.{bit}
 use Rattle.model.specs.Bytes.{Bytes, same}
 use Rattle.model.specs.Choice.{pick}
 use Rattle.model.specs.Lists.{any, keep, joined, placeWhere}
 use Rattle.model.specs.Names.{mem}
 use Rattle.model.specs.Rules.{Category, Policy, Rules, categoryNames, actorsOf, stepDown, stepsDown, downFrom, enforced}
-use Rattle.model.proofs.Members.{_∈_, test, is-true, is-false, keep-e, keep-i, mem-e, mem-i}
+use Rattle.model.proofs.Members.{_∈_, is-true, is-false, keep-e, keep-i, mem-e, mem-i}
 use Rattle.tables.specs.Listed.{listed}
-use Rattle.tables.specs.View.{wordAt, nameOf, namesAt}
+use Rattle.tables.specs.View.{nameOf, namesAt}
 use Rattle.tables.proofs.ListedLaws.{length-listed, getD-listed, scan-found, place-inside, place-passes, place-none}
 use Rattle.tables.proofs.NameLaws.{equal-same, same-equal}
 use Rattle.ranks.specs.declared.RulesCounts.{RulesCounts}
 use Rattle.ranks.specs.Layout.{names}
-use Rattle.ranks.specs.View.{actorsAt, lowerSet, categoryOf, policyCategory, policyOf, rulesAt}
+use Rattle.ranks.specs.View.{actorsAt, categoryOf, policyCategory, policyOf, rulesAt}
 use Rattle.ranks.specs.Fits.{Fits}
 use Rattle.ranks.specs.Enforced.{policyPlace, policiesOf, enforcedBelow}
 use Rattle.ranks.proofs.Lowers.{named, category-names, declared, lower-is-down}

@@ -1,17 +1,14 @@
 -- The lower sets are whole: category m is in that of category k exactly if the model's `downFrom` has its name.
-use Prim.Native.Nat.{ℕ, zero, suc, _+_, _*_, _≤_, _<_}
+use Prim.Native.Nat.{ℕ, zero, suc, _<_}
 use mathlib.Core.Path.{_≡_, refl, sym, ap, subst, _∙_}
 use mathlib.Core.Logic.{_⊎_, inl, inr, ⊎-elim}
-use mathlib.Core.List.{List, [], _∷_, map}
-use mathlib.Core.Bool.{Bool, true, _||_}
+use mathlib.Core.List.{List}
 use native.Mathlib.Omega.{arith}
-use lib.ListN.{length, getD}
 use lib.Dec.{T, eqb, eqb→eq}
 use Rattle.facts.specs.Tests.{same-test, eq→eqb}
 use Rattle.facts.specs.Lists.{in-getD, getD-in}
 use Rattle.bits.specs.Word.{bit}
 use Rattle.model.specs.Bytes.{Bytes}
-use Rattle.model.specs.Lists.{any}
 use Rattle.model.specs.Names.{mem}
 use Rattle.model.specs.Rules.{Category, Rules, categoryNames, downFrom}
 use Rattle.model.proofs.Members.{_∈_, any-e, any-i, mem-e, mem-i}
@@ -24,7 +21,7 @@ use Rattle.tables.proofs.NameLaws.{place-named}
 use Rattle.ranks.specs.declared.RulesCounts.{RulesCounts}
 use Rattle.ranks.specs.Layout.{names, overCountAt, overFrom}
 use Rattle.ranks.specs.View.{overAt, lowerSet, categoryOf, rulesAt}
-use Rattle.ranks.specs.Fits.{rank, belowSome, CategoryFits, Fits}
+use Rattle.ranks.specs.Fits.{rank, Fits}
 
 -- the elements of `listed`
 pub listed-i : {A : Type 0} (f : ℕ → A) (n i : ℕ) → i < n → f i ∈ listed f n

@@ -1,18 +1,18 @@
 -- Whether a category has a policy, and whether some category over nothing has none.
-use Prim.Native.Nat.{ℕ, zero, suc, _+_, _≤_, _<_}
+use Prim.Native.Nat.{ℕ, zero, suc, _+_, _<_}
 use mathlib.Core.Path.{_≡_, refl, sym, ap, _∙_}
 use mathlib.Core.List.{List, [], _∷_, _++_}
-use mathlib.Core.Bool.{Bool, true, false, not, _&&_, _||_}
+use mathlib.Core.Bool.{Bool, true, false, not, _&&_}
 use native.Mathlib.Omega.{arith}
-use lib.ListN.{length, length-append}
+use lib.ListN.{length}
 use lib.Dec.{eqb, leb, ltb}
-use borrow.Author.Tests.{lt-ltb, le-ltb, le-leb, lt-leb, eq-eqb, ne-eqb}
+use borrow.Author.Tests.{lt-ltb, le-ltb, le-leb, lt-leb, ne-eqb}
 use Rattle.facts.specs.Tests.{either, below-or-not}
 use Rattle.model.specs.Bytes.{Bytes, same}
 use Rattle.model.specs.Choice.{pick}
 use Rattle.model.specs.Lists.{isNil, any, placeWhere}
-use Rattle.model.specs.Refusal.{Outcome, accepted, refusal}
-use Rattle.model.specs.Rules.{Category, Policy, Rules}
+use Rattle.model.specs.Refusal.{accepted, refusal}
+use Rattle.model.specs.Rules.{Category, Policy}
 use Rattle.model.specs.ReadRules.{hasPolicy, covered}
 use Rattle.tables.specs.Listed.{listed}
 use Rattle.tables.specs.View.{wordAt, nameOf, namesAt}

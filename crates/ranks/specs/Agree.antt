@@ -4,10 +4,9 @@ use mathlib.Core.Logic.{_≢_}
 use mathlib.Core.Path.{_≡_}
 use mathlib.Core.List.{List}
 use lib.ListN.{length}
-use Rattle.tables.specs.View.{wordAt}
 use Rattle.tables.specs.Agree.{At}
 use Rattle.ranks.specs.declared.RulesCounts.{RulesCounts}
-use Rattle.ranks.specs.Layout.{names, slot, policyAt}
+use Rattle.ranks.specs.Layout.{names}
 
 -- a place is that of no word counted
 pub record Free (c : RulesCounts) (p : ℕ) : Type 0 where

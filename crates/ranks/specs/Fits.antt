@@ -1,5 +1,5 @@
 -- What is true of the words whenever they hold rules: everything counted stands inside its table, points inside the text, and the lower sets are whole.
-use Prim.Native.Nat.{ℕ, _+_, _*_, _≤_, _<_}
+use Prim.Native.Nat.{ℕ, _+_, _≤_, _<_}
 use mathlib.Core.Path.{_≡_}
 use mathlib.Core.List.{List}
 use mathlib.Core.Bool.{Bool, _||_}
@@ -16,7 +16,7 @@ use Rattle.tables.specs.View.{wordAt, nameOf, namesAt}
 use Rattle.tables.specs.Fits.{Inside, NamesFit}
 use Rattle.ranks.specs.declared.RulesCounts.{RulesCounts}
 use Rattle.ranks.specs.Layout.{names, actorCountAt, overCountAt, actorsFrom, overFrom, policyAt, rulesWords}
-use Rattle.ranks.specs.View.{actorsAt, overAt, lowerSet, policyCategory, policyText, treeOf, rulesAt}
+use Rattle.ranks.specs.View.{overAt, lowerSet, policyCategory, policyText, treeOf, rulesAt}
 
 -- the number of a category among the k first
 abbrev pub rank : Bytes → List ℕ → ℕ → Bytes → ℕ

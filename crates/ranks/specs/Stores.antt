@@ -1,5 +1,5 @@
 -- The stores: the words, and the counts, with one thing more in a table.
-use Prim.Native.Nat.{ℕ, _+_, _*_}
+use Prim.Native.Nat.{ℕ, _+_}
 use mathlib.Core.List.{List}
 use lib.ListN.{set}
 use Rattle.ranks.specs.declared.RulesCounts.{RulesCounts}

@@ -1,12 +1,9 @@
 -- The view: what the words of the tables say of the rules, names and policies being parts of the rules' text.
-use Prim.Native.Nat.{ℕ, _+_, _*_}
+use Prim.Native.Nat.{ℕ, _+_}
 use mathlib.Core.List.{List, []}
-use mathlib.Core.Bool.{Bool}
-use lib.Dec.{eqb}
 use Rattle.bits.specs.Word.{bit}
 use Rattle.model.specs.Bytes.{Bytes}
-use Rattle.model.specs.Choice.{pick, Maybe, nothing, just}
-use Rattle.model.specs.Lists.{keep}
+use Rattle.model.specs.Choice.{Maybe, nothing, just}
 use Rattle.model.specs.QueryText.{QueryText}
 use Rattle.model.specs.Grammar.{queryText}
 use Rattle.model.specs.Rules.{Category, Policy, Rules}

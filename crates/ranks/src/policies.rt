@@ -1,7 +1,6 @@
 // The policy of a category, and whether each category over nothing has one.
 ghost use mathlib.Core.Path.{_≡_};
-ghost use Prim.Native.Nat.{_≤_, _<_};
-ghost use lib.ListN.{length};
+ghost use Prim.Native.Nat.{_<_};
 ghost use Rattle.ranks.specs.Fits.{Within};
 ghost use Rattle.ranks.specs.Enforced.{policyPlace, uncovered, uncoveredIn};
 use crate::CATEGORIES;

@@ -1,21 +1,19 @@
 -- A category's line without a fault, and the words with it.
 use Prim.Native.Nat.{ℕ, _+_, _-_, _*_, _/_, _%_, _≤_, _<_}
 use mathlib.Core.Path.{_≡_, refl, sym, ap, subst, _∙_}
-use mathlib.Core.List.{List, [], _∷_}
-use mathlib.Core.Bool.{Bool, true, false, not, _||_}
+use mathlib.Core.List.{List, []}
+use mathlib.Core.Bool.{Bool, false, _||_}
 use native.Mathlib.Omega.{arith}
 use lib.ListN.{length, getD, set, length-set}
 use lib.Seq.{getD-set-same, getD-set-other}
 use lib.Dec.{T, leb, ltb, eqb, le→leb, lt→ltb}
-use Rattle.facts.specs.Tests.{either, equal-or-not, below-or-not}
+use Rattle.facts.specs.Tests.{either, below-or-not}
 use Rattle.bits.specs.Word.{bit}
-use Rattle.model.specs.Bytes.{Bytes, bytesOf}
+use Rattle.model.specs.Bytes.{Bytes}
 use Rattle.model.specs.Choice.{nothing}
-use Rattle.model.specs.Lists.{any, all}
+use Rattle.model.specs.Lists.{all}
 use Rattle.model.specs.Names.{mem, twice, place}
-use Rattle.model.specs.Refusal.{lowest, _if_}
 use Rattle.model.specs.Book.{emptyBook}
-use Rattle.model.specs.Rules.{Rules, categoryNames}
 use Rattle.model.specs.ReadRules.{category, rulesFault, addRule}
 use Rattle.model.proofs.Members.{_∈_, is-false, all-e, mem-e}
 use Rattle.model.proofs.Decides.{not-e, or-l, or-r}
@@ -25,7 +23,7 @@ use Rattle.tables.specs.Listed.{listed}
 use Rattle.tables.specs.View.{wordAt, nameIn, nameOf, namesAt}
 use Rattle.tables.specs.Fits.{Inside, NamesFit}
 use Rattle.tables.specs.Agree.{At}
-use Rattle.tables.proofs.ListedLaws.{length-listed, getD-listed}
+use Rattle.tables.proofs.ListedLaws.{getD-listed}
 use Rattle.tables.proofs.NameLaws.{length-names}
 use Rattle.tables.proofs.AgreeLaws.{name-kept, names-kept}
 use Rattle.ranks.specs.declared.RulesCounts.{RulesCounts}
@@ -34,7 +32,7 @@ use Rattle.ranks.specs.View.{actorsAt, overAt, lowerSet, rulesAt}
 use Rattle.ranks.specs.Fits.{rank, belowSome, CategoryFits, Fits, Holds, LowerAsked}
 use Rattle.ranks.specs.Agree.{Free, Agree}
 use Rattle.ranks.specs.Stores.{moreCategories, withCategory}
-use Rattle.ranks.proofs.AgreeLaws.{set-agrees, agree-trans, any-same, lower-kept, rank-kept, fits-kept}
+use Rattle.ranks.proofs.AgreeLaws.{set-agrees, agree-trans, any-same, lower-kept, fits-kept}
 use Rattle.ranks.proofs.Lowers.{category-names}
 use Rattle.ranks.proofs.Added.{category-added}
 use Rattle.ranks.proofs.Fewer.{fewer-names}

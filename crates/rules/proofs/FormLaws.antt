@@ -1,17 +1,17 @@
 -- The steps of reading a line's form.
-use Prim.Native.Nat.{ℕ, _+_, _-_, _≤_, _<_}
+use Prim.Native.Nat.{ℕ, _+_, _-_}
 use mathlib.Core.Path.{_≡_, refl, sym, ap, subst, _∙_}
-use mathlib.Core.List.{List, [], _∷_}
+use mathlib.Core.List.{List}
 use mathlib.Core.Bool.{Bool, true, false}
 use native.Mathlib.Omega.{arith}
 use lib.ListN.{length}
 use Rattle.model.specs.Bytes.{Bytes, bytesOf, same}
 use Rattle.model.specs.Choice.{pick, Maybe, nothing, just, andThen}
 use Rattle.model.specs.Items.{Item, lineItems}
-use Rattle.model.specs.Forms.{asWord, asName, asQuoted, first, atEnd}
+use Rattle.model.specs.Forms.{asName, first, atEnd}
 use Rattle.model.specs.Grammar.{queryText}
 use Rattle.model.specs.QueryText.{QueryText}
-use Rattle.model.specs.ReadRules.{RulesLine, category, policy, namesAfter, categoryLine, policyLine, rulesLine}
+use Rattle.model.specs.ReadRules.{RulesLine, category, policy, categoryLine, policyLine, rulesLine}
 use Rattle.model.specs.Answers.{partOf}
 use Rattle.text.specs.declared.End.{End}
 use Rattle.text.specs.declared.End.the-variants as end
@@ -19,7 +19,7 @@ use Rattle.items.specs.declared.Piece.{Piece}
 use Rattle.items.specs.declared.Piece.the-variants as piece
 use Rattle.items.specs.declared.NameRead.{NameRead}
 use Rattle.items.specs.declared.NameRead.the-variants as name
-use Rattle.items.specs.Rest.{restAt, formAt, spacesFrom}
+use Rattle.items.specs.Rest.{formAt, spacesFrom}
 use Rattle.items.specs.Pieces.{namePlaces, wordNext, nameNext, quotedNext, onPiece, onName, onPlace}
 use Rattle.items.specs.Forms.{formOpens, formCloses}
 use Rattle.items.proofs.FormLaws.{line-form, form-word, form-quoted, form-name, form-end}

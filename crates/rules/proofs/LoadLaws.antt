@@ -1,14 +1,14 @@
 -- The rules line by line: rules of no lines, what a line gives, the lines so far, and all of them.
 use Prim.Native.Nat.{ℕ, _+_, _-_, _≤_, _<_}
 use mathlib.Core.Path.{_≡_, refl, sym, ap, _∙_, subst}
-use mathlib.Core.List.{List, [], _∷_}
+use mathlib.Core.List.{List}
 use mathlib.Core.Bool.{Bool, true, false}
 use native.Mathlib.Omega.{arith}
 use lib.ListN.{length, take, drop, length-drop}
 use lib.Seq.{length-take-le}
 use borrow.Author.Tests.{lt-ltb, le-ltb}
 use Rattle.model.specs.Bytes.{Bytes}
-use Rattle.model.specs.Choice.{Maybe, nothing, just, andThen}
+use Rattle.model.specs.Choice.{Maybe, andThen}
 use Rattle.model.specs.Lines.{Step, fault, known, formStep, readLines, linesOf}
 use Rattle.model.specs.Items.{lineItems}
 use Rattle.model.specs.Forms.{formOf}

@@ -1,5 +1,5 @@
 -- The lowest fault of a policy's line is the lower one of its text's and its own.
-use Prim.Native.Nat.{ℕ, _+_, _-_, _≤_, _<_}
+use Prim.Native.Nat.{ℕ, _-_, _≤_, _<_}
 use mathlib.Core.Path.{_≡_, refl, sym, ap, _∙_}
 use mathlib.Core.List.{List, [], _∷_}
 use mathlib.Core.Bool.{Bool, true, false, not, _||_}
@@ -17,7 +17,7 @@ use Rattle.model.specs.QueryText.{QueryText}
 use Rattle.model.specs.Grammar.{queryText}
 use Rattle.model.specs.ReadQuery.{hasUndeclared, hasTwice, hasMistyped, tooMany, hasFromItself, queryFault}
 use Rattle.model.specs.Rules.{Rules, categoryNames}
-use Rattle.model.specs.ReadRules.{RulesLine, policy, hasPolicy, rulesFault}
+use Rattle.model.specs.ReadRules.{policy, hasPolicy, rulesFault}
 use Rattle.text.proofs.PlaceLaws.{part-size}
 use Rattle.tables.specs.View.{nameOf, namesAt}
 use Rattle.tables.proofs.NameLaws.{place-named, place-mem, place-out}

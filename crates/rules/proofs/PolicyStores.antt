@@ -1,12 +1,12 @@
 -- A policy's line without a fault, and the words with it.
-use Prim.Native.Nat.{ℕ, _+_, _-_, _*_, _≤_, _<_}
-use mathlib.Core.Path.{_≡_, refl, sym, ap, subst, _∙_}
-use mathlib.Core.List.{List, [], _∷_}
+use Prim.Native.Nat.{ℕ, _+_, _-_, _<_}
+use mathlib.Core.Path.{_≡_, refl, sym, ap, _∙_}
+use mathlib.Core.List.{List}
 use mathlib.Core.Bool.{Bool, true, false, not}
 use native.Mathlib.Omega.{arith}
 use lib.ListN.{length, set, length-set}
 use lib.Seq.{getD-set-same, getD-set-other}
-use lib.Dec.{eqb, ltb}
+use lib.Dec.{eqb}
 use borrow.Author.Tests.{eq-eqb, ne-eqb, not-false, le-ltb}
 use Rattle.facts.specs.Tests.{either, equal-or-not, below-or-not}
 use Rattle.model.specs.Bytes.{Bytes, same}
@@ -14,34 +14,26 @@ use Rattle.model.specs.Choice.{pick, Maybe, nothing, just}
 use Rattle.model.specs.Names.{mem, place}
 use Rattle.model.specs.QueryText.{QueryText}
 use Rattle.model.specs.Grammar.{queryText}
-use Rattle.model.specs.Rules.{Policy, Rules, categoryNames}
+use Rattle.model.specs.Rules.{Policy, categoryNames}
 use Rattle.model.specs.ReadRules.{policy, hasPolicy, addRule}
-use Rattle.model.specs.Answers.{partOf}
-use Rattle.text.proofs.PlaceLaws.{part-size}
 use Rattle.tables.specs.View.{wordAt, nameOf, namesAt}
-use Rattle.tables.specs.Fits.{Inside}
 use Rattle.tables.proofs.NameLaws.{mem-place, place-named, length-names}
 use Rattle.tables.proofs.AgreeLaws.{name-kept}
 use Rattle.ranks.specs.declared.RulesCounts.{RulesCounts}
 use Rattle.ranks.specs.Layout.{names, policyAt}
 use Rattle.ranks.specs.View.{policyCategory, policyText, policyOf, treeOr, treeOf, rulesAt}
-use Rattle.ranks.specs.Fits.{PolicyFits, Fits, Holds}
+use Rattle.ranks.specs.Fits.{PolicyFits}
 use Rattle.ranks.specs.Agree.{Free, Agree}
 use Rattle.ranks.specs.Stores.{morePolicies, withPolicy}
-use Rattle.ranks.specs.Enforced.{hasOne}
 use Rattle.ranks.proofs.AgreeLaws.{set-agrees, agree-trans}
 use Rattle.ranks.proofs.Lowers.{category-names}
-use Rattle.ranks.proofs.PolicyLaws.{has-policy, any-place}
 use Rattle.ranks.proofs.Downs.{policy-of}
 use Rattle.ranks.proofs.Added.{policy-added}
 use Rattle.ranks.proofs.Fewer.{fewer}
 use Rattle.tables.proofs.ListedLaws.{scan-found}
-use Rattle.tables.specs.Listed.{listed}
-use Rattle.items.specs.Places.{WordPlaces}
 use Rattle.faults.specs.TextFault.{treeFault, textFault}
 use Rattle.rules.specs.Forms.{between}
-use Rattle.rules.specs.Stored.{LineAt}
-use Rattle.rules.specs.Policies.{lineNumber, policyOn, combined, PolicyClear, PolicyAdded}
+use Rattle.rules.specs.Policies.{combined, PolicyClear, PolicyAdded}
 use Rattle.rules.proofs.StoreLaws.{part-of-line}
 use Rattle.rules.proofs.PolicyFaults.{policy-number}
 

@@ -1,16 +1,16 @@
 -- What a line gives, by the number of its fault.
-use Prim.Native.Nat.{ℕ, _≤_}
+use Prim.Native.Nat.{ℕ}
 use mathlib.Core.Path.{_≡_, refl, sym, ap, _∙_}
 use mathlib.Core.Logic.{_≢_}
-use mathlib.Core.List.{List, [], _∷_}
+use mathlib.Core.List.{[], _∷_}
 use mathlib.Core.Bool.{Bool, true, false, not, _||_}
 use native.Mathlib.Omega.{arith}
 use lib.ListN.{length}
-use lib.Dec.{eqb, ltb}
+use lib.Dec.{ltb}
 use borrow.Author.Tests.{eq-eqb, ne-eqb}
 use Rattle.model.specs.Bytes.{Bytes}
-use Rattle.model.specs.Choice.{pick, Maybe, nothing, just, andThen}
-use Rattle.model.specs.Lines.{Step, fault, known, faultOr, formStep}
+use Rattle.model.specs.Choice.{Maybe, nothing, just, andThen}
+use Rattle.model.specs.Lines.{fault, known, faultOr, formStep}
 use Rattle.model.specs.Book.{Book}
 use Rattle.model.specs.Names.{mem}
 use Rattle.model.specs.Refusal.{lowest, _if_}

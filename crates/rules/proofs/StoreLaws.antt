@@ -7,7 +7,6 @@ use lib.ListN.{length, set, length-set, length-append}
 use lib.Seq.{getD-set-same, getD-set-other}
 use Rattle.facts.specs.Tests.{either, equal-or-not}
 use Rattle.model.specs.Bytes.{Bytes}
-use Rattle.model.specs.Choice.{just}
 use Rattle.model.specs.Answers.{partOf}
 use Rattle.items.specs.declared.Piece.the-variants as piece
 use Rattle.items.specs.Pieces.{namePlaces, nameNext}
@@ -19,7 +18,6 @@ use Rattle.tables.specs.Fits.{Inside}
 use Rattle.tables.proofs.NameLaws.{names-end}
 use Rattle.tables.proofs.AgreeLaws.{names-kept}
 use Rattle.items.specs.Places.{WordPlaces}
-use Rattle.lists.specs.Names.{NamesRead, namesBehind}
 use Rattle.lists.proofs.Behind.{name-step, names-done}
 use Rattle.rules.specs.Forms.{between}
 use Rattle.rules.specs.Stored.{LineAt, NamesStored, Storing}

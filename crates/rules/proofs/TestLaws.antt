@@ -1,19 +1,18 @@
 -- The tests of a category's line, name by name and category by category.
 use Prim.Native.Nat.{ℕ, zero, suc, _+_, _≤_, _<_}
 use mathlib.Core.Path.{_≡_, refl, sym, ap, _∙_}
-use mathlib.Core.List.{List, [], _∷_, _++_}
+use mathlib.Core.List.{List, [], _∷_}
 use mathlib.Core.Bool.{Bool, true, false, not, _&&_, _||_}
 use native.Mathlib.Omega.{arith}
 use lib.ListN.{length}
 use lib.Dec.{leb, ltb}
 use Rattle.facts.specs.Tests.{either, equal-or-not}
 use Rattle.model.specs.Bytes.{Bytes, bytesOf}
-use Rattle.model.specs.Choice.{pick, nothing, just}
 use Rattle.model.specs.Lists.{any, all}
 use Rattle.model.specs.Names.{mem, twice}
 use Rattle.model.specs.Refusal.{lowest, _if_}
 use Rattle.model.specs.Book.{Book}
-use Rattle.model.specs.Rules.{Category, Rules, categoryNames}
+use Rattle.model.specs.Rules.{Category}
 use Rattle.model.specs.ReadRules.{category, lacksActor, rulesFault}
 use Rattle.tables.specs.Listed.{listed}
 use Rattle.tables.specs.View.{nameOf, namesAt}

@@ -1,5 +1,4 @@
 // The rules of a text, line by line, into the tables.
-ghost use mathlib.Core.Path.{_≡_};
 ghost use Prim.Native.Nat.{_≤_};
 ghost use lib.ListN.{length};
 ghost use Rattle.model.specs.Choice.{andThen};

@@ -1,13 +1,8 @@
 // A policy's line: its lowest fault, by that of its text as a query; and the line more in the tables.
 ghost use mathlib.Core.Path.{_≡_};
-ghost use mathlib.Core.Bool.{not};
 ghost use Prim.Native.Nat.{_+_, _-_, _≤_, _<_};
 ghost use lib.ListN.{length};
-ghost use lib.Dec.{ltb};
 ghost use Rattle.model.specs.Book.{Book};
-ghost use Rattle.model.specs.Names.{mem};
-ghost use Rattle.model.specs.Rules.{categoryNames};
-ghost use Rattle.model.specs.ReadRules.{hasPolicy};
 ghost use Rattle.ranks.specs.View.{rulesAt};
 ghost use Rattle.ranks.specs.Fits.{Within, Fits};
 ghost use Rattle.ranks.specs.Enforced.{hasOne};

@@ -1,16 +1,15 @@
 -- Demand 3, from the contract of `list` alone, the record ListCalled: the row words hold every row that may be had, each once, ascending,
 -- and no other row, then all ones; the answer is their number and their width; 14 is answered exactly if they do not fit and every other premise holds.
-use Prim.Native.Nat.{ℕ, _-_, _*_, _<_, _≤_}
+use Prim.Native.Nat.{ℕ, _*_, _<_, _≤_}
 use mathlib.Core.Path.{_≡_, refl, sym, ap, ap₂, subst, _∙_}
 use mathlib.Core.Logic.{_↔_, ⊎-elim}
-use mathlib.Core.List.{List, [], _∷_, _++_}
+use mathlib.Core.List.{List, [], _∷_}
 use native.Mathlib.Omega.{arith}
 use lib.ListN.{length}
 use lib.Dec.{ltb}
 use borrow.Author.Tests.{lt-ltb, le-ltb}
 use Rattle.model.specs.Bytes.{Bytes, bytesOf}
 use Rattle.model.specs.Choice.{pick}
-use Rattle.model.specs.Lists.{joined}
 use Rattle.model.specs.Refusal.{Outcome, accepted, refused, refusal, onAccept}
 use Rattle.model.specs.Book.{Book}
 use Rattle.model.specs.QueryText.{QueryText}

@@ -15,7 +15,7 @@ use Rattle.model.specs.Refusal.{Outcome, accepted, refused, onAccept, refusal}
 use Rattle.model.specs.Book.{Book}
 use Rattle.model.specs.ReadBook.{readBook}
 use Rattle.model.specs.Request.{Identity}
-use Rattle.model.specs.Service.{ones, FoundRows, ListAnswer, rowWords, listFound, listService}
+use Rattle.model.specs.Service.{ones, FoundRows, rowWords, listFound, listService}
 use Rattle.model.specs.Answers.{refusalOf, listAnswer}
 use Rattle.model.specs.Demands.{ListCalled}
 use Rattle.model.specs.declared.Refusal.{Refusal as RefusalData}

@@ -6,7 +6,7 @@ use native.Mathlib.Omega.{arith}
 use lib.ListN.{length}
 use lib.Dec.{ltb, nltb→le}
 use Rattle.model.specs.Bytes.{Bytes}
-use Rattle.model.specs.Refusal.{Outcome, accepted, refusal, onAccept}
+use Rattle.model.specs.Refusal.{Outcome, accepted, refusal}
 use Rattle.model.specs.ReadBook.{readBook}
 use Rattle.model.specs.ReadRules.{readRules}
 use Rattle.model.specs.ReadQuery.{readQuery}

@@ -1,15 +1,14 @@
 -- Laws of signs: blanks before a sign, and the sign at a place.
-use Prim.Native.Nat.{ℕ, zero, suc, _+_, _-_, _<_, _≤_}
+use Prim.Native.Nat.{ℕ, suc, _+_, _-_, _<_, _≤_}
 use mathlib.Core.Path.{_≡_, refl, sym, ap, _∙_}
 use mathlib.Core.Logic.{⊎-elim}
 use mathlib.Core.List.{List, [], _∷_}
-use mathlib.Core.Bool.{Bool, true, false, not, _&&_, _||_}
-use native.Mathlib.Numerals.{add-one}
+use mathlib.Core.Bool.{Bool, true, false, _&&_, _||_}
 use native.Mathlib.Omega.{arith}
-use lib.ListN.{length, getD, drop, take, length-drop}
+use lib.ListN.{length, drop, take, length-drop}
 use lib.Seq.{drop-drop, take-all, take-nil}
-use lib.Dec.{T, eqb, leb, ltb, leb→le}
-use borrow.Author.Tests.{eq-eqb, ne-eqb, eqb-true, eqb-false}
+use lib.Dec.{eqb, leb, ltb}
+use borrow.Author.Tests.{eq-eqb, ne-eqb}
 use Rattle.model.specs.Bytes.{Bytes}
 use Rattle.model.specs.Choice.{pick, Maybe, nothing, just, andThen}
 use Rattle.model.specs.Lists.{isNil}
@@ -32,7 +31,7 @@ use Rattle.signs.specs.declared.Sign.{Sign as SignData}
 use Rattle.signs.specs.declared.Sign.the-variants as sign
 use Rattle.signs.specs.declared.SignRead.{SignRead}
 use Rattle.signs.specs.declared.SignRead.the-variants as read
-use Rattle.signs.specs.Reads.{isBlank, isWordy, signOf, gotOf, signsFrom, First, first, firstOf}
+use Rattle.signs.specs.Reads.{isBlank, isWordy, signOf, gotOf, signsFrom, first, firstOf}
 
 pub and-false : (a : Bool) → (a && false) ≡ false
 and-false true = refl

@@ -8,12 +8,9 @@ use lib.Dec.{T, eqb}
 use Rattle.model.specs.Bytes.{Bytes}
 use Rattle.model.specs.Choice.{Maybe, nothing, just}
 use Rattle.model.specs.Words.{Got}
-use Rattle.model.specs.Values.{Value}
-use Rattle.model.specs.Signs.{Sign, word, whole, text, mark, broken, chainBehind, wordy, signs, signName, signValue, next, expect}
-use Rattle.model.specs.QueryText.{Relation}
-use Rattle.model.specs.Answers.{nameAt, relationOf, valueOf}
+use Rattle.model.specs.Signs.{Sign, word, whole, text, mark, broken, chainBehind, wordy, signs}
+use Rattle.model.specs.Answers.{nameAt}
 use Rattle.model.specs.Places.{placed, Bracket, bracketOf, Standing, value as valueAt, variableAt, standings}
-use Rattle.model.specs.declared.Part.{Part}
 use Rattle.text.specs.declared.End.{End}
 use Rattle.text.specs.declared.End.the-variants as end
 use Rattle.signs.specs.declared.Sign.{Sign as SignData}

@@ -2,9 +2,8 @@
 ghost use mathlib.Core.Path.{_≡_};
 ghost use mathlib.Core.Bool.{_&&_};
 ghost use Prim.Native.Nat.{_+_, _*_, _<_};
-ghost use lib.ListN.{length, getD, drop};
+ghost use lib.ListN.{length, drop};
 ghost use Rattle.model.specs.Signs.{markAt};
-ghost use Rattle.text.specs.Places.{peekAt};
 ghost use Rattle.signs.specs.Marks.{isSingle, isPair, isArrow, markGot, markSize};
 use text::bytes;
 

@@ -1,28 +1,25 @@
 -- A store of a line's words adds the line: the words then hold the book with it.
-use Prim.Native.Nat.{ℕ, _+_, _*_, _/_, _%_, _≤_, _<_}
-use mathlib.Core.Path.{_≡_, refl, sym, ap, _∙_}
-use mathlib.Core.List.{List, [], _∷_, _++_, map}
-use mathlib.Core.Bool.{Bool, true, false}
+use Prim.Native.Nat.{ℕ, _+_, _/_, _%_, _<_}
+use mathlib.Core.Path.{_≡_, ap, _∙_}
+use mathlib.Core.List.{List, [], _∷_, _++_}
+use mathlib.Core.Bool.{false}
 use native.Mathlib.Omega.{arith}
 use lib.ListN.{length, set, length-set}
 use lib.Seq.{getD-set-same, getD-set-other}
 use Rattle.model.specs.Bytes.{Bytes}
-use Rattle.model.specs.Names.{mem, place}
-use Rattle.model.specs.Values.{Kind, Entry}
-use Rattle.model.specs.Book.{Attr, Node, Rel, Book, attrNames, nodeNames, entryCount}
-use Rattle.model.specs.BookLines.{label, vattr, eattr, node, rel}
+use Rattle.model.specs.Names.{mem}
+use Rattle.model.specs.Book.{Attr, Book, attrNames, entryCount}
+use Rattle.model.specs.BookLines.{label, vattr, eattr}
 use Rattle.model.specs.ReadBook.{addLine}
 use Rattle.tables.specs.declared.BookCounts.{BookCounts}
-use Rattle.tables.specs.Listed.{listed}
-use Rattle.tables.specs.Layout.{vattrNames, eattrNames, typesBehind, labelNames, nodeNames as nodesAt, nodeEntries, relationships, relationshipEntries, entries}
-use Rattle.tables.specs.View.{wordAt, nameIn, nameOf, namesAt, kindIn, attrsAt, nodeOf, relOf, bookAt}
-use Rattle.tables.specs.Fits.{Inside, NamesFit, EntriesFit, RelFits, Within, Fits, Holds}
-use Rattle.tables.specs.Stores.{moreVattrs, moreEattrs, moreLabels, moreNodes, moreRels, withAttr, withLabel, withNode, withRel, ownEntries, EntriesStored}
-use Rattle.tables.proofs.ListedLaws.{listed-more, map-end, sum-end}
-use Rattle.tables.proofs.NameLaws.{names-end, names-fit-more, attr-names, node-names}
+use Rattle.tables.specs.Layout.{vattrNames, eattrNames, typesBehind, labelNames, relationships, entries}
+use Rattle.tables.specs.View.{wordAt, nameIn, nameOf, namesAt, kindIn, attrsAt, bookAt}
+use Rattle.tables.specs.Fits.{Inside, NamesFit, Fits, Holds}
+use Rattle.tables.specs.Stores.{moreVattrs, moreEattrs, moreLabels, withAttr, withLabel}
+use Rattle.tables.proofs.NameLaws.{names-end, names-fit-more, attr-names}
 use Rattle.tables.specs.Agree.{Free, Agree}
 use Rattle.tables.proofs.AgreeLaws.{set-agrees, agree-trans, book-kept, fits-kept}
-use Rattle.tables.proofs.Grow.{entries-fit-more, rel-fits-more, attrs-end, own-entries, own-fit}
+use Rattle.tables.proofs.Grow.{entries-fit-more, rel-fits-more, attrs-end}
 
 -- a name word that is new among the names at an offset
 pub record NewName (text : Bytes) (names : List Bytes) (w : ℕ) : Type 0 where

@@ -1,19 +1,18 @@
 -- Words that agree on all that is counted hold the same book, and on the chains have the same chains; so a store to a word that is neither changes nothing.
-use Prim.Native.Nat.{ℕ, _+_, _*_, _/_, _%_, _≤_, _<_}
+use Prim.Native.Nat.{ℕ, _+_, _*_, _/_, _≤_, _<_}
 use mathlib.Core.Path.{_≡_, refl, sym, ap, _∙_}
 use mathlib.Core.List.{List}
 use native.Mathlib.Omega.{arith}
 use lib.ListN.{length, set, length-set}
 use lib.Seq.{getD-set-other}
 use Rattle.model.specs.Bytes.{Bytes}
-use Rattle.model.specs.Book.{Book, entryCount}
+use Rattle.model.specs.Book.{entryCount}
 use Rattle.chains.specs.Chains.{Chained}
 use Rattle.chains.specs.Slots.{slotOf}
 use Rattle.chains.proofs.ChainLaws.{chained-kept}
 use Rattle.tables.specs.declared.BookCounts.{BookCounts}
-use Rattle.tables.specs.Listed.{listed}
 use Rattle.tables.specs.Layout.{vattrNames, eattrNames, typesBehind, labelNames, nodeNames, nodeEntries, relationships, relationshipEntries, entries, nodeHeads, nodeLinks, fromHeads, fromLinks, keys, bookWords}
-use Rattle.tables.specs.View.{wordAt, startPart, countPart, nameOf, namesAt, attrOf, attrsAt, entryHead, entryOf, entriesFrom, entriesIn, nodeOf, labelPart, fromPart, toPart, relWord, nodeSlot, relFrom, relOf, bookAt}
+use Rattle.tables.specs.View.{wordAt, startPart, countPart, nameOf, namesAt, attrOf, attrsAt, entryHead, entryOf, entriesFrom, entriesIn, nodeOf, labelPart, fromPart, relWord, nodeSlot, relFrom, relOf, bookAt}
 use Rattle.tables.specs.Fits.{NamesFit, EntryFits, EntriesFit, RelFits, Within, Fits}
 use Rattle.tables.specs.Agree.{Free, At, TablesAgree, Agree}
 use Rattle.tables.proofs.ListedLaws.{listed-same}

@@ -1,6 +1,6 @@
 -- What fits under some counts fits under greater ones; and entries stored one after another.
 use Prim.Native.Nat.{ℕ, _+_, _*_, _/_, _%_, _≤_, _<_}
-use mathlib.Core.Path.{_≡_, refl, sym, ap, _∙_}
+use mathlib.Core.Path.{_≡_}
 use mathlib.Core.List.{List, [], _∷_, _++_}
 use native.Mathlib.Omega.{arith}
 use lib.ListN.{length, length-append}
@@ -9,7 +9,7 @@ use Rattle.model.specs.Bytes.{Bytes}
 use Rattle.model.specs.Values.{Entry}
 use Rattle.tables.specs.declared.BookCounts.{BookCounts}
 use Rattle.tables.specs.Layout.{typesBehind, entries}
-use Rattle.tables.specs.View.{wordAt, startPart, countPart, nameOf, kindIn, attrOf, attrsAt, entryOf, entriesFrom, entriesIn}
+use Rattle.tables.specs.View.{wordAt, startPart, nameOf, kindIn, attrOf, attrsAt, entryOf, entriesFrom, entriesIn}
 use Rattle.tables.specs.Fits.{EntryFits, EntriesFit, RelFits}
 use Rattle.tables.specs.Stores.{EntriesStored, ownEntries}
 use Rattle.tables.proofs.ListedLaws.{listed-more}

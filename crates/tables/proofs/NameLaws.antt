@@ -4,7 +4,7 @@ use mathlib.Core.Path.{_≡_, refl, sym, ap, _∙_, subst}
 use mathlib.Core.List.{List, [], _∷_, _++_}
 use mathlib.Core.Bool.{Bool, true, false}
 use native.Mathlib.Omega.{arith}
-use lib.ListN.{length, getD, take, drop}
+use lib.ListN.{length, take, drop}
 use lib.Dec.{T, ltb}
 use borrow.Author.Tests.{lt-ltb, le-ltb}
 use Rattle.facts.specs.Tests.{either, equal-or-not, below-or-not, passes→true}
@@ -15,7 +15,7 @@ use Rattle.model.specs.Answers.{partOf}
 use Rattle.chains.specs.Slots.{slotOf}
 use Rattle.model.proofs.Decides.{same→eq, same-refl}
 use Rattle.tables.specs.Listed.{listed}
-use Rattle.model.specs.Book.{Book, attrNames, nodeNames}
+use Rattle.model.specs.Book.{attrNames, nodeNames}
 use Rattle.tables.specs.declared.BookCounts.{BookCounts}
 use Rattle.tables.specs.Layout as layout
 use Rattle.tables.specs.View.{wordAt, nameIn, nameOf, namesAt, attrOf, attrsAt, nodeOf, bookAt}

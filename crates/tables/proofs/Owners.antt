@@ -1,14 +1,13 @@
 -- A store of a node or a relationship, behind the store of its entries, adds its line.
-use Prim.Native.Nat.{ℕ, _+_, _*_, _/_, _%_, _≤_, _<_}
-use mathlib.Core.Path.{_≡_, refl, sym, ap, _∙_}
+use Prim.Native.Nat.{ℕ, _+_, _*_, _≤_, _<_}
+use mathlib.Core.Path.{_≡_, sym, ap, _∙_}
 use mathlib.Core.Logic.{_≢_}
-use mathlib.Core.List.{List, [], _∷_, _++_, map}
+use mathlib.Core.List.{List, [], _∷_, _++_}
 use native.Mathlib.Omega.{arith}
 use lib.ListN.{length, set, length-set}
 use lib.Seq.{getD-set-same, getD-set-other}
 use Rattle.facts.specs.Tests.{either, equal-or-not}
 use Rattle.model.specs.Bytes.{Bytes}
-use Rattle.model.specs.Lists.{sum}
 use Rattle.model.specs.Names.{place}
 use Rattle.model.specs.Values.{Entry}
 use Rattle.model.specs.Book.{Node, Rel, Book, nodeNames, entryCount}
@@ -19,10 +18,9 @@ use Rattle.chains.specs.Slots.{slotOf}
 use Rattle.chains.proofs.ChainLaws.{length-linked, linked-apart, linked-chained, chained-kept}
 use Rattle.chains.proofs.SlotLaws.{slot-small}
 use Rattle.tables.specs.declared.BookCounts.{BookCounts}
-use Rattle.tables.specs.Listed.{listed}
 use Rattle.tables.specs.Layout.{vattrNames, eattrNames, labelNames, nodeNames as nodesAt, nodeEntries, relationships, relationshipEntries, entries, nodeHeads, nodeLinks, fromHeads, fromLinks, keys}
-use Rattle.tables.specs.View.{wordAt, nameIn, nameOf, entriesFrom, entriesIn, nodeOf, labelPart, fromPart, toPart, nodeSlot, relFrom, relOf, bookAt}
-use Rattle.tables.specs.Fits.{EntriesFit, RelFits, Fits, Holds}
+use Rattle.tables.specs.View.{wordAt, nameIn, nameOf, entriesFrom, nodeOf, labelPart, fromPart, toPart, nodeSlot, relFrom, relOf, bookAt}
+use Rattle.tables.specs.Fits.{Holds}
 use Rattle.tables.specs.Stores.{moreNodes, moreRels, nodeStored, withNode, relStored, withRel, ownEntries, EntriesStored}
 use Rattle.tables.proofs.ListedLaws.{listed-more, listed-same, map-end, sum-end}
 use Rattle.tables.proofs.NameLaws.{names-fit-more, node-names}

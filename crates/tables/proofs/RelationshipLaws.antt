@@ -1,6 +1,6 @@
 -- A relationship is there already exactly if its word is.
-use Prim.Native.Nat.{ℕ, _+_, _*_, _/_, _%_, _≤_, _<_}
-use mathlib.Core.Path.{_≡_, refl, sym, ap, _∙_}
+use Prim.Native.Nat.{ℕ, _+_, _*_, _<_}
+use mathlib.Core.Path.{_≡_, refl, sym, ap}
 use mathlib.Core.List.{List}
 use mathlib.Core.Bool.{Bool, true, false, _&&_}
 use native.Mathlib.Omega.{arith}
@@ -8,11 +8,9 @@ use lib.Dec.{eqb}
 use borrow.Author.Tests.{eq-eqb, eqb-true}
 use Rattle.facts.specs.Tests.{either, equal-or-not}
 use Rattle.model.specs.Bytes.{Bytes, same}
-use Rattle.model.specs.Lists.{any}
 use Rattle.model.specs.Book.{Rel}
 use Rattle.model.specs.ReadBook.{related}
 use Rattle.tables.specs.declared.BookCounts.{BookCounts}
-use Rattle.tables.specs.Listed.{listed}
 use Rattle.tables.specs.Layout.{labelNames}
 use Rattle.tables.specs.View.{nameOf, labelPart, fromPart, toPart, relWord, relFrom, relOf, bookAt}
 use Rattle.tables.specs.Fits.{Fits}

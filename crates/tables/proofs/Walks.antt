@@ -1,10 +1,9 @@
 -- Walks along the chains: of the nodes in a name's slot, for the node of that name; of the relationships that leave a node, for one that runs to another.
-use Prim.Native.Nat.{ℕ, suc, _+_, _*_, _-_, _/_, _%_, _≤_, _<_}
+use Prim.Native.Nat.{ℕ, suc, _+_, _*_, _-_, _<_}
 use mathlib.Core.Path.{_≡_, sym, ap, _∙_}
 use mathlib.Core.Bool.{Bool, true, false}
 use mathlib.Core.List.{List}
 use native.Mathlib.Omega.{arith}
-use lib.ListN.{length}
 use Rattle.chains.specs.Chains.{Walked}
 use Rattle.chains.specs.Slots.{slotOf}
 use Rattle.chains.proofs.ChainLaws.{walk-first, walk-inside, walk-next, walk-falls, walk-over}
@@ -14,9 +13,9 @@ use Rattle.model.specs.Names.{place}
 use Rattle.model.specs.Book.{nodeNames}
 use Rattle.model.specs.ReadBook.{related}
 use Rattle.tables.specs.declared.BookCounts.{BookCounts}
-use Rattle.tables.specs.Layout.{labelNames, nodeNames as nodesAt, nodeHeads, nodeLinks, fromHeads, fromLinks, keys, bookWords}
+use Rattle.tables.specs.Layout.{labelNames, nodeNames as nodesAt, nodeHeads, nodeLinks, fromHeads, fromLinks, keys}
 use Rattle.tables.specs.View.{wordAt, nameIn, nameOf, relWord, nodeSlot, relFrom, relOf, bookAt}
-use Rattle.tables.specs.Fits.{Inside, Fits}
+use Rattle.tables.specs.Fits.{Fits}
 use Rattle.tables.proofs.NameLaws.{node-names, found-only, found-none-in-slot}
 use Rattle.tables.proofs.RelationshipLaws.{runsBetween, runs-no, related-here, related-not}
 

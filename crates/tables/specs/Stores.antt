@@ -8,7 +8,7 @@ use Rattle.model.specs.Values.{Entry}
 use Rattle.chains.specs.Chains.{cleared, linked}
 use Rattle.chains.specs.Slots.{slotOf}
 use Rattle.tables.specs.declared.BookCounts.{BookCounts}
-use Rattle.tables.specs.Layout.{vattrNames, eattrNames, typesBehind, labelNames, nodeNames, nodeEntries, relationships, relationshipEntries, entries, nodeHeads, nodeLinks, fromHeads, fromLinks, keys}
+use Rattle.tables.specs.Layout.{typesBehind, labelNames, nodeNames, nodeEntries, relationships, relationshipEntries, entries, nodeHeads, nodeLinks, fromHeads, fromLinks, keys}
 use Rattle.tables.specs.View.{nameIn, entriesFrom, fromPart}
 use Rattle.tables.specs.Fits.{EntryFits}
 

@@ -3,7 +3,7 @@ ghost use mathlib.Core.Path.{_≡_};
 ghost use Prim.Native.Nat.{_+_, _*_, _/_, _%_, _≤_, _<_};
 ghost use lib.ListN.{length};
 ghost use Rattle.tables.specs.Fits.{Inside};
-ghost use Rattle.tables.specs.Stores.{moreVattrs, moreEattrs, moreLabels, moreNodes, moreRels, withoutChains, withAttr, withLabel, withNode, withRel, withEntry, ownEntries};
+ghost use Rattle.tables.specs.Stores.{moreLabels, moreNodes, moreRels, withoutChains, withAttr, withLabel, withNode, withRel, withEntry};
 use crate::BookCounts;
 use crate::ENTRIES;
 use crate::FROM_HEADS;

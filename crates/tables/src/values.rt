@@ -1,6 +1,6 @@
 // Values in words, and their types.
 ghost use mathlib.Core.Path.{_≡_};
-ghost use Prim.Native.Nat.{_<_, _^_};
+ghost use Prim.Native.Nat.{_<_};
 ghost use Rattle.model.specs.Bytes.{Bytes};
 ghost use Rattle.model.specs.Values.{ofKind};
 ghost use Rattle.model.specs.Answers.{valueOf};

@@ -3,8 +3,8 @@ ghost use mathlib.Core.Path.{_≡_};
 ghost use mathlib.Core.Bool.{true, false};
 ghost use Prim.Native.Nat.{_+_};
 ghost use lib.ListN.{drop};
-ghost use Rattle.model.specs.Words.{isDigit, digitsAt, wholeAt};
-ghost use Rattle.text.specs.Places.{past, numberOf, digitsOf};
+ghost use Rattle.model.specs.Words.{digitsAt, wholeAt};
+ghost use Rattle.text.specs.Places.{numberOf, digitsOf};
 use crate::NumberRead;
 use crate::bytes;
 

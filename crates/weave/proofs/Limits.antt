@@ -16,7 +16,6 @@ use Rattle.model.specs.Graph.{Each}
 use Rattle.model.specs.Weave.{Asked, movedEdge, movedClause, isExcluded, wovenTooMany, weave, WovenPattern, firstVertices}
 use Rattle.weave.specs.OneMore.{underNames, moreVertices, oneMore}
 use Rattle.woven.proofs.Kept.{keep-append}
-use Rattle.model.proofs.FirstNames.{firsts-grow}
 use Rattle.weave.proofs.OneMore.{Sound, weave-keeps}
 use Rattle.woven.proofs.Places.{vertices-grow}
 

@@ -22,7 +22,6 @@ use Rattle.model.proofs.ByNodes.{NamedIn, Named}
 use Rattle.model.proofs.Chains.{chain-ends}
 use Rattle.model.proofs.Places.{at-place, getD-in, length-map}
 use Rattle.weave.specs.OneMore.{underNames, moreVertices, oneMore, ClauseWithin, Ranged}
-use Rattle.model.proofs.FirstNames.{firsts-grow}
 use Rattle.weave.proofs.OneMore.{Sound, ranged-under, weave-keeps}
 use Rattle.model.proofs.WovenVertices.{at-vertex, first-vertices-i}
 use Rattle.woven.proofs.Places.{vertices-grow}

@@ -1,7 +1,6 @@
 -- Cleared words, by computation. Assumes nothing.
-use Prim.Native.Nat.{ℕ}
 use mathlib.Core.Path.{_≡_, refl}
-use mathlib.Core.List.{List, [], _∷_}
+use mathlib.Core.List.{[], _∷_}
 use Rattle.words.specs.Filled.{filled}
 
 from-the-second-on : filled 1 (7 ∷ 8 ∷ 9 ∷ []) ≡ 7 ∷ 4294967295 ∷ 4294967295 ∷ []

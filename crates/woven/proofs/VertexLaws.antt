@@ -15,7 +15,7 @@ use Rattle.model.specs.Answers.{partOf, nameAt}
 use Rattle.model.specs.Weave.{WovenVertex, sameVertex, placeVertex, firstVertices, noVertex, weaveVertex}
 use Rattle.model.specs.declared.Part.{Part}
 use Rattle.model.proofs.Members.{_∈_}
-use Rattle.model.proofs.FirstNames.{firsts-grow, firstsBy-append}
+use Rattle.model.proofs.FirstNames.{firstsBy-append}
 use Rattle.model.proofs.Places.{getD-in, getD-map, length-map}
 use Rattle.tables.proofs.ListedLaws.{listed-more, listed-same, length-listed}
 use Rattle.woven.specs.declared.vertices.Placed.{Placed}

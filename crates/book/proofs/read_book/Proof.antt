@@ -1,7 +1,6 @@
 use Rattle.book.proofs.WholeLaws.{service-little, service-loaded, service-refused}
 use Rattle.book.proofs.LoadLaws.{filled-all}
 use mathlib.Core.Path.{refl}
-use native.Mathlib.Omega.{arith}
 use borrow.Author.Needs.{needs}
 use Rattle.book.proofs.read_book.Statement.{statement}
 use Rattle.book.proofs.read_book.Tie as tie
@@ -10,47 +9,36 @@ use Rattle.book.proofs.read_book.Lts as lts
 use Rattle.book.proofs.load.load.Reads as load-reads
 use Rattle.words.proofs.fill.Reads as fill-reads
 
--- src/lib.rt:37:9
 fill-requires : tie.Need-fill-requires
 fill-requires c κs = search needs
 
--- src/lib.rt:38:9
 same-length : tie.Need-same-length
 same-length c = search needs
 
--- src/lib.rt:38:9
 returns : tie.Need-returns
 returns c = (service-little _ (c .before .before .before .before .before .before .before .args .book .now) (c .before .before .before .before .if1 .taken) _ refl, filled-all (c .before .before .before .before .before .before .before .args .work .now) _ _ (c .before .before .fill .ensures) (search needs))
 
--- src/lib.rt:44:9
 load-requires : tie.Need-load-requires
 load-requires c κs = search needs
 
--- src/lib.rt:45:5
 fill-requires-2 : tie.Need-fill-requires-2
 fill-requires-2 c κs = search needs
 
--- src/lib.rt:47:26
 enum-known-read : tie.Need-enum-known-read
 enum-known-read c = search needs
 
--- src/lib.rt:50:27
 enum-known-read-2 : tie.Need-enum-known-read-2
 enum-known-read-2 c = search needs
 
--- src/lib.rt:32:1
 same-length-2 : tie.Need-same-length-2
 same-length-2 c = search needs
 
--- src/lib.rt:32:1
 returns-2 : tie.Need-returns-2
 returns-2 c = (service-loaded _ (c .before .before .before .before .before .before .before .before .before .before .before .before .before .before .args .book .now) (c .before .before .before .before .before .before .before .before .before .before .before .if1 .left) _ _ (c .before .before .before .before .before .before .before .before .before .load .ensures) _ (c .before .read .given .1), filled-all (c .before .before .before .before .before .before .before .before .before .before .before .before .before .before .args .work .now) _ _ (c .before .before .before .before .before .fill2 .ensures) (search needs))
 
--- src/lib.rt:32:1
 same-length-3 : tie.Need-same-length-3
 same-length-3 c = search needs
 
--- src/lib.rt:32:1
 returns-3 : tie.Need-returns-3
 returns-3 c = (service-refused _ (c .before .before .before .before .before .before .before .before .before .before .before .before .before .before .args .book .now) (c .before .before .before .before .before .before .before .before .before .before .before .if1 .left) _ _ (c .before .before .before .before .before .before .before .before .before .load .ensures) _ (c .before .read2 .given .1), filled-all (c .before .before .before .before .before .before .before .before .before .before .before .before .before .before .args .work .now) _ _ (c .before .before .before .before .before .fill2 .ensures) (search needs))
 

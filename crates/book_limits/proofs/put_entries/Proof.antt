@@ -1,5 +1,5 @@
 use borrow.Author.Needs.{needs}
-use Prim.Native.Nat.{_≤_, _-_}
+use Prim.Native.Nat.{_-_}
 use lib.ListN.{length}
 use mathlib.Core.Path.{_≡_}
 use Rattle.book_limits.proofs.put_entries.Statement.{statement}
@@ -15,43 +15,33 @@ Inv-loop text₀ next₀ i₀ text next i = length text ≡ length text₀
 abbrev μ-loop : tie.MeasureT-loop
 μ-loop text₀ next₀ i₀ text next i = 64 - i
 
--- src/main.rt:85:46
 slice-aggregate-put-lines : tie.Need-slice-aggregate-put-lines Inv-loop μ-loop
 slice-aggregate-put-lines c = search needs
 
--- src/main.rt:85:59
 slice-aggregate-put-lines-2 : tie.Need-slice-aggregate-put-lines-2 Inv-loop μ-loop
 slice-aggregate-put-lines-2 c = search needs
 
--- src/main.rt:85:9
 put-lines-requires : tie.Need-put-lines-requires Inv-loop μ-loop
 put-lines-requires c κs = search needs
 
--- src/main.rt:86:5
 loop-holds : tie.Need-loop-holds Inv-loop μ-loop
 loop-holds c = search needs
 
--- src/main.rt:87:9
 put-owner-requires : tie.Need-put-owner-requires Inv-loop μ-loop
 put-owner-requires c κs = search needs
 
--- src/main.rt:86:9
 add-i : tie.Need-add-i Inv-loop μ-loop
 add-i c = search needs
 
--- src/main.rt:86:5
 loop-less : tie.Need-loop-less Inv-loop μ-loop
 loop-less c = search needs
 
--- src/main.rt:86:5
 loop-again : tie.Need-loop-again Inv-loop μ-loop
 loop-again c = search needs
 
--- src/main.rt:84:1
 same-length : tie.Need-same-length Inv-loop μ-loop
 same-length c = search needs
 
--- src/main.rt:84:1
 returns : tie.Need-returns Inv-loop μ-loop
 returns c = search needs
 

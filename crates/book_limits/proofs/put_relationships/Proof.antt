@@ -1,5 +1,5 @@
 use borrow.Author.Needs.{needs}
-use Prim.Native.Nat.{_≤_, _-_}
+use Prim.Native.Nat.{_-_}
 use lib.ListN.{length}
 use mathlib.Core.Path.{_≡_}
 use Rattle.book_limits.proofs.put_relationships.Statement.{statement}
@@ -17,71 +17,54 @@ Inv-loop text₀ count labelled next₀ i₀ t11 t12 t13 text next i = length te
 abbrev μ-loop : tie.MeasureT-loop
 μ-loop text₀ count labelled next₀ i₀ t11 t12 t13 text next i = count - i
 
--- src/main.rt:66:33
 slice-aggregate-put : tie.Need-slice-aggregate-put Inv-loop μ-loop
 slice-aggregate-put c = search needs
 
--- src/main.rt:66:9
 put-requires : tie.Need-put-requires Inv-loop μ-loop
 put-requires c κs = search needs
 
--- src/main.rt:67:52
 slice-aggregate-put-lines : tie.Need-slice-aggregate-put-lines Inv-loop μ-loop
 slice-aggregate-put-lines c = search needs
 
--- src/main.rt:67:64
 slice-aggregate-put-lines-2 : tie.Need-slice-aggregate-put-lines-2 Inv-loop μ-loop
 slice-aggregate-put-lines-2 c = search needs
 
--- src/main.rt:67:9
 put-lines-requires : tie.Need-put-lines-requires Inv-loop μ-loop
 put-lines-requires c κs = search needs
 
--- src/main.rt:68:5
 loop-holds : tie.Need-loop-holds Inv-loop μ-loop
 loop-holds c = search needs
 
--- src/main.rt:69:41
 slice-aggregate-put-line : tie.Need-slice-aggregate-put-line Inv-loop μ-loop
 slice-aggregate-put-line c = search needs
 
--- src/main.rt:69:67
 slice-aggregate-put-line-2 : tie.Need-slice-aggregate-put-line-2 Inv-loop μ-loop
 slice-aggregate-put-line-2 c = search needs
 
--- src/main.rt:69:13
 put-line-requires : tie.Need-put-line-requires Inv-loop μ-loop
 put-line-requires c κs = search needs
 
--- src/main.rt:70:13
 put-digits-requires : tie.Need-put-digits-requires Inv-loop μ-loop
 put-digits-requires c κs = search needs
 
--- src/main.rt:71:30
 slice-aggregate-put-2 : tie.Need-slice-aggregate-put-2 Inv-loop μ-loop
 slice-aggregate-put-2 c = search needs
 
--- src/main.rt:71:9
 put-requires-2 : tie.Need-put-requires-2 Inv-loop μ-loop
 put-requires-2 c κs = search needs
 
--- src/main.rt:68:9
 add-i : tie.Need-add-i Inv-loop μ-loop
 add-i c = search needs
 
--- src/main.rt:68:5
 loop-less : tie.Need-loop-less Inv-loop μ-loop
 loop-less c = search needs
 
--- src/main.rt:68:5
 loop-again : tie.Need-loop-again Inv-loop μ-loop
 loop-again c = search needs
 
--- src/main.rt:65:1
 same-length : tie.Need-same-length Inv-loop μ-loop
 same-length c = search needs
 
--- src/main.rt:65:1
 returns : tie.Need-returns Inv-loop μ-loop
 returns c = search needs
 

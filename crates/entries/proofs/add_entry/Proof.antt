@@ -3,7 +3,7 @@ use Rattle.entries.proofs.EntryLaws.{part-slice, entry-undeclared, entr
 use Rattle.tables.specs.View.{namesAt}
 use Rattle.model.specs.Names.{place}
 use Rattle.model.specs.Bytes.{Bytes}
-use mathlib.Core.Path.{sym, ap, _∙_, refl}
+use mathlib.Core.Path.{ap, _∙_}
 use native.Mathlib.Omega.{arith}
 use borrow.Author.Needs.{needs}
 use Rattle.entries.proofs.add_entry.Statement.{statement}
@@ -18,91 +18,69 @@ use Rattle.entries.proofs.put_entry.Reads as put-entry-reads
 use Rattle.tables.proofs.names.find_name.Reads as find-name-reads
 use Rattle.tables.proofs.values.of_kind.Reads as of-kind-reads
 
--- src/lib.rt:92:15
 add-end : tie.Need-add-end
 add-end c = omega (arith, c .before .before .before .pre .name-inside, c .before .before .before .pre .short)
 
--- src/lib.rt:93:77
 sub-find-name : tie.Need-sub-find-name
 sub-find-name c = search needs
 
--- src/lib.rt:93:77
 part-find-name-start : tie.Need-part-find-name-start
 part-find-name-start c = search needs
 
--- src/lib.rt:93:77
 part-find-name-end : tie.Need-part-find-name-end
 part-find-name-end c = omega (arith, c .before .before .before .before .pre .name-inside)
 
--- src/lib.rt:93:9
 find-name-requires : tie.Need-find-name-requires
 find-name-requires c κs = (c .before .before .before .before .before .pre .table .names, omega (arith, c .before .before .before .before .before .pre .table .low, c .before .before .before .before .before .pre .table .few, c .before .before .before .before .before .pre .fits .room))
 
--- src/lib.rt:98:20
 add-t21 : tie.Need-add-t21
 add-t21 c = omega (arith, c .before .before .before .before .before .before .before .before .pre .counted)
 
--- src/lib.rt:95:9
 same-length : tie.Need-same-length
 same-length c = search needs
 
--- src/lib.rt:95:9
 returns : tie.Need-returns
 returns c = entry-undeclared (c .before .before .before .before .before .before .before .before .args .text .now) (c .before .before .before .before .before .before .before .before .args .words .now) (c .before .before .before .before .before .before .before .before .args .counts) (c .before .before .before .before .before .before .before .before .args .offset) (c .before .before .before .before .before .before .before .before .args .declared) (c .before .before .before .before .before .before .before .before .args .name) (c .before .before .before .before .before .before .before .before .args .value) (c .before .before .before .before .before .before .before .before .args .known) (c .before .before .before .before .before .before .before .before .pre) _ (c .before .before .find-name .ensures ∙ ap (λ (w : Bytes). place w (namesAt (c .before .before .before .before .before .before .before .before .args .text .now) (c .before .before .before .before .before .before .before .before .args .words .now) (c .before .before .before .before .before .before .before .before .args .offset) (c .before .before .before .before .before .before .before .before .args .declared))) (part-slice (c .before .before .before .before .before .before .before .before .args .text .now) (c .before .before .before .before .before .before .before .before .args .name))) (c .before .if1 .taken)
 
--- src/lib.rt:101:22
 add-kind : tie.Need-add-kind
 add-kind c = search needs
 
--- src/lib.rt:101:22
 add-kind-2 : tie.Need-add-kind-2
 add-kind-2 c = search needs
 
--- src/lib.rt:101:16
 mul-kind : tie.Need-mul-kind
 mul-kind c = search needs
 
--- src/lib.rt:101:16
 slice-read-kind : tie.Need-slice-read-kind
 slice-read-kind c = omega (arith, c .before .before .before .before .before .before .before .before .pre .table .low, c .before .before .before .before .before .before .before .before .pre .table .few, c .before .before .before .before .before .before .before .before .pre .fits .room)
 
--- src/lib.rt:102:33
 has-requires : tie.Need-has-requires
 has-requires c κs = omega (arith, c .before .before .before .before .before .before .before .before .pre .table .few)
 
--- src/lib.rt:102:67
 of-kind-requires : tie.Need-of-kind-requires
 of-kind-requires c κs = search needs
 
--- src/lib.rt:102:9
 entry-fault-requires : tie.Need-entry-fault-requires
 entry-fault-requires c κs = search needs
 
--- src/lib.rt:103:22
 add-put-entry : tie.Need-add-put-entry
 add-put-entry c = omega (arith, c .before .before .before .before .before .before .before .before .before .before .before .before .before .before .pre .counted, c .before .before .before .before .before .before .before .before .before .before .before .before .before .before .pre .fits .within .entries)
 
--- src/lib.rt:103:5
 put-entry-requires : tie.Need-put-entry-requires
 put-entry-requires c κs = record { room = c .before .before .before .before .before .before .before .before .before .before .before .before .before .before .pre .fits .room; declared = omega (arith, c .before .before .before .before .before .before .before .before .before .before .before .before .before .before .pre .table .few); short = ends-later _ 65536 (c .before .before .before .before .before .before .before .before .before .before .before .before .before .before .pre .short) (c .before .before .before .before .before .before .before .before .before .before .before .before .before .before .args .value) (c .before .before .before .before .before .before .before .before .before .before .before .before .before .before .pre .value-inside) }
 
--- src/lib.rt:105:16
 lower-fault-requires : tie.Need-lower-fault-requires
 lower-fault-requires c κs = search needs
 
--- src/lib.rt:106:15
 with-requires : tie.Need-with-requires
 with-requires c κs = omega (arith, c .before .before .before .before .before .before .before .before .before .before .before .before .before .before .before .before .before .before .pre .table .few, c .before .before .before .before .before .before .before .before .before .before .before .if1 .left)
 
--- src/lib.rt:107:16
 add-t17 : tie.Need-add-t17
 add-t17 c = omega (arith, c .before .before .before .before .before .before .before .before .before .before .before .before .before .before .before .before .before .before .before .before .pre .counted)
 
--- src/lib.rt:78:1
 same-length-2 : tie.Need-same-length-2
 same-length-2 c = search needs
 
--- src/lib.rt:78:1
 returns-2 : tie.Need-returns-2
 returns-2 c = rw (c .before .before .lower-fault .ensures, c .before .before .before .before .before .before .before .before .before .entry-fault .ensures, c .before .with .ensures) (entry-declared (c .before .before .before .before .before .before .before .before .before .before .before .before .before .before .before .before .before .before .before .before .args .text .now) (c .before .before .before .before .before .before .before .before .before .before .before .before .before .before .before .before .before .before .before .before .args .words .now) (c .before .before .before .before .before .before .before .before .before .before .before .before .before .before .before .before .before .before .before .before .args .counts) (c .before .before .before .before .before .before .before .before .before .before .before .before .before .before .before .before .before .before .before .before .args .offset) (c .before .before .before .before .before .before .before .before .before .before .before .before .before .before .before .before .before .before .before .before .args .declared) (c .before .before .before .before .before .before .before .before .before .before .before .before .before .before .before .before .before .before .before .before .args .name) (c .before .before .before .before .before .before .before .before .before .before .before .before .before .before .before .before .before .before .before .before .args .value) (c .before .before .before .before .before .before .before .before .before .before .before .before .before .before .before .before .before .before .before .before .args .known) (c .before .before .before .before .before .before .before .before .before .before .before .before .before .before .before .before .before .before .before .before .pre) _ (c .before .before .before .before .before .before .before .before .before .before .before .before .before .before .find-name .ensures ∙ ap (λ (w : Bytes). place w (namesAt (c .before .before .before .before .before .before .before .before .before .before .before .before .before .before .before .before .before .before .before .before .args .text .now) (c .before .before .before .before .before .before .before .before .before .before .before .before .before .before .before .before .before .before .before .before .args .words .now) (c .before .before .before .before .before .before .before .before .before .before .before .before .before .before .before .before .before .before .before .before .args .offset) (c .before .before .before .before .before .before .before .before .before .before .before .before .before .before .before .before .before .before .before .before .args .declared))) (part-slice (c .before .before .before .before .before .before .before .before .before .before .before .before .before .before .before .before .before .before .before .before .args .text .now) (c .before .before .before .before .before .before .before .before .before .before .before .before .before .before .before .before .before .before .before .before .args .name))) (c .before .before .before .before .before .before .before .before .before .before .before .before .before .if1 .left) _ (c .before .before .before .before .before .put-entry .ensures) _ _ (c .before .before .before .before .before .before .before .before .before .before .before .has .ensures) (c .before .before .before .before .before .before .before .before .before .before .of-kind .ensures (c .before .before .before .before .before .before .before .before .before .before .before .before .before .before .before .before .before .before .before .before .args .text .now)))
 

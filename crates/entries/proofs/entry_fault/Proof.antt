@@ -1,21 +1,17 @@
 use Rattle.entries.specs.Faults.{entryFault}
-use borrow.Author.Needs.{needs}
 use Rattle.entries.proofs.entry_fault.Statement.{statement}
 use Rattle.entries.proofs.entry_fault.Tie as tie
 use Rattle.entries.proofs.entry_fault.Reads as reads
 use Rattle.entries.proofs.entry_fault.Lts as lts
 
--- src/lib.rt:34:9
 returns : tie.Need-returns
 unfolding entryFault
 returns c = rw (c .if1 .taken)
 
--- src/lib.rt:37:9
 returns-2 : tie.Need-returns-2
 unfolding entryFault
 returns-2 c = rw (c .before .if1 .left, c .if2 .taken)
 
--- src/lib.rt:30:1
 returns-3 : tie.Need-returns-3
 unfolding entryFault
 returns-3 c = rw (c .before .if1 .left, c .if2 .left)

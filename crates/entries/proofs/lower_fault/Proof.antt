@@ -1,27 +1,22 @@
 use Rattle.entries.specs.Faults.{lower}
 use borrow.Author.Tests.{eq-eqb, ne-eqb, lt-ltb, le-ltb}
-use borrow.Author.Needs.{needs}
 use Rattle.entries.proofs.lower_fault.Statement.{statement}
 use Rattle.entries.proofs.lower_fault.Tie as tie
 use Rattle.entries.proofs.lower_fault.Reads as reads
 use Rattle.entries.proofs.lower_fault.Lts as lts
 
--- src/lib.rt:49:9
 returns : tie.Need-returns
 unfolding lower
 returns c = rw (eq-eqb _ _ (c .if1 .taken))
 
--- src/lib.rt:52:9
 returns-2 : tie.Need-returns-2
 unfolding lower
 returns-2 c = rw (ne-eqb _ _ (c .before .if1 .left), eq-eqb _ _ (c .if2 .taken))
 
--- src/lib.rt:55:9
 returns-3 : tie.Need-returns-3
 unfolding lower
 returns-3 c = rw (ne-eqb _ _ (c .before .before .if1 .left), ne-eqb _ _ (c .before .if2 .left), lt-ltb _ _ (c .if3 .taken))
 
--- src/lib.rt:45:1
 returns-4 : tie.Need-returns-4
 unfolding lower
 returns-4 c = rw (ne-eqb _ _ (c .before .before .if1 .left), ne-eqb _ _ (c .before .if2 .left), le-ltb _ _ (c .if3 .left))

@@ -12,27 +12,21 @@ Inv-loop i₀ i = i ≤ 41
 abbrev μ-loop : tie.MeasureT-loop
 μ-loop i₀ i = 41 - i
 
--- src/main.rt:26:5
 loop-holds : tie.Need-loop-holds Inv-loop μ-loop
 loop-holds c = search needs
 
--- src/main.rt:27:9
 print-case-requires : tie.Need-print-case-requires Inv-loop μ-loop
 print-case-requires c κs = search needs
 
--- src/main.rt:28:9
 add-i : tie.Need-add-i Inv-loop μ-loop
 add-i c = search needs
 
--- src/main.rt:26:5
 loop-less : tie.Need-loop-less Inv-loop μ-loop
 loop-less c = search needs
 
--- src/main.rt:26:5
 loop-again : tie.Need-loop-again Inv-loop μ-loop
 loop-again c = search needs
 
--- src/main.rt:24:1
 returns : tie.Need-returns Inv-loop μ-loop
 returns c = search needs
 

@@ -8,31 +8,24 @@ use Rattle.printing.proofs.put_header.Lts as lts
 use Rattle.writer.proofs.bytes.put_bytes.Reads as put-bytes-reads
 use Rattle.writer.proofs.values.put_digits.Reads as put-digits-reads
 
--- src/lib.rt:25:31
 slice-aggregate-put-bytes : tie.Need-slice-aggregate-put-bytes
 slice-aggregate-put-bytes c = search needs
 
--- src/lib.rt:25:9
 put-bytes-requires : tie.Need-put-bytes-requires
 put-bytes-requires c κs = search needs
 
--- src/lib.rt:26:9
 put-digits-requires : tie.Need-put-digits-requires
 put-digits-requires c κs = search needs
 
--- src/lib.rt:27:22
 slice-aggregate-put-bytes-2 : tie.Need-slice-aggregate-put-bytes-2
 slice-aggregate-put-bytes-2 c = search needs
 
--- src/lib.rt:27:5
 put-bytes-requires-2 : tie.Need-put-bytes-requires-2
 put-bytes-requires-2 c κs = search needs
 
--- src/lib.rt:22:1
 same-length : tie.Need-same-length
 same-length c = puts-keeps-length (puts-then (puts-then (c .before .before .before .before .before .before .before .before .before .before .before .put-bytes .ensures) (c .before .before .before .before .before .before .before .put-digits .ensures)) (c .before .before .put-bytes2 .ensures))
 
--- src/lib.rt:22:1
 returns : tie.Need-returns
 unfolding headerText
 returns c = puts-then (puts-then (c .before .before .before .before .before .before .before .before .before .before .before .put-bytes .ensures) (c .before .before .before .before .before .before .before .put-digits .ensures)) (c .before .before .put-bytes2 .ensures)

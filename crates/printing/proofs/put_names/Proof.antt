@@ -21,43 +21,33 @@ Inv-loop book words counts row out₀ at next₀ i₀ out next i = (i ≤ length
 abbrev μ-loop : tie.MeasureT-loop
 μ-loop book words counts row out₀ at next₀ i₀ out next i = length row - i
 
--- src/lib.rt:74:5
 loop-holds : tie.Need-loop-holds Inv-loop μ-loop
 loop-holds c = let a = c .before .before .before .before .args in (omega arith, no-names (nodeNames (bookAt (a .book .now) (a .words .now) (a .counts))) (a .row .now) (a .out .now) (a .at))
 
--- src/lib.rt:75:46
 mul-put-node : tie.Need-mul-put-node Inv-loop μ-loop
 mul-put-node c = search needs
 
--- src/lib.rt:75:46
 shared-slice-read-put-node : tie.Need-shared-slice-read-put-node Inv-loop μ-loop
 shared-slice-read-put-node c = search needs
 
--- src/lib.rt:75:46
 cast-put-node : tie.Need-cast-put-node Inv-loop μ-loop
 cast-put-node c = omega (arith, c .shared-slice-known4 .given (c .before .before .loop .i))
 
--- src/lib.rt:75:9
 put-node-requires : tie.Need-put-node-requires Inv-loop μ-loop
 put-node-requires c κs = search needs
 
--- src/lib.rt:76:9
 add-i : tie.Need-add-i Inv-loop μ-loop
 add-i c = search needs
 
--- src/lib.rt:74:5
 loop-less : tie.Need-loop-less Inv-loop μ-loop
 loop-less c = omega arith
 
--- src/lib.rt:74:5
 loop-again : tie.Need-loop-again Inv-loop μ-loop
 loop-again c = let a = c .before .before .before .before .before .before .before .before .before .before .before .args in (omega arith, names-more (nodeNames (bookAt (a .book .now) (a .words .now) (a .counts))) (a .row .now) (c .before .before .before .before .before .before .loop .i) (omega arith) (c .before .before .before .before .before .before .loop .inv .1) (c .before .before .put-node .ensures))
 
--- src/lib.rt:61:1
 same-length : tie.Need-same-length Inv-loop μ-loop
 same-length c = puts-keeps-length (c .before .loop .inv .1)
 
--- src/lib.rt:61:1
 returns : tie.Need-returns Inv-loop μ-loop
 returns c = let a = c .before .before .before .before .before .before .args in let e : c .before .loop .i ≡ length (a .row .now) = omega arith in puts-same (ap (namesText (nodeNames (bookAt (a .book .now) (a .words .now) (a .counts))) (a .row .now)) e) (c .before .loop .inv .1)
 

@@ -9,36 +9,28 @@ use Rattle.printing.proofs.put_node.Lts as lts
 use Rattle.lookup.proofs.names.node_name.Reads as node-name-reads
 use Rattle.writer.proofs.bytes.put_bytes.Reads as put-bytes-reads
 
--- src/lib.rt:93:31
 slice-aggregate-put-bytes : tie.Need-slice-aggregate-put-bytes
 slice-aggregate-put-bytes c = search needs
 
--- src/lib.rt:93:9
 put-bytes-requires : tie.Need-put-bytes-requires
 put-bytes-requires c κs = search needs
 
--- src/lib.rt:95:33
 node-name-requires : tie.Need-node-name-requires
 node-name-requires c κs = search needs
 
--- src/lib.rt:95:9
 put-bytes-requires-2 : tie.Need-put-bytes-requires-2
 put-bytes-requires-2 c κs = search needs
 
--- src/lib.rt:95:9
 same-length : tie.Need-same-length
 same-length c = puts-keeps-length (puts-then (c .before .before .before .before .before .before .before .before .before .put-bytes .ensures) (c .before .before .put-bytes2 .ensures))
 
--- src/lib.rt:95:9
 returns : tie.Need-returns
 unfolding nameIn
 returns c = let a = c .before .before .before .before .before .before .before .before .before .before .before .before .before .before .before .args in puts-then (c .before .before .before .before .before .before .before .before .before .put-bytes .ensures) (puts-same (c .before .before .before .before .node-name .ensures (a .counts) (c .before .before .before .before .before .if1 .taken)) (c .before .before .put-bytes2 .ensures))
 
--- src/lib.rt:82:1
 same-length-2 : tie.Need-same-length-2
 same-length-2 c = search needs
 
--- src/lib.rt:82:1
 returns-2 : tie.Need-returns-2
 returns-2 c = let a = c .before .before .before .before .before .before .before .before .before .before .args in puts-same (no-name (a .book .now) (a .words .now) (a .counts) (a .node) (c .if1 .left)) (c .before .before .before .before .put-bytes .ensures)
 

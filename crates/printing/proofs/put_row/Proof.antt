@@ -10,31 +10,24 @@ use Rattle.printing.proofs.put_row.Lts as lts
 use Rattle.printing.proofs.put_names.Reads as put-names-reads
 use Rattle.writer.proofs.bytes.put_bytes.Reads as put-bytes-reads
 
--- src/lib.rt:55:31
 slice-aggregate-put-bytes : tie.Need-slice-aggregate-put-bytes
 slice-aggregate-put-bytes c = search needs
 
--- src/lib.rt:55:9
 put-bytes-requires : tie.Need-put-bytes-requires
 put-bytes-requires c κs = search needs
 
--- src/lib.rt:56:9
 put-names-requires : tie.Need-put-names-requires
 put-names-requires c κs = search needs
 
--- src/lib.rt:57:22
 slice-aggregate-put-bytes-2 : tie.Need-slice-aggregate-put-bytes-2
 slice-aggregate-put-bytes-2 c = search needs
 
--- src/lib.rt:57:5
 put-bytes-requires-2 : tie.Need-put-bytes-requires-2
 put-bytes-requires-2 c κs = search needs
 
--- src/lib.rt:44:1
 same-length : tie.Need-same-length
 same-length c = puts-keeps-length (puts-then (puts-then (c .before .before .before .before .before .before .before .before .before .before .before .put-bytes .ensures) (c .before .before .before .before .before .before .before .put-names .ensures)) (c .before .before .put-bytes2 .ensures))
 
--- src/lib.rt:44:1
 returns : tie.Need-returns
 returns c = let a = c .before .before .before .before .before .before .before .before .before .before .before .before .before .before .before .before .before .before .args in puts-same (row-text (nodeNames (bookAt (a .book .now) (a .words .now) (a .counts))) (a .row .now)) (puts-then (puts-then (c .before .before .before .before .before .before .before .before .before .before .before .put-bytes .ensures) (c .before .before .before .before .before .before .before .put-names .ensures)) (c .before .before .put-bytes2 .ensures))
 

@@ -1,6 +1,6 @@
 -- `put_rows` meets its contract: the rows passed are put, and the next one begins at its number times the width.
 use Prim.Native.Nat.{_≤_, _<_, _+_, _-_, _*_}
-use mathlib.Core.Path.{_≡_, sym, ap}
+use mathlib.Core.Path.{_≡_, ap}
 use lib.ListN.{length, take}
 use native.Mathlib.Omega.{arith}
 use Rattle.model.specs.Book.{nodeNames}

@@ -17,43 +17,33 @@ Inv-loop book rules queries at₀ at = at ≤ length queries + 1
 abbrev μ-loop : tie.MeasureT-loop
 μ-loop book rules queries at₀ at = length queries + 1 - at
 
--- src/main.rt:27:5
 loop-holds : tie.Need-loop-holds Inv-loop μ-loop
 loop-holds c = search needs
 
--- src/main.rt:28:13
 line-end-requires : tie.Need-line-end-requires Inv-loop μ-loop
 line-end-requires c κs = search needs
 
--- src/main.rt:29:34
 sub-print-query : tie.Need-sub-print-query Inv-loop μ-loop
 sub-print-query c = omega (arith, c .line-end .ensures, past-on isInLine (c .before .before .before .before .before .before .args .queries .now) (c .before .before .loop .at), past-within isInLine (c .before .before .before .before .before .before .args .queries .now) (c .before .before .loop .at) (omega arith))
 
--- src/main.rt:29:34
 part-print-query-start : tie.Need-part-print-query-start Inv-loop μ-loop
 part-print-query-start c = omega (arith, c .line-end .ensures, past-on isInLine (c .before .before .before .before .before .before .args .queries .now) (c .before .before .loop .at), past-within isInLine (c .before .before .before .before .before .before .args .queries .now) (c .before .before .loop .at) (omega arith))
 
--- src/main.rt:29:34
 part-print-query-end : tie.Need-part-print-query-end Inv-loop μ-loop
 part-print-query-end c = omega (arith, c .line-end .ensures, past-on isInLine (c .before .before .before .before .before .before .args .queries .now) (c .before .before .loop .at), past-within isInLine (c .before .before .before .before .before .before .args .queries .now) (c .before .before .loop .at) (omega arith))
 
--- src/main.rt:29:9
 print-query-requires : tie.Need-print-query-requires Inv-loop μ-loop
 print-query-requires c κs = search needs
 
--- src/main.rt:30:14
 add-at : tie.Need-add-at Inv-loop μ-loop
 add-at c = omega (arith, c .before .before .line-end .ensures, past-on isInLine (c .before .before .before .before .before .before .before .before .args .queries .now) (c .before .before .before .before .loop .at), past-within isInLine (c .before .before .before .before .before .before .before .before .args .queries .now) (c .before .before .before .before .loop .at) (omega arith))
 
--- src/main.rt:27:5
 loop-less : tie.Need-loop-less Inv-loop μ-loop
 loop-less c = omega (arith, c .before .before .line-end .ensures, past-on isInLine (c .before .before .before .before .before .before .before .before .args .queries .now) (c .before .before .before .before .loop .at), past-within isInLine (c .before .before .before .before .before .before .before .before .args .queries .now) (c .before .before .before .before .loop .at) (omega arith))
 
--- src/main.rt:27:5
 loop-again : tie.Need-loop-again Inv-loop μ-loop
 loop-again c = omega (arith, c .before .before .line-end .ensures, past-on isInLine (c .before .before .before .before .before .before .before .before .args .queries .now) (c .before .before .before .before .loop .at), past-within isInLine (c .before .before .before .before .before .before .before .before .args .queries .now) (c .before .before .before .before .loop .at) (omega arith))
 
--- src/main.rt:25:1
 returns : tie.Need-returns Inv-loop μ-loop
 returns c = search needs
 

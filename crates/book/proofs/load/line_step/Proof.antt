@@ -7,31 +7,24 @@ use Rattle.book.proofs.load.line_step.Reads as reads
 use Rattle.book.proofs.load.line_step.Lts as lts
 use Rattle.lines.proofs.forms.read_line.Reads as read-line-reads
 
--- src/load.rt:95:9
 returns : tie.Need-returns
 returns c = line-open (c .before .before .before .args .text .now) (c .before .before .before .args .from) (c .before .before .before .args .to) _ (c .if1 .taken)
 
--- src/load.rt:97:35
 sub-read-line : tie.Need-sub-read-line
 sub-read-line c = search needs
 
--- src/load.rt:97:35
 part-read-line-start : tie.Need-part-read-line-start
 part-read-line-start c = search needs
 
--- src/load.rt:97:35
 part-read-line-end : tie.Need-part-read-line-end
 part-read-line-end c = search needs
 
--- src/load.rt:97:5
 read-line-requires : tie.Need-read-line-requires
 read-line-requires c κs = line-asked (c .before .before .before .before .before .args .text .now) (c .before .before .before .before .before .args .words .now) (c .before .before .before .before .before .args .counts) (c .before .before .before .before .before .args .from) (c .before .before .before .before .before .args .to) (c .before .before .before .before .before .pre)
 
--- src/load.rt:90:1
 same-length : tie.Need-same-length
 same-length c = search needs
 
--- src/load.rt:90:1
 returns-2 : tie.Need-returns-2
 unfolding partOf
 returns-2 c = rw (line-closed (c .before .before .before .before .before .before .before .before .args .text .now) (c .before .before .before .before .before .before .before .before .args .from) (c .before .before .before .before .before .before .before .before .args .to) _ (c .before .before .before .before .before .if1 .left)) (c .before .before .read-line .ensures)

@@ -1,11 +1,8 @@
 use Rattle.text.proofs.LineReads.{text-too-long, text-bad-line, text-allowed, text-short, bad-small}
 use Rattle.model.specs.ReadBook.{readBook}
 use Rattle.book.proofs.LoadLaws.{filled-ones}
-use Rattle.book.specs.Loaded.{Loaded}
 use Rattle.model.specs.Answers.{refusalOf}
-use Rattle.model.specs.Book.{Book}
-use Rattle.model.specs.Refusal.{Outcome, refusal}
-use mathlib.Core.Path.{sym, subst}
+use Rattle.model.specs.Refusal.{refusal}
 use native.Mathlib.Omega.{arith}
 use borrow.Author.Needs.{needs}
 use Rattle.book.proofs.load.load.Statement.{statement}
@@ -16,61 +13,47 @@ use Rattle.book.proofs.load.load_lines.Reads as load-lines-reads
 use Rattle.text.proofs.lines.bytes_read.Reads as bytes-read-reads
 use Rattle.words.proofs.fill.Reads as fill-reads
 
--- src/load.rt:37:11
 bytes-read-requires : tie.Need-bytes-read-requires
 bytes-read-requires c κs = search needs
 
--- src/load.rt:39:25
 enum-told : tie.Need-enum-told
 enum-told c = search needs
 
--- src/load.rt:39:13
 fill-requires : tie.Need-fill-requires
 fill-requires c κs = search needs
 
--- src/load.rt:40:13
 same-length : tie.Need-same-length
 same-length c = search needs
 
--- src/load.rt:40:13
 returns : tie.Need-returns
 unfolding refusal refusalOf readBook
 returns c = (text-too-long 65536 (c .before .before .before .before .before .before .before .before .before .args .text .now) _ (c .before .before .before .before .before .before .bytes-read .ensures) 1 (λ l. l) _ (c .before .before .before .before .enum-told .given .1), filled-ones _ _ (c .before .before .fill .ensures))
 
--- src/load.rt:46:28
 enum-known-line : tie.Need-enum-known-line
 enum-known-line c = search needs
 
--- src/load.rt:47:13
 fill-requires-2 : tie.Need-fill-requires-2
 fill-requires-2 c κs = search needs
 
--- src/load.rt:51:23
 cast-t12 : tie.Need-cast-t12
 cast-t12 c = omega (arith, bad-small 65536 (c .before .before .before .before .before .before .before .before .before .before .args .text .now) _ (c .before .before .before .before .before .before .before .bytes-read .ensures) _ (c .before .before .before .before .before .line .given .1))
 
--- src/load.rt:48:13
 same-length-2 : tie.Need-same-length-2
 same-length-2 c = search needs
 
--- src/load.rt:48:13
 returns-2 : tie.Need-returns-2
 unfolding refusal refusalOf readBook
 returns-2 c = (text-bad-line 65536 (c .before .before .before .before .before .before .before .before .before .before .args .text .now) _ (c .before .before .before .before .before .before .before .bytes-read .ensures) 1 (λ l. l) _ _ (c .before .before .before .before .before .line .given .1), filled-ones _ _ (c .before .before .fill2 .ensures))
 
--- src/load.rt:55:37
 enum-told-2 : tie.Need-enum-told-2
 enum-told-2 c = search needs
 
--- src/load.rt:55:13
 load-lines-requires : tie.Need-load-lines-requires
 load-lines-requires c κs = (text-short 65536 (c .before .before .before .before .before .before .args .text .now) _ (c .before .before .before .bytes-read .ensures) (c .before .enum-told2 .given .1), c .before .before .before .before .before .before .pre)
 
--- src/load.rt:55:13
 same-length-3 : tie.Need-same-length-3
 same-length-3 c = search needs
 
--- src/load.rt:55:13
 returns-3 : tie.Need-returns-3
 unfolding readBook
 returns-3 c = rw (text-allowed 65536 (c .before .before .before .before .before .before .before .before .before .args .text .now) _ (c .before .before .before .before .before .before .bytes-read .ensures) 1 (λ l. l) _ (c .before .before .before .before .enum-told2 .given .1)) (c .before .before .load-lines .ensures)

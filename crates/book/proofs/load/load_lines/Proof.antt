@@ -9,7 +9,7 @@ use Rattle.model.specs.Book.{Book, emptyBook}
 use Rattle.model.specs.Lines.{readLines, linesOf}
 use lib.ListN.{length, drop}
 use mathlib.Core.Path.{_≡_, refl, sym, ap, _∙_}
-use Prim.Native.Nat.{ℕ, _+_, _-_, _≤_}
+use Prim.Native.Nat.{_+_, _-_, _≤_}
 use borrow.Author.Needs.{needs}
 use native.Mathlib.Omega.{arith}
 use Rattle.book.proofs.load.load_lines.Statement.{statement}
@@ -30,11 +30,9 @@ abbrev μ-loop : tie.MeasureT-loop
 clear-chains-requires : tie.Need-clear-chains-requires Inv-loop μ-loop
 clear-chains-requires c κs = search needs
 
--- src/load.rt:67:9
 no-counts-requires : tie.Need-no-counts-requires Inv-loop μ-loop
 no-counts-requires c κs = search needs
 
--- src/load.rt:68:5
 loop-holds : tie.Need-loop-holds Inv-loop μ-loop
 loop-holds c =
     let a = c .before .before .before .before .before .before .before in (
@@ -45,57 +43,44 @@ loop-holds c =
       ap (λ (b : Book). readLines 1 bookStep 1 b (linesOf (a .args .text .now))) (ap (bookAt (a .args .text .now) _) (c .no-counts .ensures) ∙ empty-is (a .args .text .now) _),
     )
 
--- src/load.rt:69:13
 line-end-requires : tie.Need-line-end-requires Inv-loop μ-loop
 line-end-requires c κs = search needs
 
--- src/load.rt:70:15
 line-step-requires : tie.Need-line-step-requires Inv-loop μ-loop
 line-step-requires c κs = record { fits = c .before .before .before .loop .inv .1; limit = c .before .before .before .before .before .before .before .before .before .before .before .pre .0; forward = line-forward (c .before .before .before .before .before .before .before .before .before .before .before .args .text .now) (c .before .before .before .loop .at) _ (c .before .line-end .ensures) (c .before .before .loop-test .taken); inside = line-inside (c .before .before .before .before .before .before .before .before .before .before .before .args .text .now) (c .before .before .before .loop .at) _ (c .before .line-end .ensures) (c .before .before .loop-test .taken) }
 
--- src/load.rt:71:29
 enum-known-number : tie.Need-enum-known-number Inv-loop μ-loop
 enum-known-number c = search needs
 
--- src/load.rt:72:17
 fill-requires : tie.Need-fill-requires Inv-loop μ-loop
 fill-requires c κs = search needs
 
--- src/load.rt:73:17
 same-length : tie.Need-same-length Inv-loop μ-loop
 same-length c = search needs
 
--- src/load.rt:73:17
 returns : tie.Need-returns Inv-loop μ-loop
 unfolding refusal refusalOf
 returns c = (sym (c .before .before .before .before .before .before .before .before .before .before .before .before .before .loop .inv .4) ∙ lines-fault (c .before .before .before .before .before .before .before .before .before .before .before .before .before .before .before .before .before .before .before .before .before .args .text .now) (c .before .before .before .before .before .before .before .before .before .before .before .before .before .loop .at) _ (c .before .before .before .before .before .before .before .before .before .before .before .line-end .ensures) (c .before .before .before .before .before .before .before .before .before .before .before .before .loop-test .taken) 1 bookStep (c .before .before .before .before .before .before .before .before .before .before .before .before .before .loop .line) _ _ (step-refuses (c .before .before .before .before .before .before .before .before .before .before .before .before .before .before .before .before .before .before .before .before .before .args .text .now) _ _ _ _ (c .before .before .before .before .before .number .given .1) (c .before .before .before .before .before .before .before .before .before .line-step .ensures)), filled-ones _ _ (c .before .before .fill .ensures))
 
--- src/load.rt:79:29
 enum-known-more : tie.Need-enum-known-more Inv-loop μ-loop
 enum-known-more c = search needs
 
--- src/load.rt:83:14
 add-at : tie.Need-add-at Inv-loop μ-loop
 add-at c = omega (arith, c .before .before .before .before .before .before .before .before .before .before .before .before .before .before .before .before .before .pre .0, line-inside (c .before .before .before .before .before .before .before .before .before .before .before .before .before .before .before .before .before .args .text .now) (c .before .before .before .before .before .before .before .before .before .loop .at) _ (c .before .before .before .before .before .before .before .line-end .ensures) (c .before .before .before .before .before .before .before .before .loop-test .taken))
 
--- src/load.rt:84:9
 add-line : tie.Need-add-line Inv-loop μ-loop
 add-line c = omega (arith, c .before .before .before .before .before .before .before .before .before .before .before .before .before .before .before .before .before .pre .0, c .before .before .before .before .before .before .before .before .before .loop .inv .3, c .before .before .before .before .before .before .before .before .loop-test .taken)
 
--- src/load.rt:68:5
 loop-less : tie.Need-loop-less Inv-loop μ-loop
 loop-less c = omega (arith, line-forward (c .before .before .before .before .before .before .before .before .before .before .before .before .before .before .before .before .before .args .text .now) (c .before .before .before .before .before .before .before .before .before .loop .at) _ (c .before .before .before .before .before .before .before .line-end .ensures) (c .before .before .before .before .before .before .before .before .loop-test .taken), line-inside (c .before .before .before .before .before .before .before .before .before .before .before .before .before .before .before .before .before .args .text .now) (c .before .before .before .before .before .before .before .before .before .loop .at) _ (c .before .before .before .before .before .before .before .line-end .ensures) (c .before .before .before .before .before .before .before .before .loop-test .taken))
 
--- src/load.rt:68:5
 loop-again : tie.Need-loop-again Inv-loop μ-loop
 loop-again c = let s = step-adds (c .before .before .before .before .before .before .before .before .before .before .before .before .before .before .before .before .before .args .text .now) _ _ _ _ (c .before .more .given .1) (c .before .before .before .before .before .line-step .ensures) in
     (search needs, s .1, omega (arith, line-inside (c .before .before .before .before .before .before .before .before .before .before .before .before .before .before .before .before .before .args .text .now) (c .before .before .before .before .before .before .before .before .before .loop .at) _ (c .before .before .before .before .before .before .before .line-end .ensures) (c .before .before .before .before .before .before .before .before .loop-test .taken)), omega (arith, c .before .before .before .before .before .before .before .before .before .loop .inv .3, line-forward (c .before .before .before .before .before .before .before .before .before .before .before .before .before .before .before .before .before .args .text .now) (c .before .before .before .before .before .before .before .before .before .loop .at) _ (c .before .before .before .before .before .before .before .line-end .ensures) (c .before .before .before .before .before .before .before .before .loop-test .taken)), sym (lines-known (c .before .before .before .before .before .before .before .before .before .before .before .before .before .before .before .before .before .args .text .now) (c .before .before .before .before .before .before .before .before .before .loop .at) _ (c .before .before .before .before .before .before .before .line-end .ensures) (c .before .before .before .before .before .before .before .before .loop-test .taken) 1 bookStep (c .before .before .before .before .before .before .before .before .before .loop .line) _ _ (s .0)) ∙ c .before .before .before .before .before .before .before .before .before .loop .inv .4)
 
--- src/load.rt:61:1
 same-length-2 : tie.Need-same-length-2 Inv-loop μ-loop
 same-length-2 c = search needs
 
--- src/load.rt:61:1
 returns-2 : tie.Need-returns-2 Inv-loop μ-loop
 returns-2 c = (sym (c .before .loop .inv .4) ∙ lines-over (c .before .before .before .before .before .before .before .before .before .args .text .now) (c .before .loop .at) 1 bookStep (c .before .loop .line) _ (c .loop-test .left), c .before .loop .inv .1)
 

@@ -1,8 +1,7 @@
 use Rattle.lines.proofs.LineLaws.{attr-nameless, attr-kindless, attr-ends}
 use Rattle.items.proofs.PlacedLaws.{placed-at}
 use Rattle.lines.specs.Forms.{onAttr}
-use mathlib.Core.Path.{sym, ap, _∙_}
-use native.Mathlib.Omega.{arith}
+use mathlib.Core.Path.{_∙_}
 use borrow.Author.Needs.{needs}
 use Rattle.lines.proofs.forms.read_attr.Statement.{statement}
 use Rattle.lines.proofs.forms.read_attr.Tie as tie
@@ -11,50 +10,39 @@ use Rattle.lines.proofs.forms.read_attr.Lts as lts
 use Rattle.items.proofs.forms.form_closes.Reads as form-closes-reads
 use Rattle.lines.proofs.pieces.next_kind.Reads as next-kind-reads
 
--- src/forms.rt:71:11
 next-name-requires : tie.Need-next-name-requires
 next-name-requires c κs = search needs
 
--- src/forms.rt:72:19
 enum-known-p : tie.Need-enum-known-p
 enum-known-p c = search needs
 
--- src/forms.rt:72:34
 next-kind-requires : tie.Need-next-kind-requires
 next-kind-requires c κs = search needs
 
--- src/forms.rt:73:28
 enum-known-kind : tie.Need-enum-known-kind
 enum-known-kind c = search needs
 
--- src/forms.rt:74:20
 form-closes-requires : tie.Need-form-closes-requires
 form-closes-requires c κs = search needs
 
--- src/forms.rt:75:21
 returns : tie.Need-returns
 unfolding onAttr
 returns c = (λ make. attr-ends (c .before .before .before .before .before .before .before .before .before .before .before .args .line .now) (c .before .before .before .before .before .before .before .before .before .before .before .args .from) make _ (c .before .before .before .before .before .before .before .before .before .next-name .ensures) _ _ (c .before .before .before .before .before .before .before .p .given .1) _ (c .before .before .before .before .before .next-kind .ensures) _ _ (c .before .before .before .kind .given .1) _ (c .before .form-closes .ensures) ∙ rw (c .if1 .taken), placed-at (c .before .before .before .before .before .before .before .before .before .before .before .args .line .now) (c .before .before .before .before .before .before .before .before .before .before .before .args .from) _ (c .before .before .before .before .before .before .before .p .given .1) (c .before .before .before .before .before .before .before .before .before .next-name .ensures .placed))
 
--- src/forms.rt:79:31
 enum-told : tie.Need-enum-told
 enum-told c = search needs
 
--- src/forms.rt:81:24
 enum-told-2 : tie.Need-enum-told-2
 enum-told-2 c = search needs
 
--- src/forms.rt:67:1
 returns-2 : tie.Need-returns-2
 unfolding onAttr
 returns-2 c = (λ make. attr-ends (c .before .before .before .before .before .before .before .before .before .before .before .args .line .now) (c .before .before .before .before .before .before .before .before .before .before .before .args .from) make _ (c .before .before .before .before .before .before .before .before .before .next-name .ensures) _ _ (c .before .before .before .before .before .before .before .p .given .1) _ (c .before .before .before .before .before .next-kind .ensures) _ _ (c .before .before .before .kind .given .1) _ (c .before .form-closes .ensures) ∙ rw (c .if1 .left), tt)
 
--- src/forms.rt:67:1
 returns-3 : tie.Need-returns-3
 unfolding onAttr
 returns-3 c = (λ make. attr-kindless (c .before .before .before .before .before .before .before .before .args .line .now) (c .before .before .before .before .before .before .before .before .args .from) make _ (c .before .before .before .before .before .before .next-name .ensures) _ _ (c .before .before .before .before .p .given .1) _ (c .before .before .next-kind .ensures) (c .enum-told .given .1), tt)
 
--- src/forms.rt:67:1
 returns-4 : tie.Need-returns-4
 unfolding onAttr
 returns-4 c = (λ make. attr-nameless (c .before .before .before .before .args .line .now) (c .before .before .before .before .args .from) make _ (c .before .before .next-name .ensures) (c .enum-told2 .given .1), tt)

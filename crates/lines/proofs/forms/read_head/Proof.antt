@@ -1,8 +1,6 @@
 use Rattle.lines.proofs.LineLaws.{step-broken, headed, headless}
 use Rattle.items.proofs.PlacedLaws.{placed-at}
 use Rattle.model.specs.Answers.{partOf}
-use Rattle.lines.specs.declared.Head.{Head}
-use mathlib.Core.Path.{sym, ap, _∙_}
 use native.Mathlib.Omega.{arith}
 use borrow.Author.Needs.{needs}
 use Rattle.lines.proofs.forms.read_head.Statement.{statement}
@@ -12,48 +10,37 @@ use Rattle.lines.proofs.forms.read_head.Lts as lts
 use Rattle.lines.proofs.forms.read_rest.Reads as read-rest-reads
 use Rattle.lines.proofs.pieces.head.Reads as head-reads
 
--- src/forms.rt:45:11
 next-word-requires : tie.Need-next-word-requires
 next-word-requires c κs = search needs
 
--- src/forms.rt:46:19
 enum-known-p : tie.Need-enum-known-p
 enum-known-p c = search needs
 
--- src/forms.rt:46:72
 sub-head : tie.Need-sub-head
 sub-head c = omega (arith, placed-at (c .before .before .before .before .before .before .before .args .line .now) (c .before .before .before .before .before .before .before .args .from) _ (c .before .p .given .1) (c .before .before .before .next-word .ensures .placed))
 
--- src/forms.rt:46:72
 part-head-start : tie.Need-part-head-start
 part-head-start c = omega (arith, placed-at (c .before .before .before .before .before .before .before .args .line .now) (c .before .before .before .before .before .before .before .args .from) _ (c .before .p .given .1) (c .before .before .before .next-word .ensures .placed))
 
--- src/forms.rt:46:72
 part-head-end : tie.Need-part-head-end
 part-head-end c = omega (arith, placed-at (c .before .before .before .before .before .before .before .args .line .now) (c .before .before .before .before .before .before .before .args .from) _ (c .before .p .given .1) (c .before .before .before .next-word .ensures .placed))
 
--- src/forms.rt:46:59
 head-requires : tie.Need-head-requires
 head-requires c κs = search needs
 
--- src/forms.rt:46:28
 read-rest-requires : tie.Need-read-rest-requires
 read-rest-requires c κs = search needs
 
--- src/forms.rt:47:24
 enum-told : tie.Need-enum-told
 enum-told c = search needs
 
--- src/forms.rt:41:1
 same-length : tie.Need-same-length
 same-length c = search needs
 
--- src/forms.rt:41:1
 returns : tie.Need-returns
 unfolding partOf
 returns c = rw (headed (c .before .before .before .before .before .before .before .before .before .before .before .before .before .args .line .now) (c .before .before .before .before .before .before .before .before .before .before .before .before .before .args .from) _ (c .before .before .before .before .before .before .before .before .before .next-word .ensures) _ _ (c .before .before .before .before .before .before .before .p .given .1), ← c .before .before .before .before .head .ensures) (c .before .before .read-rest .ensures)
 
--- src/forms.rt:41:1
 returns-2 : tie.Need-returns-2
 returns-2 c = step-broken _ _ (headless (c .before .before .before .before .before .before .args .line .now) (c .before .before .before .before .before .before .args .from) _ (c .before .before .next-word .ensures) (c .enum-told .given .1))
 

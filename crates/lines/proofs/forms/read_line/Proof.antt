@@ -7,31 +7,24 @@ use Rattle.lines.proofs.forms.read_line.Lts as lts
 use Rattle.items.proofs.forms.open_form.Reads as open-form-reads
 use Rattle.lines.proofs.forms.read_head.Reads as read-head-reads
 
--- src/forms.rt:34:11
 open-form-requires : tie.Need-open-form-requires
 open-form-requires c κs = search needs
 
--- src/forms.rt:35:17
 enum-known-from : tie.Need-enum-known-from
 enum-known-from c = search needs
 
--- src/forms.rt:35:26
 read-head-requires : tie.Need-read-head-requires
 read-head-requires c κs = search needs
 
--- src/forms.rt:36:22
 enum-told : tie.Need-enum-told
 enum-told c = search needs
 
--- src/forms.rt:30:1
 same-length : tie.Need-same-length
 same-length c = search needs
 
--- src/forms.rt:30:1
 returns : tie.Need-returns
 returns c = rw (opens-at (c .before .before .before .before .before .before .before .before .before .before .before .args .line .now) _ _ (c .before .before .before .before .before .before .before .open-form .ensures) (c .before .before .before .before .before .from .given .1)) (c .before .before .read-head .ensures)
 
--- src/forms.rt:30:1
 returns-2 : tie.Need-returns-2
 returns-2 c = step-broken _ _ (opens-none (c .before .before .before .before .before .before .args .line .now) _ (c .before .before .open-form .ensures) (c .enum-told .given .1))
 

@@ -1,7 +1,5 @@
 use Rattle.lines.proofs.LineLaws.{step-broken, form-other}
 use Rattle.lines.specs.Forms.{lineOf}
-use Rattle.lines.specs.declared.Head.{Head}
-use mathlib.Core.Path.{sym, ap, _∙_}
 use borrow.Author.Needs.{needs}
 use Rattle.lines.proofs.forms.read_rest.Statement.{statement}
 use Rattle.lines.proofs.forms.read_rest.Tie as tie
@@ -13,96 +11,74 @@ use Rattle.lines.proofs.forms.vattr_line.Reads as vattr-line-reads
 use Rattle.lines.proofs.owners.node_line.Reads as node-line-reads
 use Rattle.lines.proofs.owners.rel_line.Reads as rel-line-reads
 
--- src/forms.rt:57:59
 enum-told : tie.Need-enum-told
 enum-told c = search needs
 
--- src/forms.rt:57:24
 vattr-line-requires : tie.Need-vattr-line-requires
 vattr-line-requires c κs = search needs
 
--- src/forms.rt:58:59
 enum-told-2 : tie.Need-enum-told-2
 enum-told-2 c = search needs
 
--- src/forms.rt:58:24
 eattr-line-requires : tie.Need-eattr-line-requires
 eattr-line-requires c κs = search needs
 
--- src/forms.rt:59:59
 enum-told-3 : tie.Need-enum-told-3
 enum-told-3 c = search needs
 
--- src/forms.rt:59:24
 label-line-requires : tie.Need-label-line-requires
 label-line-requires c κs = search needs
 
--- src/forms.rt:60:65
 enum-told-4 : tie.Need-enum-told-4
 enum-told-4 c = search needs
 
--- src/forms.rt:60:23
 node-line-requires : tie.Need-node-line-requires
 node-line-requires c κs = search needs
 
--- src/forms.rt:61:63
 enum-told-5 : tie.Need-enum-told-5
 enum-told-5 c = search needs
 
--- src/forms.rt:61:22
 rel-line-requires : tie.Need-rel-line-requires
 rel-line-requires c κs = search needs
 
--- src/forms.rt:62:24
 enum-told-6 : tie.Need-enum-told-6
 enum-told-6 c = search needs
 
--- src/forms.rt:52:1
 same-length : tie.Need-same-length
 same-length c = search needs
 
--- src/forms.rt:52:1
 returns : tie.Need-returns
 unfolding lineOf
 returns c = rw (c .before .before .before .before .enum-told .given .1) (c .before .before .vattr-line .ensures)
 
--- src/forms.rt:52:1
 same-length-2 : tie.Need-same-length-2
 same-length-2 c = search needs
 
--- src/forms.rt:52:1
 returns-2 : tie.Need-returns-2
 unfolding lineOf
 returns-2 c = rw (c .before .before .before .before .enum-told2 .given .1) (c .before .before .eattr-line .ensures)
 
--- src/forms.rt:52:1
 same-length-3 : tie.Need-same-length-3
 same-length-3 c = search needs
 
--- src/forms.rt:52:1
 returns-3 : tie.Need-returns-3
 unfolding lineOf
 returns-3 c = rw (c .before .before .before .before .enum-told3 .given .1) (c .before .before .label-line .ensures)
 
--- src/forms.rt:52:1
 same-length-4 : tie.Need-same-length-4
 same-length-4 c = search needs
 
--- src/forms.rt:52:1
 returns-4 : tie.Need-returns-4
 unfolding lineOf
 returns-4 c = rw (c .before .before .before .before .enum-told4 .given .1) (c .before .before .node-line .ensures)
 
--- src/forms.rt:52:1
 same-length-5 : tie.Need-same-length-5
 same-length-5 c = search needs
 
--- src/forms.rt:52:1
 returns-5 : tie.Need-returns-5
 unfolding lineOf
 returns-5 c = rw (c .before .before .before .before .enum-told5 .given .1) (c .before .before .rel-line .ensures)
 
--- src/forms.rt:52:1
 returns-6 : tie.Need-returns-6
 returns-6 c = step-broken _ _ (form-other (c .before .before .before .before .before .args .line .now) (c .before .before .before .before .before .args .from) _ (c .enum-told6 .given .1))
 

@@ -10,39 +10,30 @@ use Rattle.lines.proofs.forms.vattr_line.Lts as lts
 use Rattle.lines.proofs.forms.read_attr.Reads as read-attr-reads
 use Rattle.lines.proofs.steps.add_vattr.Reads as add-vattr-reads
 
--- src/forms.rt:90:11
 read-attr-requires : tie.Need-read-attr-requires
 read-attr-requires c κs = search needs
 
--- src/forms.rt:91:24
 enum-known-p : tie.Need-enum-known-p
 enum-known-p c = search needs
 
--- src/forms.rt:96:24
 add-t14 : tie.Need-add-t14
 add-t14 c = omega (arith, c .before .before .before .before .before .before .before .before .pre .inside, c .before .before .before .before .before .before .before .before .pre .limit, attr-stands (c .before .before .before .before .before .before .before .before .args .line .now) (c .before .before .before .before .before .before .before .before .args .from) _ _ _ _ (c .before .before .before .before .read-attr .ensures .1) (c .before .before .p .given .1))
 
--- src/forms.rt:97:25
 sub-t15 : tie.Need-sub-t15
 sub-t15 c = omega (arith, attr-stands (c .before .before .before .before .before .before .before .before .args .line .now) (c .before .before .before .before .before .before .before .before .args .from) _ _ _ _ (c .before .before .before .before .read-attr .ensures .1) (c .before .before .p .given .1))
 
--- src/forms.rt:91:39
 add-vattr-requires : tie.Need-add-vattr-requires
 add-vattr-requires c κs = (piece-asked (c .before .before .before .before .before .before .before .before .args .text .now) (c .before .before .before .before .before .before .before .before .args .line .now) (c .before .before .before .before .before .before .before .before .args .words .now) (c .before .before .before .before .before .before .before .before .args .counts) (c .before .before .before .before .before .before .before .before .args .base) (c .before .before .before .before .before .before .before .before .args .from) _ _ (c .before .before .before .before .before .before .before .before .pre) (attr-stands (c .before .before .before .before .before .before .before .before .args .line .now) (c .before .before .before .before .before .before .before .before .args .from) _ _ _ _ (c .before .before .before .before .read-attr .ensures .1) (c .before .before .p .given .1)), c .before .before .before .before .before .before .before .before .pre .fits)
 
--- src/forms.rt:101:27
 enum-told : tie.Need-enum-told
 enum-told c = search needs
 
--- src/forms.rt:86:1
 same-length : tie.Need-same-length
 same-length c = search needs
 
--- src/forms.rt:86:1
 returns : tie.Need-returns
 returns c = rw (attr-step (c .before .before .before .before .before .before .before .before .before .before .before .args .text .now) (c .before .before .before .before .before .before .before .before .before .before .before .args .line .now) (c .before .before .before .before .before .before .before .before .before .before .before .args .words .now) (c .before .before .before .before .before .before .before .before .before .before .before .args .counts) (c .before .before .before .before .before .before .before .before .before .before .before .args .base) (c .before .before .before .before .before .before .before .before .before .before .before .args .from) (c .before .before .before .before .before .before .before .before .before .before .before .pre) _ (c .before .before .before .before .before .before .before .read-attr .ensures .0) (c .before .before .before .before .before .before .before .read-attr .ensures .1) vattr _ _ _ (c .before .before .before .before .before .p .given .1)) (c .before .before .add-vattr .ensures)
 
--- src/forms.rt:86:1
 returns-2 : tie.Need-returns-2
 returns-2 c = attr-broken (c .before .before .before .before .before .before .args .text .now) (c .before .before .before .before .before .before .args .line .now) (c .before .before .before .before .before .before .args .words .now) (c .before .before .before .before .before .before .args .counts) (c .before .before .before .before .before .before .args .base) (c .before .before .before .before .before .before .args .from) (c .before .before .before .before .before .before .pre) _ (c .before .before .read-attr .ensures .0) (c .before .before .read-attr .ensures .1) vattr (c .enum-told .given .1)
 

@@ -13,60 +13,46 @@ use Rattle.lines.proofs.owners.node_line.Lts as lts
 use Rattle.lines.proofs.owners.read_entries.Reads as read-entries-reads
 use Rattle.lines.proofs.steps.add_node.Reads as add-node-reads
 
--- src/owners.rt:116:11
 next-name-requires : tie.Need-next-name-requires
 next-name-requires c κs = search needs
 
--- src/owners.rt:117:19
 enum-known-p : tie.Need-enum-known-p
 enum-known-p c = search needs
 
--- src/owners.rt:119:19
 read-entries-requires : tie.Need-read-entries-requires
 read-entries-requires c κs = (c .before .before .before .before .before .before .before .before .pre, inl (refl, refl), placed-at (c .before .before .before .before .before .before .before .before .args .line .now) (c .before .before .before .before .before .before .before .before .args .from) _ (c .before .before .p .given .1) (c .before .before .before .before .next-name .ensures .placed) .inside)
 
--- src/owners.rt:120:37
 enum-known-read : tie.Need-enum-known-read
 enum-known-read c = search needs
 
--- src/owners.rt:125:32
 add-t19 : tie.Need-add-t19
 add-t19 c = omega (arith, c .before .before .before .before .before .before .before .before .before .before .before .before .before .before .before .pre .inside, c .before .before .before .before .before .before .before .before .before .before .before .before .before .before .before .pre .limit, placed-at (c .before .before .before .before .before .before .before .before .before .before .before .before .before .before .before .args .line .now) (c .before .before .before .before .before .before .before .before .before .before .before .before .before .before .before .args .from) _ (c .before .before .before .before .before .before .before .before .before .p .given .1) (c .before .before .before .before .before .before .before .before .before .before .before .next-name .ensures .placed))
 
--- src/owners.rt:126:33
 sub-t20 : tie.Need-sub-t20
 sub-t20 c = omega (arith, placed-at (c .before .before .before .before .before .before .before .before .before .before .before .before .before .before .before .args .line .now) (c .before .before .before .before .before .before .before .before .before .before .before .before .before .before .before .args .from) _ (c .before .before .before .before .before .before .before .before .before .p .given .1) (c .before .before .before .before .before .before .before .before .before .before .before .next-name .ensures .placed))
 
--- src/owners.rt:120:46
 add-node-requires : tie.Need-add-node-requires
 add-node-requires c κs = (piece-asked (c .before .before .before .before .before .before .before .before .before .before .before .before .before .before .before .args .text .now) (c .before .before .before .before .before .before .before .before .before .before .before .before .before .before .before .args .line .now) (c .before .before .before .before .before .before .before .before .before .before .before .before .before .before .before .args .words .now) (c .before .before .before .before .before .before .before .before .before .before .before .before .before .before .before .args .counts) (c .before .before .before .before .before .before .before .before .before .before .before .before .before .before .before .args .base) (c .before .before .before .before .before .before .before .before .before .before .before .before .before .before .before .args .from) _ _ (c .before .before .before .before .before .before .before .before .before .before .before .before .before .before .before .pre) (placed-at (c .before .before .before .before .before .before .before .before .before .before .before .before .before .before .before .args .line .now) (c .before .before .before .before .before .before .before .before .before .before .before .before .before .before .before .args .from) _ (c .before .before .before .before .before .before .before .before .before .p .given .1) (c .before .before .before .before .before .before .before .before .before .before .before .next-name .ensures .placed)), fits-kept (c .before .before .before .before .before .before .before .before .before .before .before .before .before .before .before .args .text .now) (c .before .before .before .before .before .before .before .before .before .before .before .before .before .before .before .args .words .now) _ (c .before .before .before .before .before .before .before .before .before .before .before .before .before .before .before .args .counts) (c .before .before .before .before .before .before .read-entries .ensures .agrees) (c .before .before .before .before .before .before .before .before .before .before .before .before .before .before .before .pre .fits), entries-got (c .before .before .before .before .before .before .before .before .before .before .before .before .before .before .before .args .text .now) (c .before .before .before .before .before .before .before .before .before .before .before .before .before .before .before .args .line .now) (c .before .before .before .before .before .before .before .before .before .before .before .before .before .before .before .args .words .now) _ (c .before .before .before .before .before .before .before .before .before .before .before .before .before .before .before .args .counts) _ _ _ _ _ (c .before .before .before .before .before .before .read-entries .ensures) (c .before .before .read .given .1) .few)
 
--- src/owners.rt:130:40
 enum-told : tie.Need-enum-told
 enum-told c = search needs
 
--- src/owners.rt:133:24
 enum-told-2 : tie.Need-enum-told-2
 enum-told-2 c = search needs
 
--- src/owners.rt:112:1
 same-length : tie.Need-same-length
 same-length c = search needs
 
--- src/owners.rt:112:1
 returns : tie.Need-returns
 returns c = let got = entries-got (c .before .before .before .before .before .before .before .before .before .before .before .before .before .before .before .before .before .before .args .text .now) (c .before .before .before .before .before .before .before .before .before .before .before .before .before .before .before .before .before .before .args .line .now) (c .before .before .before .before .before .before .before .before .before .before .before .before .before .before .before .before .before .before .args .words .now) _ (c .before .before .before .before .before .before .before .before .before .before .before .before .before .before .before .before .before .before .args .counts) _ _ _ _ _ (c .before .before .before .before .before .before .before .before .before .read-entries .ensures) (c .before .before .before .before .before .read .given .1) in
     rw (node-step (c .before .before .before .before .before .before .before .before .before .before .before .before .before .before .before .before .before .before .args .text .now) (c .before .before .before .before .before .before .before .before .before .before .before .before .before .before .before .before .before .before .args .line .now) (c .before .before .before .before .before .before .before .before .before .before .before .before .before .before .before .before .before .before .args .words .now) (c .before .before .before .before .before .before .before .before .before .before .before .before .before .before .before .before .before .before .args .counts) (c .before .before .before .before .before .before .before .before .before .before .before .before .before .before .before .before .before .before .args .base) (c .before .before .before .before .before .before .before .before .before .before .before .before .before .before .before .before .before .before .args .from) (c .before .before .before .before .before .before .before .before .before .before .before .before .before .before .before .before .before .before .pre) _ (c .before .before .before .before .before .before .before .before .before .before .before .before .before .before .next-name .ensures) _ _ (c .before .before .before .before .before .before .before .before .before .before .before .before .p .given .1) _ _ _ _ (c .before .before .before .before .before .before .before .before .before .read-entries .ensures) _ (c .before .before .before .before .before .read .given .1) got) (c .before .before .add-node .ensures (got .got) (got .after))
 
--- src/owners.rt:112:1
 same-length-2 : tie.Need-same-length-2
 same-length-2 c = search needs
 
--- src/owners.rt:112:1
 returns-2 : tie.Need-returns-2
 returns-2 c = node-spoilt (c .before .before .before .before .before .before .before .before .before .before .before .before .before .args .text .now) (c .before .before .before .before .before .before .before .before .before .before .before .before .before .args .line .now) (c .before .before .before .before .before .before .before .before .before .before .before .before .before .args .words .now) (c .before .before .before .before .before .before .before .before .before .before .before .before .before .args .counts) (c .before .before .before .before .before .before .before .before .before .before .before .before .before .args .base) (c .before .before .before .before .before .before .before .before .before .before .before .before .before .args .from) (c .before .before .before .before .before .before .before .before .before .before .before .before .before .pre) _ (c .before .before .before .before .before .before .before .before .before .next-name .ensures) _ _ (c .before .before .before .before .before .before .before .p .given .1) _ _ _ _ (c .before .before .before .before .read-entries .ensures) (c .enum-told .given .1)
 
--- src/owners.rt:112:1
 returns-3 : tie.Need-returns-3
 returns-3 c = node-broken (c .before .before .before .before .before .before .args .text .now) (c .before .before .before .before .before .before .args .line .now) (c .before .before .before .before .before .before .args .words .now) (c .before .before .before .before .before .before .args .counts) (c .before .before .before .before .before .before .args .base) (c .before .before .before .before .before .before .args .from) (c .before .before .before .before .before .before .pre) _ (c .before .before .next-name .ensures) (c .enum-told2 .given .1)
 

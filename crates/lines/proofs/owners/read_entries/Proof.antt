@@ -4,10 +4,7 @@ use Rattle.lines.proofs.EntryForms.{Reading, table-of, entry-stands, re
 use Rattle.lines.proofs.PieceLaws.{ends-moved}
 use Rattle.tables.proofs.ValueLaws.{ends-later}
 use Rattle.tables.proofs.AgreeLaws.{fits-kept}
-use Rattle.tables.specs.ValueWords.{EndsBefore}
-use Rattle.model.specs.declared.Value.{Value}
 use lib.ListN.{length}
-use mathlib.Core.Path.{sym, ap, _∙_, subst}
 use Prim.Native.Nat.{_-_}
 use native.Mathlib.Omega.{arith}
 use Rattle.lines.proofs.owners.read_entries.Statement.{statement}
@@ -25,31 +22,24 @@ Inv-loop text line base from words₀ counts offset declared at₀ known₀ word
 abbrev μ-loop : tie.MeasureT-loop
 μ-loop text line base from words₀ counts offset declared at₀ known₀ words at known = length line - at
 
--- src/owners.rt:64:5
 loop-holds : tie.Need-loop-holds Inv-loop μ-loop
 loop-holds c = reading-starts (c .before .before .before .args .text .now) (c .before .before .before .args .line .now) (c .before .before .before .args .words .now) (c .before .before .before .args .counts) (c .before .before .before .args .offset) (c .before .before .before .args .declared) (c .before .before .before .args .from) (c .before .before .before .pre .2)
 
--- src/owners.rt:65:15
 entry-requires : tie.Need-entry-requires Inv-loop μ-loop
 entry-requires c κs = search needs
 
--- src/owners.rt:67:17
 enum-known-start : tie.Need-enum-known-start Inv-loop μ-loop
 enum-known-start c = search needs
 
--- src/owners.rt:79:32
 add-t19 : tie.Need-add-t19 Inv-loop μ-loop
 add-t19 c = omega (arith, c .before .before .before .before .before .before .before .before .before .pre .0 .inside, c .before .before .before .before .before .before .before .before .before .pre .0 .limit, entry-stands (c .before .before .before .before .before .before .before .before .before .args .line .now) (c .before .before .before .before .before .loop .at) _ (c .before .before .before .before .entry .ensures) _ _ _ _ (c .before .before .start .given .1))
 
--- src/owners.rt:80:33
 sub-t20 : tie.Need-sub-t20 Inv-loop μ-loop
 sub-t20 c = omega (arith, entry-stands (c .before .before .before .before .before .before .before .before .before .args .line .now) (c .before .before .before .before .before .loop .at) _ (c .before .before .before .before .entry .ensures) _ _ _ _ (c .before .before .start .given .1))
 
--- src/owners.rt:82:21
 shifted-requires : tie.Need-shifted-requires Inv-loop μ-loop
 shifted-requires c κs = ends-later _ 65536 (c .before .before .before .before .before .before .before .before .before .pre .0 .limit) (shift (c .before .before .before .before .before .before .before .before .before .args .base) (c .before .before .start .given .0 .1 .1 .0)) (ends-moved (c .before .before .before .before .before .before .before .before .before .args .text .now) (c .before .before .before .before .before .before .before .before .before .args .line .now) (c .before .before .before .before .before .before .before .before .before .args .base) (c .before .before .before .before .before .before .before .before .before .pre .0 .is) (c .before .before .before .before .before .before .before .before .before .pre .0 .inside) (c .before .before .start .given .0 .1 .1 .0) (entry-stands (c .before .before .before .before .before .before .before .before .before .args .line .now) (c .before .before .before .before .before .loop .at) _ (c .before .before .before .before .entry .ensures) _ _ _ _ (c .before .before .start .given .1) .ends))
 
--- src/owners.rt:72:17
 add-entry-requires : tie.Need-add-entry-requires Inv-loop μ-loop
 add-entry-requires c κs = let f = fits-kept (c .before .before .before .before .before .before .before .before .before .before .args .text .now) (c .before .before .before .before .before .before .before .before .before .before .args .words .now) (c .before .before .before .before .before .before .loop .words) (c .before .before .before .before .before .before .before .before .before .before .args .counts) (c .before .before .before .before .before .before .loop .inv .agrees) (c .before .before .before .before .before .before .before .before .before .before .pre .0 .fits) in
     let s = entry-stands (c .before .before .before .before .before .before .before .before .before .before .args .line .now) (c .before .before .before .before .before .before .loop .at) _ (c .before .before .before .before .before .entry .ensures) _ _ _ _ (c .before .before .before .start .given .1) in
@@ -62,47 +52,36 @@ add-entry-requires c κs = let f = fits-kept (c .before .before .before .before 
       counted = omega (arith, c .before .before .before .before .before .before .loop .inv .few, c .before .before .before .before .before .before .loop .inv .inside, c .before .before .before .before .before .before .before .before .before .before .pre .0 .inside, c .before .before .before .before .before .before .before .before .before .before .pre .0 .limit);
     }
 
--- src/owners.rt:64:5
 loop-less : tie.Need-loop-less Inv-loop μ-loop
 loop-less c = omega (arith, entry-stands (c .before .before .before .before .before .before .before .before .before .before .before .before .before .args .line .now) (c .before .before .before .before .before .before .before .before .before .loop .at) _ (c .before .before .before .before .before .before .before .before .entry .ensures) _ _ _ _ (c .before .before .before .before .before .before .start .given .1) .behind, entry-stands (c .before .before .before .before .before .before .before .before .before .before .before .before .before .args .line .now) (c .before .before .before .before .before .before .before .before .before .loop .at) _ (c .before .before .before .before .before .before .before .before .entry .ensures) _ _ _ _ (c .before .before .before .before .before .before .start .given .1) .next)
 
--- src/owners.rt:64:5
 loop-again : tie.Need-loop-again Inv-loop μ-loop
 loop-again c = reading-on (c .before .before .before .before .before .before .before .before .before .before .before .before .before .args .text .now) (c .before .before .before .before .before .before .before .before .before .before .before .before .before .args .line .now) (c .before .before .before .before .before .before .before .before .before .before .before .before .before .args .words .now) (c .before .before .before .before .before .before .before .before .before .before .before .before .before .args .counts) (c .before .before .before .before .before .before .before .before .before .before .before .before .before .args .offset) (c .before .before .before .before .before .before .before .before .before .before .before .before .before .args .declared) (c .before .before .before .before .before .before .before .before .before .before .before .before .before .args .from) (c .before .before .before .before .before .before .before .before .before .loop .words) (c .before .before .before .before .before .before .before .before .before .loop .at) (c .before .before .before .before .before .before .before .before .before .loop .known) (c .before .before .before .before .before .before .before .before .before .loop .inv) _ (c .before .before .before .before .before .before .before .before .entry .ensures) (c .before .before .before .before .before .before .before .before .before .before .before .before .before .args .base) (c .before .before .before .before .before .before .before .before .before .before .before .before .before .pre .0) _ _ _ _ _ _ (c .before .before .before .before .before .before .start .given .1) (rw (c .before .before .before .shifted .ensures) at (c .before .before .add-entry .ensures))
 
--- src/owners.rt:87:30
 enum-known-e : tie.Need-enum-known-e Inv-loop μ-loop
 enum-known-e c = search needs
 
--- src/owners.rt:88:20
 only-spaces-requires : tie.Need-only-spaces-requires Inv-loop μ-loop
 only-spaces-requires c κs = search needs
 
--- src/owners.rt:89:21
 same-length : tie.Need-same-length Inv-loop μ-loop
 same-length c = c .before .before .before .before .before .before .loop .inv .agrees .tables .size
 
--- src/owners.rt:89:21
 returns : tie.Need-returns Inv-loop μ-loop
 returns c = record { agrees = c .before .before .before .before .before .before .loop .inv .agrees; told = reading-ends (c .before .before .before .before .before .before .before .before .before .before .args .text .now) (c .before .before .before .before .before .before .before .before .before .before .args .line .now) (c .before .before .before .before .before .before .before .before .before .before .args .words .now) (c .before .before .before .before .before .before .before .before .before .before .args .counts) (c .before .before .before .before .before .before .before .before .before .before .args .offset) (c .before .before .before .before .before .before .before .before .before .before .args .declared) (c .before .before .before .before .before .before .before .before .before .before .args .from) (c .before .before .before .before .before .before .loop .words) (c .before .before .before .before .before .before .loop .at) (c .before .before .before .before .before .before .loop .known) (c .before .before .before .before .before .before .loop .inv) _ (c .before .before .before .before .before .entry .ensures) (omega (arith, c .before .before .before .before .before .before .before .before .before .before .pre .0 .inside, c .before .before .before .before .before .before .before .before .before .before .pre .0 .limit)) _ (c .before .before .before .e .given .1) _ (c .before .only-spaces .ensures) (c .if1 .taken) }
 
--- src/owners.rt:91:17
 same-length-2 : tie.Need-same-length-2 Inv-loop μ-loop
 same-length-2 c = c .before .before .before .before .before .before .loop .inv .agrees .tables .size
 
--- src/owners.rt:91:17
 returns-2 : tie.Need-returns-2 Inv-loop μ-loop
 returns-2 c = record { agrees = c .before .before .before .before .before .before .loop .inv .agrees; told = reading-spoilt (c .before .before .before .before .before .before .before .before .before .before .args .text .now) (c .before .before .before .before .before .before .before .before .before .before .args .line .now) (c .before .before .before .before .before .before .before .before .before .before .args .words .now) (c .before .before .before .before .before .before .before .before .before .before .args .counts) (c .before .before .before .before .before .before .before .before .before .before .args .offset) (c .before .before .before .before .before .before .before .before .before .before .args .declared) (c .before .before .before .before .before .before .before .before .before .before .args .from) (c .before .before .before .before .before .before .loop .words) (c .before .before .before .before .before .before .loop .at) (c .before .before .before .before .before .before .loop .known) (c .before .before .before .before .before .before .loop .inv) _ (c .before .before .before .before .before .entry .ensures) _ (c .before .before .before .e .given .1) _ (c .before .only-spaces .ensures) (c .if1 .left) }
 
--- src/owners.rt:94:17
 enum-told : tie.Need-enum-told Inv-loop μ-loop
 enum-told c = search needs
 
--- src/owners.rt:94:17
 same-length-3 : tie.Need-same-length-3 Inv-loop μ-loop
 same-length-3 c = c .before .before .before .loop .inv .agrees .tables .size
 
--- src/owners.rt:94:17
 returns-3 : tie.Need-returns-3 Inv-loop μ-loop
 returns-3 c = record { agrees = c .before .before .before .loop .inv .agrees; told = reading-broken (c .before .before .before .before .before .before .before .args .text .now) (c .before .before .before .before .before .before .before .args .line .now) (c .before .before .before .before .before .before .before .args .words .now) (c .before .before .before .before .before .before .before .args .counts) (c .before .before .before .before .before .before .before .args .offset) (c .before .before .before .before .before .before .before .args .declared) (c .before .before .before .before .before .before .before .args .from) (c .before .before .before .loop .words) (c .before .before .before .loop .at) (c .before .before .before .loop .known) (c .before .before .before .loop .inv) _ (c .before .before .entry .ensures) (c .enum-told .given .1) }
 

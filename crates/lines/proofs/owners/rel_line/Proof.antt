@@ -13,35 +13,27 @@ use Rattle.lines.proofs.owners.read_entries.Reads as read-entries-reads
 use Rattle.lines.proofs.owners.read_names.Reads as read-names-reads
 use Rattle.lines.proofs.steps.add_relationship.Reads as add-relationship-reads
 
--- src/owners.rt:172:11
 read-names-requires : tie.Need-read-names-requires
 read-names-requires c κs = search needs
 
--- src/owners.rt:173:24
 enum-known-label : tie.Need-enum-known-label
 enum-known-label c = search needs
 
--- src/owners.rt:175:19
 read-entries-requires : tie.Need-read-entries-requires
 read-entries-requires c κs = (c .before .before .before .before .before .before .before .before .pre, inr (refl, refl), rel-got (c .before .before .before .before .before .before .before .before .args .text .now) (c .before .before .before .before .before .before .before .before .args .line .now) (c .before .before .before .before .before .before .before .before .args .words .now) (c .before .before .before .before .before .before .before .before .args .counts) (c .before .before .before .before .before .before .before .before .args .base) (c .before .before .before .before .before .before .before .before .args .from) (c .before .before .before .before .before .before .before .before .pre) _ (c .before .before .before .before .read-names .ensures) _ _ _ _ (c .before .before .label .given .1) .inside)
 
--- src/owners.rt:176:37
 enum-known-read : tie.Need-enum-known-read
 enum-known-read c = search needs
 
--- src/owners.rt:180:21
 moved-requires : tie.Need-moved-requires
 moved-requires c κs = omega (arith, c .before .before .before .before .before .before .before .before .before .before .before .before .before .before .before .pre .inside, c .before .before .before .before .before .before .before .before .before .before .before .before .before .before .before .pre .limit, rel-got (c .before .before .before .before .before .before .before .before .before .before .before .before .before .before .before .args .text .now) (c .before .before .before .before .before .before .before .before .before .before .before .before .before .before .before .args .line .now) (c .before .before .before .before .before .before .before .before .before .before .before .before .before .before .before .args .words .now) (c .before .before .before .before .before .before .before .before .before .before .before .before .before .before .before .args .counts) (c .before .before .before .before .before .before .before .before .before .before .before .before .before .before .before .args .base) (c .before .before .before .before .before .before .before .before .before .before .before .before .before .before .before .args .from) (c .before .before .before .before .before .before .before .before .before .before .before .before .before .before .before .pre) _ (c .before .before .before .before .before .before .before .before .before .before .before .read-names .ensures) _ _ _ _ (c .before .before .before .before .before .before .before .before .before .label .given .1))
 
--- src/owners.rt:181:21
 moved-requires-2 : tie.Need-moved-requires-2
 moved-requires-2 c κs = omega (arith, c .before .before .before .before .before .before .before .before .before .before .before .before .before .before .before .before .pre .inside, c .before .before .before .before .before .before .before .before .before .before .before .before .before .before .before .before .pre .limit, rel-got (c .before .before .before .before .before .before .before .before .before .before .before .before .before .before .before .before .args .text .now) (c .before .before .before .before .before .before .before .before .before .before .before .before .before .before .before .before .args .line .now) (c .before .before .before .before .before .before .before .before .before .before .before .before .before .before .before .before .args .words .now) (c .before .before .before .before .before .before .before .before .before .before .before .before .before .before .before .before .args .counts) (c .before .before .before .before .before .before .before .before .before .before .before .before .before .before .before .before .args .base) (c .before .before .before .before .before .before .before .before .before .before .before .before .before .before .before .before .args .from) (c .before .before .before .before .before .before .before .before .before .before .before .before .before .before .before .before .pre) _ (c .before .before .before .before .before .before .before .before .before .before .before .before .read-names .ensures) _ _ _ _ (c .before .before .before .before .before .before .before .before .before .before .label .given .1))
 
--- src/owners.rt:182:21
 moved-requires-3 : tie.Need-moved-requires-3
 moved-requires-3 c κs = omega (arith, c .before .before .before .before .before .before .before .before .before .before .before .before .before .before .before .before .before .pre .inside, c .before .before .before .before .before .before .before .before .before .before .before .before .before .before .before .before .before .pre .limit, rel-got (c .before .before .before .before .before .before .before .before .before .before .before .before .before .before .before .before .before .args .text .now) (c .before .before .before .before .before .before .before .before .before .before .before .before .before .before .before .before .before .args .line .now) (c .before .before .before .before .before .before .before .before .before .before .before .before .before .before .before .before .before .args .words .now) (c .before .before .before .before .before .before .before .before .before .before .before .before .before .before .before .before .before .args .counts) (c .before .before .before .before .before .before .before .before .before .before .before .before .before .before .before .before .before .args .base) (c .before .before .before .before .before .before .before .before .before .before .before .before .before .before .before .before .before .args .from) (c .before .before .before .before .before .before .before .before .before .before .before .before .before .before .before .before .before .pre) _ (c .before .before .before .before .before .before .before .before .before .before .before .before .before .read-names .ensures) _ _ _ _ (c .before .before .before .before .before .before .before .before .before .before .before .label .given .1))
 
--- src/owners.rt:176:46
 add-relationship-requires : tie.Need-add-relationship-requires
 add-relationship-requires c κs = let n = rel-got (c .before .before .before .before .before .before .before .before .before .before .before .before .before .before .before .before .before .before .args .text .now) (c .before .before .before .before .before .before .before .before .before .before .before .before .before .before .before .before .before .before .args .line .now) (c .before .before .before .before .before .before .before .before .before .before .before .before .before .before .before .before .before .before .args .words .now) (c .before .before .before .before .before .before .before .before .before .before .before .before .before .before .before .before .before .before .args .counts) (c .before .before .before .before .before .before .before .before .before .before .before .before .before .before .before .before .before .before .args .base) (c .before .before .before .before .before .before .before .before .before .before .before .before .before .before .before .before .before .before .args .from) (c .before .before .before .before .before .before .before .before .before .before .before .before .before .before .before .before .before .before .pre) _ (c .before .before .before .before .before .before .before .before .before .before .before .before .before .before .read-names .ensures) _ _ _ _ (c .before .before .before .before .before .before .before .before .before .before .before .before .label .given .1) in
     let asked = moved-asked (c .before .before .before .before .before .before .before .before .before .before .before .before .before .before .before .before .before .before .args .text .now) (c .before .before .before .before .before .before .before .before .before .before .before .before .before .before .before .before .before .before .args .line .now) (c .before .before .before .before .before .before .before .before .before .before .before .before .before .before .before .before .before .before .args .words .now) (c .before .before .before .before .before .before .before .before .before .before .before .before .before .before .before .before .before .before .args .counts) (c .before .before .before .before .before .before .before .before .before .before .before .before .before .before .before .before .before .before .args .base) in (
@@ -52,32 +44,25 @@ add-relationship-requires c κs = let n = rel-got (c .before .before .before .be
       entries-got (c .before .before .before .before .before .before .before .before .before .before .before .before .before .before .before .before .before .before .args .text .now) (c .before .before .before .before .before .before .before .before .before .before .before .before .before .before .before .before .before .before .args .line .now) (c .before .before .before .before .before .before .before .before .before .before .before .before .before .before .before .before .before .before .args .words .now) _ (c .before .before .before .before .before .before .before .before .before .before .before .before .before .before .before .before .before .before .args .counts) _ _ _ _ _ (c .before .before .before .before .before .before .before .before .before .read-entries .ensures) (c .before .before .before .before .before .read .given .1) .few,
     )
 
--- src/owners.rt:185:40
 enum-told : tie.Need-enum-told
 enum-told c = search needs
 
--- src/owners.rt:188:27
 enum-told-2 : tie.Need-enum-told-2
 enum-told-2 c = search needs
 
--- src/owners.rt:168:1
 same-length : tie.Need-same-length
 same-length c = search needs
 
--- src/owners.rt:168:1
 returns : tie.Need-returns
 returns c = let got = entries-got (c .before .before .before .before .before .before .before .before .before .before .before .before .before .before .before .before .before .before .before .before .before .args .text .now) (c .before .before .before .before .before .before .before .before .before .before .before .before .before .before .before .before .before .before .before .before .before .args .line .now) (c .before .before .before .before .before .before .before .before .before .before .before .before .before .before .before .before .before .before .before .before .before .args .words .now) _ (c .before .before .before .before .before .before .before .before .before .before .before .before .before .before .before .before .before .before .before .before .before .args .counts) _ _ _ _ _ (c .before .before .before .before .before .before .before .before .before .before .before .before .read-entries .ensures) (c .before .before .before .before .before .before .before .before .read .given .1) in
     rw (rel-step (c .before .before .before .before .before .before .before .before .before .before .before .before .before .before .before .before .before .before .before .before .before .args .text .now) (c .before .before .before .before .before .before .before .before .before .before .before .before .before .before .before .before .before .before .before .before .before .args .line .now) (c .before .before .before .before .before .before .before .before .before .before .before .before .before .before .before .before .before .before .before .before .before .args .words .now) (c .before .before .before .before .before .before .before .before .before .before .before .before .before .before .before .before .before .before .before .before .before .args .counts) (c .before .before .before .before .before .before .before .before .before .before .before .before .before .before .before .before .before .before .before .before .before .args .base) (c .before .before .before .before .before .before .before .before .before .before .before .before .before .before .before .before .before .before .before .before .before .args .from) (c .before .before .before .before .before .before .before .before .before .before .before .before .before .before .before .before .before .before .before .before .before .pre) _ (c .before .before .before .before .before .before .before .before .before .before .before .before .before .before .before .before .before .read-names .ensures) _ _ _ _ (c .before .before .before .before .before .before .before .before .before .before .before .before .before .before .before .label .given .1) _ _ _ _ (c .before .before .before .before .before .before .before .before .before .before .before .before .read-entries .ensures) _ (c .before .before .before .before .before .before .before .before .read .given .1) got, ← c .before .before .before .before .before .moved .ensures, ← c .before .before .before .before .moved2 .ensures, ← c .before .before .before .moved3 .ensures) (c .before .before .add-relationship .ensures (got .got) (got .after))
 
--- src/owners.rt:168:1
 same-length-2 : tie.Need-same-length-2
 same-length-2 c = search needs
 
--- src/owners.rt:168:1
 returns-2 : tie.Need-returns-2
 returns-2 c = rel-spoilt (c .before .before .before .before .before .before .before .before .before .before .before .before .before .args .text .now) (c .before .before .before .before .before .before .before .before .before .before .before .before .before .args .line .now) (c .before .before .before .before .before .before .before .before .before .before .before .before .before .args .words .now) (c .before .before .before .before .before .before .before .before .before .before .before .before .before .args .counts) (c .before .before .before .before .before .before .before .before .before .before .before .before .before .args .base) (c .before .before .before .before .before .before .before .before .before .before .before .before .before .args .from) (c .before .before .before .before .before .before .before .before .before .before .before .before .before .pre) _ (c .before .before .before .before .before .before .before .before .before .read-names .ensures) _ _ _ _ (c .before .before .before .before .before .before .before .label .given .1) _ _ _ _ (c .before .before .before .before .read-entries .ensures) (c .enum-told .given .1)
 
--- src/owners.rt:168:1
 returns-3 : tie.Need-returns-3
 returns-3 c = rel-broken (c .before .before .before .before .before .before .args .text .now) (c .before .before .before .before .before .before .args .line .now) (c .before .before .before .before .before .before .args .words .now) (c .before .before .before .before .before .before .args .counts) (c .before .before .before .before .before .before .args .base) (c .before .before .before .before .before .before .args .from) (c .before .before .before .before .before .before .pre) _ (c .before .before .read-names .ensures) (c .enum-told2 .given .1)
 

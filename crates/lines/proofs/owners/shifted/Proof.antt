@@ -1,7 +1,7 @@
 use Rattle.model.specs.declared.Value.{Value}
 use Rattle.tables.specs.ValueWords.{EndsBefore}
 use Rattle.lines.specs.Entries.{shift}
-use mathlib.Core.Path.{sym, ap, _∙_, subst}
+use mathlib.Core.Path.{sym, ap, subst}
 use native.Mathlib.Omega.{arith}
 use borrow.Author.Needs.{needs}
 use Rattle.lines.proofs.owners.shifted.Statement.{statement}
@@ -9,31 +9,24 @@ use Rattle.lines.proofs.owners.shifted.Tie as tie
 use Rattle.lines.proofs.owners.shifted.Reads as reads
 use Rattle.lines.proofs.owners.shifted.Lts as lts
 
--- src/owners.rt:38:23
 enum-known-value : tie.Need-enum-known-value
 enum-known-value c = search needs
 
--- src/owners.rt:39:21
 enum-known-value-2 : tie.Need-enum-known-value-2
 enum-known-value-2 c = search needs
 
--- src/owners.rt:39:49
 add-t8 : tie.Need-add-t8
 add-t8 c = omega (arith, subst (λ (v : Value). EndsBefore 65536 (shift (c .before .before .before .args .base) v)) (c .before .value2 .given .1) (c .before .before .before .pre))
 
--- src/owners.rt:40:22
 enum-known-value-3 : tie.Need-enum-known-value-3
 enum-known-value-3 c = search needs
 
--- src/owners.rt:33:1
 returns : tie.Need-returns
 returns c = sym (ap (shift (c .before .before .before .args .base)) (c .before .value .given .1))
 
--- src/owners.rt:33:1
 returns-2 : tie.Need-returns-2
 returns-2 c = sym (ap (shift (c .before .before .before .args .base)) (c .before .value2 .given .1))
 
--- src/owners.rt:33:1
 returns-3 : tie.Need-returns-3
 returns-3 c = sym (ap (shift (c .before .before .before .args .base)) (c .before .value3 .given .1))
 

@@ -7,46 +7,36 @@ use Rattle.lines.proofs.pieces.kind_of.Reads as reads
 use Rattle.lines.proofs.pieces.kind_of.Lts as lts
 use Rattle.text.proofs.compare.same_bytes.Reads as same-bytes-reads
 
--- src/pieces.rt:51:25
 slice-aggregate-same-bytes : tie.Need-slice-aggregate-same-bytes
 slice-aggregate-same-bytes c = search needs
 
--- src/pieces.rt:51:8
 same-bytes-requires : tie.Need-same-bytes-requires
 same-bytes-requires c κs = search needs
 
--- src/pieces.rt:52:9
 returns : tie.Need-returns
 unfolding kindRead
 returns c = rw (sym (c .before .same-bytes .ensures) ∙ c .if1 .taken)
 
--- src/pieces.rt:54:25
 slice-aggregate-same-bytes-2 : tie.Need-slice-aggregate-same-bytes-2
 slice-aggregate-same-bytes-2 c = search needs
 
--- src/pieces.rt:54:8
 same-bytes-requires-2 : tie.Need-same-bytes-requires-2
 same-bytes-requires-2 c κs = search needs
 
--- src/pieces.rt:55:9
 returns-2 : tie.Need-returns-2
 unfolding kindRead
 returns-2 c = rw (sym (c .before .before .before .before .same-bytes .ensures) ∙ c .before .before .before .if1 .left, sym (c .before .same-bytes2 .ensures) ∙ c .if2 .taken)
 
--- src/pieces.rt:57:25
 slice-aggregate-same-bytes-3 : tie.Need-slice-aggregate-same-bytes-3
 slice-aggregate-same-bytes-3 c = search needs
 
--- src/pieces.rt:57:8
 same-bytes-requires-3 : tie.Need-same-bytes-requires-3
 same-bytes-requires-3 c κs = search needs
 
--- src/pieces.rt:58:9
 returns-3 : tie.Need-returns-3
 unfolding kindRead
 returns-3 c = rw (sym (c .before .before .before .before .before .before .before .same-bytes .ensures) ∙ c .before .before .before .before .before .before .if1 .left, sym (c .before .before .before .before .same-bytes2 .ensures) ∙ c .before .before .before .if2 .left, sym (c .before .same-bytes3 .ensures) ∙ c .if3 .taken)
 
--- src/pieces.rt:48:1
 returns-4 : tie.Need-returns-4
 unfolding kindRead
 returns-4 c = rw (sym (c .before .before .before .before .before .before .before .same-bytes .ensures) ∙ c .before .before .before .before .before .before .if1 .left, sym (c .before .before .before .before .same-bytes2 .ensures) ∙ c .before .before .before .if2 .left, sym (c .before .same-bytes3 .ensures) ∙ c .if3 .left)

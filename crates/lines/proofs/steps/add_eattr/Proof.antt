@@ -14,59 +14,45 @@ use Rattle.lines.proofs.steps.name_word.Reads as name-word-reads
 use Rattle.tables.proofs.names.find_eattr.Reads as find-eattr-reads
 use Rattle.tables.proofs.stores.store_attr.Reads as store-attr-reads
 
--- src/steps.rt:94:15
 add-end : tie.Need-add-end
 add-end c = search needs
 
--- src/steps.rt:96:55
 sub-find-eattr : tie.Need-sub-find-eattr
 sub-find-eattr c = search needs
 
--- src/steps.rt:96:55
 part-find-eattr-start : tie.Need-part-find-eattr-start
 part-find-eattr-start c = search needs
 
--- src/steps.rt:96:55
 part-find-eattr-end : tie.Need-part-find-eattr-end
 part-find-eattr-end c = search needs
 
--- src/steps.rt:96:8
 find-eattr-requires : tie.Need-find-eattr-requires
 find-eattr-requires c κs = search needs
 
--- src/steps.rt:97:9
 same-length : tie.Need-same-length
 same-length c = search needs
 
--- src/steps.rt:97:9
 returns : tie.Need-returns
 returns c = eattr-twice (c .before .before .before .before .before .before .before .args .text .now) (c .before .before .before .before .before .before .before .args .words .now) (c .before .before .before .before .before .before .before .args .counts) (c .before .before .before .before .before .before .before .args .name) (c .before .before .before .before .before .before .before .pre .0) (c .before .before .before .before .before .before .before .pre .1) (c .before .before .before .before .before .before .before .args .kind) _ (c .before .find-eattr .ensures ∙ ap (λ (w : Bytes). place w (attrNames (bookAt (c .before .before .before .before .before .before .before .args .text .now) (c .before .before .before .before .before .before .before .args .words .now) (c .before .before .before .before .before .before .before .args .counts) .eattrs))) (slice-name (c .before .before .before .before .before .before .before .args .text .now) (c .before .before .before .before .before .before .before .args .name))) (c .if1 .taken)
 
--- src/steps.rt:100:9
 same-length-2 : tie.Need-same-length-2
 same-length-2 c = search needs
 
--- src/steps.rt:100:9
 returns-2 : tie.Need-returns-2
 returns-2 c = eattr-full (c .before .before .before .before .before .before .before .before .args .text .now) (c .before .before .before .before .before .before .before .before .args .words .now) (c .before .before .before .before .before .before .before .before .args .counts) (c .before .before .before .before .before .before .before .before .args .name) (c .before .before .before .before .before .before .before .before .pre .0) (c .before .before .before .before .before .before .before .before .pre .1) (c .before .before .before .before .before .before .before .before .args .kind) _ (c .before .before .find-eattr .ensures ∙ ap (λ (w : Bytes). place w (attrNames (bookAt (c .before .before .before .before .before .before .before .before .args .text .now) (c .before .before .before .before .before .before .before .before .args .words .now) (c .before .before .before .before .before .before .before .before .args .counts) .eattrs))) (slice-name (c .before .before .before .before .before .before .before .before .args .text .now) (c .before .before .before .before .before .before .before .before .args .name))) (c .before .if1 .left) (c .if2 .taken)
 
--- src/steps.rt:102:59
 name-word-requires : tie.Need-name-word-requires
 name-word-requires c κs = search needs
 
--- src/steps.rt:102:5
 store-attr-requires : tie.Need-store-attr-requires
 store-attr-requires c κs = omega (arith, c .before .before .before .before .before .before .before .before .before .before .pre .1 .room)
 
--- src/steps.rt:105:17
 add-t9 : tie.Need-add-t9
 add-t9 c = search needs
 
--- src/steps.rt:89:1
 same-length-3 : tie.Need-same-length-3
 same-length-3 c = search needs
 
--- src/steps.rt:89:1
 returns-3 : tie.Need-returns-3
 returns-3 c = rw (c .before .before .store-attr .ensures, c .before .before .before .name-word .ensures) (eattr-fine (c .before .before .before .before .before .before .before .before .before .before .before .before .before .args .text .now) (c .before .before .before .before .before .before .before .before .before .before .before .before .before .args .words .now) (c .before .before .before .before .before .before .before .before .before .before .before .before .before .args .counts) (c .before .before .before .before .before .before .before .before .before .before .before .before .before .args .name) (c .before .before .before .before .before .before .before .before .before .before .before .before .before .pre .0) (c .before .before .before .before .before .before .before .before .before .before .before .before .before .pre .1) (c .before .before .before .before .before .before .before .before .before .before .before .before .before .args .kind) _ (c .before .before .before .before .before .before .before .find-eattr .ensures ∙ ap (λ (w : Bytes). place w (attrNames (bookAt (c .before .before .before .before .before .before .before .before .before .before .before .before .before .args .text .now) (c .before .before .before .before .before .before .before .before .before .before .before .before .before .args .words .now) (c .before .before .before .before .before .before .before .before .before .before .before .before .before .args .counts) .eattrs))) (slice-name (c .before .before .before .before .before .before .before .before .before .before .before .before .before .args .text .now) (c .before .before .before .before .before .before .before .before .before .before .before .before .before .args .name))) (c .before .before .before .before .before .before .if1 .left) (c .before .before .before .before .before .if2 .left))
 

@@ -8,39 +8,30 @@ use Rattle.lines.proofs.steps.label_number.Reads as label-number-reads
 use Rattle.lines.proofs.steps.name_word.Reads as name-word-reads
 use Rattle.tables.proofs.stores.store_label.Reads as store-label-reads
 
--- src/steps.rt:119:8
 label-number-requires : tie.Need-label-number-requires
 label-number-requires c κs = search needs
 
--- src/steps.rt:120:9
 same-length : tie.Need-same-length
 same-length c = search needs
 
--- src/steps.rt:120:9
 returns : tie.Need-returns
 returns c = label-twice (c .before .before .before .before .before .args .text .now) (c .before .before .before .before .before .args .words .now) (c .before .before .before .before .before .args .counts) (c .before .before .before .before .before .args .name) (c .before .before .before .before .before .pre .0) (c .before .before .before .before .before .pre .1) _ (c .before .label-number .ensures) (c .if1 .taken)
 
--- src/steps.rt:123:9
 same-length-2 : tie.Need-same-length-2
 same-length-2 c = search needs
 
--- src/steps.rt:123:9
 returns-2 : tie.Need-returns-2
 returns-2 c = label-full (c .before .before .before .before .before .before .args .text .now) (c .before .before .before .before .before .before .args .words .now) (c .before .before .before .before .before .before .args .counts) (c .before .before .before .before .before .before .args .name) (c .before .before .before .before .before .before .pre .0) (c .before .before .before .before .before .before .pre .1) _ (c .before .before .label-number .ensures) (c .before .if1 .left) (c .if2 .taken)
 
--- src/steps.rt:125:64
 name-word-requires : tie.Need-name-word-requires
 name-word-requires c κs = search needs
 
--- src/steps.rt:125:21
 store-label-requires : tie.Need-store-label-requires
 store-label-requires c κs = (c .before .before .before .before .before .before .before .before .pre .1 .room, c .before .before .if2 .left)
 
--- src/steps.rt:114:1
 same-length-3 : tie.Need-same-length-3
 same-length-3 c = search needs
 
--- src/steps.rt:114:1
 returns-3 : tie.Need-returns-3
 returns-3 c = rw (c .before .before .store-label .ensures .0, c .before .before .store-label .ensures .1, c .before .before .before .name-word .ensures) (label-fine (c .before .before .before .before .before .before .before .before .before .before .before .args .text .now) (c .before .before .before .before .before .before .before .before .before .before .before .args .words .now) (c .before .before .before .before .before .before .before .before .before .before .before .args .counts) (c .before .before .before .before .before .before .before .before .before .before .before .args .name) (c .before .before .before .before .before .before .before .before .before .before .before .pre .0) (c .before .before .before .before .before .before .before .before .before .before .before .pre .1) _ (c .before .before .before .before .before .before .before .label-number .ensures) (c .before .before .before .before .before .before .if1 .left) (c .before .before .before .before .before .if2 .left))
 

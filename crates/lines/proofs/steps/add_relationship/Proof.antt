@@ -16,92 +16,70 @@ use Rattle.lines.proofs.steps.owner_fault.Reads as owner-fault-reads
 use Rattle.tables.proofs.relationships.is_related.Reads as is-related-reads
 use Rattle.tables.proofs.stores.store_relationship.Reads as store-relationship-reads
 
--- src/steps.rt:180:9
 label-number-requires : tie.Need-label-number-requires
 label-number-requires c κs = search needs
 
--- src/steps.rt:182:9
 same-length : tie.Need-same-length
 same-length c = search needs
 
--- src/steps.rt:182:9
 returns : tie.Need-returns
 returns c = λ es after. label-missing (c .before .before .before .before .before .before .args .text .now) (c .before .before .before .before .before .before .args .words .now) (c .before .before .before .before .before .before .args .counts) (c .before .before .before .before .before .before .pre .3) (c .before .before .before .before .before .before .args .read) es _ _ _ _ (c .before .before .label-number .ensures) (c .if1 .taken)
 
--- src/steps.rt:184:9
 node-number-requires : tie.Need-node-number-requires
 node-number-requires c κs = search needs
 
--- src/steps.rt:186:9
 same-length-2 : tie.Need-same-length-2
 same-length-2 c = search needs
 
--- src/steps.rt:186:9
 returns-2 : tie.Need-returns-2
 returns-2 c = λ es after. from-missing (c .before .before .before .before .before .before .before .before .before .before .args .text .now) (c .before .before .before .before .before .before .before .before .before .before .args .words .now) (c .before .before .before .before .before .before .before .before .before .before .args .counts) (c .before .before .before .before .before .before .before .before .before .before .pre .3) (c .before .before .before .before .before .before .before .before .before .before .args .read) es _ _ _ _ (c .before .before .node-number .ensures) (c .if2 .taken)
 
--- src/steps.rt:188:9
 node-number-requires-2 : tie.Need-node-number-requires-2
 node-number-requires-2 c κs = search needs
 
--- src/steps.rt:190:9
 same-length-3 : tie.Need-same-length-3
 same-length-3 c = search needs
 
--- src/steps.rt:190:9
 returns-3 : tie.Need-returns-3
 returns-3 c = λ es after. to-missing (c .before .before .before .before .before .before .before .before .before .before .before .before .before .before .args .text .now) (c .before .before .before .before .before .before .before .before .before .before .before .before .before .before .args .words .now) (c .before .before .before .before .before .before .before .before .before .before .before .before .before .before .args .counts) (c .before .before .before .before .before .before .before .before .before .before .before .before .before .before .pre .3) (c .before .before .before .before .before .before .before .before .before .before .before .before .before .before .args .read) es _ _ _ _ (c .before .before .node-number2 .ensures) (c .if3 .taken)
 
--- src/steps.rt:192:9
 is-related-requires : tie.Need-is-related-requires
 is-related-requires c κs = search needs
 
--- src/steps.rt:193:9
 is-full-requires : tie.Need-is-full-requires
 is-full-requires c κs = (c .before .before .before .before .before .before .before .before .before .before .before .before .before .before .before .before .pre .3 .within .entries, c .before .before .before .before .before .before .before .before .before .before .before .before .before .before .before .before .pre .4)
 
--- src/steps.rt:194:9
 owner-fault-requires : tie.Need-owner-fault-requires
 owner-fault-requires c κs = search needs
 
--- src/steps.rt:196:9
 same-length-4 : tie.Need-same-length-4
 same-length-4 c = search needs
 
--- src/steps.rt:196:9
 returns-4 : tie.Need-returns-4
 returns-4 c = λ es after. rel-refused (c .before .before .before .before .before .before .before .before .before .before .before .before .before .before .before .before .before .before .before .args .text .now) (c .before .before .before .before .before .before .before .before .before .before .before .before .before .before .before .before .before .before .before .args .words .now) (c .before .before .before .before .before .before .before .before .before .before .before .before .before .before .before .before .before .before .before .args .counts) (c .before .before .before .before .before .before .before .before .before .before .before .before .before .before .before .before .before .before .before .pre .3) (c .before .before .before .before .before .before .before .before .before .before .before .before .before .before .before .before .before .before .before .args .read) es _ _ _ _ _ _ (c .before .before .before .before .before .before .before .before .before .before .before .before .before .before .before .label-number .ensures) (c .before .before .before .before .before .before .before .before .before .before .before .node-number .ensures) (c .before .before .before .before .before .before .before .node-number2 .ensures) (c .before .before .before .before .before .before .before .before .before .before .before .before .before .if1 .left) (c .before .before .before .before .before .before .before .before .before .if2 .left) (c .before .before .before .before .before .if3 .left) after _ (c .before .before .before .is-related .ensures) _ (c .before .owner-fault .ensures ∙ ap (λ (f : Bool). ownerFault (c .before .before .before .is-related .result) (c .before .before .before .before .before .before .before .before .before .before .before .before .before .before .before .before .before .before .before .args .read .fault) f) (c .before .before .is-full .ensures)) (c .if4 .taken)
 
--- src/steps.rt:198:17
 mul-word : tie.Need-mul-word
 mul-word c = omega (arith, c .before .before .before .before .before .before .before .before .before .before .before .before .before .if1 .left, c .before .before .before .before .before .before .before .before .before .before .before .before .before .before .before .before .before .before .before .pre .3 .within)
 
--- src/steps.rt:198:34
 mul-word-2 : tie.Need-mul-word-2
 mul-word-2 c = omega (arith, c .before .before .before .before .before .before .before .before .before .if2 .left, c .before .before .before .before .before .before .before .before .before .before .before .before .before .before .before .before .before .before .before .pre .3 .within)
 
--- src/steps.rt:198:17
 add-word : tie.Need-add-word
 add-word c = omega (arith, c .before .before .before .before .before .before .before .before .before .before .before .before .before .if1 .left, c .before .before .before .before .before .before .before .before .before .if2 .left, c .before .before .before .before .before .before .before .before .before .before .before .before .before .before .before .before .before .before .before .pre .3 .within)
 
--- src/steps.rt:198:17
 add-word-2 : tie.Need-add-word-2
 add-word-2 c = omega (arith, c .before .before .before .before .before .before .before .before .before .before .before .before .before .if1 .left, c .before .before .before .before .before .before .before .before .before .if2 .left, c .before .before .before .before .before .if3 .left, c .before .before .before .before .before .before .before .before .before .before .before .before .before .before .before .before .before .before .before .pre .3 .within)
 
--- src/steps.rt:198:16
 cast-word : tie.Need-cast-word
 cast-word c = omega (arith, c .before .before .before .before .before .before .before .before .before .before .before .before .before .if1 .left, c .before .before .before .before .before .before .before .before .before .if2 .left, c .before .before .before .before .before .if3 .left, c .before .before .before .before .before .before .before .before .before .before .before .before .before .before .before .before .before .before .before .pre .3 .within)
 
--- src/steps.rt:199:21
 store-relationship-requires : tie.Need-store-relationship-requires
 store-relationship-requires c κs = let r = owner-room _ _ _ _ _ _ (sym (c .before .before .owner-fault .ensures) ∙ c .before .if4 .left) (c .before .before .before .is-full .ensures) in
     (c .before .before .before .before .before .before .before .before .before .before .before .before .before .before .before .before .before .before .before .before .pre .3 .room, r .0, r .1)
 
--- src/steps.rt:175:1
 same-length-5 : tie.Need-same-length-5
 same-length-5 c = search needs
 
--- src/steps.rt:175:1
 returns-5 : tie.Need-returns-5
 returns-5 c = λ es after. rw (c .before .before .store-relationship .ensures .0, c .before .before .store-relationship .ensures .1) (rel-fine (c .before .before .before .before .before .before .before .before .before .before .before .before .before .before .before .before .before .before .before .before .before .before .before .args .text .now) (c .before .before .before .before .before .before .before .before .before .before .before .before .before .before .before .before .before .before .before .before .before .before .before .args .words .now) (c .before .before .before .before .before .before .before .before .before .before .before .before .before .before .before .before .before .before .before .before .before .before .before .args .counts) (c .before .before .before .before .before .before .before .before .before .before .before .before .before .before .before .before .before .before .before .before .before .before .before .pre .3) (c .before .before .before .before .before .before .before .before .before .before .before .before .before .before .before .before .before .before .before .before .before .before .before .args .read) es _ _ _ _ _ _ (c .before .before .before .before .before .before .before .before .before .before .before .before .before .before .before .before .before .before .before .label-number .ensures) (c .before .before .before .before .before .before .before .before .before .before .before .before .before .before .before .node-number .ensures) (c .before .before .before .before .before .before .before .before .before .before .before .node-number2 .ensures) (c .before .before .before .before .before .before .before .before .before .before .before .before .before .before .before .before .before .if1 .left) (c .before .before .before .before .before .before .before .before .before .before .before .before .before .if2 .left) (c .before .before .before .before .before .before .before .before .before .if3 .left) after _ (c .before .before .before .before .before .before .before .is-related .ensures) (sym (c .before .before .before .before .before .owner-fault .ensures ∙ ap (λ (f : Bool). ownerFault (c .before .before .before .before .before .before .before .is-related .result) (c .before .before .before .before .before .before .before .before .before .before .before .before .before .before .before .before .before .before .before .before .before .before .before .args .read .fault) f) (c .before .before .before .before .before .before .is-full .ensures)) ∙ c .before .before .before .before .if4 .left))
 

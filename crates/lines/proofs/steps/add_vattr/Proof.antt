@@ -14,59 +14,45 @@ use Rattle.lines.proofs.steps.name_word.Reads as name-word-reads
 use Rattle.tables.proofs.names.find_vattr.Reads as find-vattr-reads
 use Rattle.tables.proofs.stores.store_attr.Reads as store-attr-reads
 
--- src/steps.rt:69:15
 add-end : tie.Need-add-end
 add-end c = search needs
 
--- src/steps.rt:71:55
 sub-find-vattr : tie.Need-sub-find-vattr
 sub-find-vattr c = search needs
 
--- src/steps.rt:71:55
 part-find-vattr-start : tie.Need-part-find-vattr-start
 part-find-vattr-start c = search needs
 
--- src/steps.rt:71:55
 part-find-vattr-end : tie.Need-part-find-vattr-end
 part-find-vattr-end c = search needs
 
--- src/steps.rt:71:8
 find-vattr-requires : tie.Need-find-vattr-requires
 find-vattr-requires c κs = search needs
 
--- src/steps.rt:72:9
 same-length : tie.Need-same-length
 same-length c = search needs
 
--- src/steps.rt:72:9
 returns : tie.Need-returns
 returns c = vattr-twice (c .before .before .before .before .before .before .before .args .text .now) (c .before .before .before .before .before .before .before .args .words .now) (c .before .before .before .before .before .before .before .args .counts) (c .before .before .before .before .before .before .before .args .name) (c .before .before .before .before .before .before .before .pre .0) (c .before .before .before .before .before .before .before .pre .1) (c .before .before .before .before .before .before .before .args .kind) _ (c .before .find-vattr .ensures ∙ ap (λ (w : Bytes). place w (attrNames (bookAt (c .before .before .before .before .before .before .before .args .text .now) (c .before .before .before .before .before .before .before .args .words .now) (c .before .before .before .before .before .before .before .args .counts) .vattrs))) (slice-name (c .before .before .before .before .before .before .before .args .text .now) (c .before .before .before .before .before .before .before .args .name))) (c .if1 .taken)
 
--- src/steps.rt:75:9
 same-length-2 : tie.Need-same-length-2
 same-length-2 c = search needs
 
--- src/steps.rt:75:9
 returns-2 : tie.Need-returns-2
 returns-2 c = vattr-full (c .before .before .before .before .before .before .before .before .args .text .now) (c .before .before .before .before .before .before .before .before .args .words .now) (c .before .before .before .before .before .before .before .before .args .counts) (c .before .before .before .before .before .before .before .before .args .name) (c .before .before .before .before .before .before .before .before .pre .0) (c .before .before .before .before .before .before .before .before .pre .1) (c .before .before .before .before .before .before .before .before .args .kind) _ (c .before .before .find-vattr .ensures ∙ ap (λ (w : Bytes). place w (attrNames (bookAt (c .before .before .before .before .before .before .before .before .args .text .now) (c .before .before .before .before .before .before .before .before .args .words .now) (c .before .before .before .before .before .before .before .before .args .counts) .vattrs))) (slice-name (c .before .before .before .before .before .before .before .before .args .text .now) (c .before .before .before .before .before .before .before .before .args .name))) (c .before .if1 .left) (c .if2 .taken)
 
--- src/steps.rt:77:59
 name-word-requires : tie.Need-name-word-requires
 name-word-requires c κs = search needs
 
--- src/steps.rt:77:5
 store-attr-requires : tie.Need-store-attr-requires
 store-attr-requires c κs = omega (arith, c .before .before .before .before .before .before .before .before .before .before .pre .1 .room)
 
--- src/steps.rt:79:17
 add-t9 : tie.Need-add-t9
 add-t9 c = search needs
 
--- src/steps.rt:64:1
 same-length-3 : tie.Need-same-length-3
 same-length-3 c = search needs
 
--- src/steps.rt:64:1
 returns-3 : tie.Need-returns-3
 returns-3 c = rw (c .before .before .store-attr .ensures, c .before .before .before .name-word .ensures) (vattr-fine (c .before .before .before .before .before .before .before .before .before .before .before .before .before .args .text .now) (c .before .before .before .before .before .before .before .before .before .before .before .before .before .args .words .now) (c .before .before .before .before .before .before .before .before .before .before .before .before .before .args .counts) (c .before .before .before .before .before .before .before .before .before .before .before .before .before .args .name) (c .before .before .before .before .before .before .before .before .before .before .before .before .before .pre .0) (c .before .before .before .before .before .before .before .before .before .before .before .before .before .pre .1) (c .before .before .before .before .before .before .before .before .before .before .before .before .before .args .kind) _ (c .before .before .before .before .before .before .before .find-vattr .ensures ∙ ap (λ (w : Bytes). place w (attrNames (bookAt (c .before .before .before .before .before .before .before .before .before .before .before .before .before .args .text .now) (c .before .before .before .before .before .before .before .before .before .before .before .before .before .args .words .now) (c .before .before .before .before .before .before .before .before .before .before .before .before .before .args .counts) .vattrs))) (slice-name (c .before .before .before .before .before .before .before .before .before .before .before .before .before .args .text .now) (c .before .before .before .before .before .before .before .before .before .before .before .before .before .args .name))) (c .before .before .before .before .before .before .if1 .left) (c .before .before .before .before .before .if2 .left))
 

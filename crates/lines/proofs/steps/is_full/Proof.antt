@@ -5,15 +5,12 @@ use Rattle.lines.proofs.steps.is_full.Tie as tie
 use Rattle.lines.proofs.steps.is_full.Reads as reads
 use Rattle.lines.proofs.steps.is_full.Lts as lts
 
--- src/steps.rt:153:9
 returns : tie.Need-returns
 returns c = rw (le-leb _ _ (c .if1 .taken))
 
--- src/steps.rt:155:19
 add-result : tie.Need-add-result
 add-result c = search needs
 
--- src/steps.rt:148:1
 returns-2 : tie.Need-returns-2
 returns-2 c = rw (lt-leb _ _ (c .if1 .left))
 

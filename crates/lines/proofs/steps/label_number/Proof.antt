@@ -2,7 +2,6 @@ use Rattle.lines.proofs.StepLaws.{slice-name}
 use Rattle.tables.specs.View.{bookAt}
 use Rattle.model.specs.Names.{place}
 use Rattle.model.specs.Bytes.{Bytes}
-use native.Mathlib.Omega.{arith}
 use mathlib.Core.Path.{ap, _∙_}
 use borrow.Author.Needs.{needs}
 use Rattle.lines.proofs.steps.label_number.Statement.{statement}
@@ -11,27 +10,21 @@ use Rattle.lines.proofs.steps.label_number.Reads as reads
 use Rattle.lines.proofs.steps.label_number.Lts as lts
 use Rattle.tables.proofs.names.find_label.Reads as find-label-reads
 
--- src/steps.rt:50:15
 add-end : tie.Need-add-end
 add-end c = search needs
 
--- src/steps.rt:51:52
 sub-find-label : tie.Need-sub-find-label
 sub-find-label c = search needs
 
--- src/steps.rt:51:52
 part-find-label-start : tie.Need-part-find-label-start
 part-find-label-start c = search needs
 
--- src/steps.rt:51:52
 part-find-label-end : tie.Need-part-find-label-end
 part-find-label-end c = search needs
 
--- src/steps.rt:51:5
 find-label-requires : tie.Need-find-label-requires
 find-label-requires c κs = search needs
 
--- src/steps.rt:45:1
 returns : tie.Need-returns
 returns c = c .find-label .ensures ∙ ap (λ (w : Bytes). place w (bookAt (c .before .before .before .before .before .args .text .now) (c .before .before .before .before .before .args .words .now) (c .before .before .before .before .before .args .counts) .labels)) (slice-name (c .before .before .before .before .before .args .text .now) (c .before .before .before .before .before .args .name))
 

@@ -3,7 +3,6 @@ use Rattle.tables.specs.View.{bookAt}
 use Rattle.model.specs.Book.{nodeNames}
 use Rattle.model.specs.Names.{place}
 use Rattle.model.specs.Bytes.{Bytes}
-use native.Mathlib.Omega.{arith}
 use mathlib.Core.Path.{ap, _∙_}
 use borrow.Author.Needs.{needs}
 use Rattle.lines.proofs.steps.node_number.Statement.{statement}
@@ -12,27 +11,21 @@ use Rattle.lines.proofs.steps.node_number.Reads as reads
 use Rattle.lines.proofs.steps.node_number.Lts as lts
 use Rattle.tables.proofs.names.find_node.Reads as find-node-reads
 
--- src/steps.rt:59:15
 add-end : tie.Need-add-end
 add-end c = search needs
 
--- src/steps.rt:60:51
 sub-find-node : tie.Need-sub-find-node
 sub-find-node c = search needs
 
--- src/steps.rt:60:51
 part-find-node-start : tie.Need-part-find-node-start
 part-find-node-start c = search needs
 
--- src/steps.rt:60:51
 part-find-node-end : tie.Need-part-find-node-end
 part-find-node-end c = search needs
 
--- src/steps.rt:60:5
 find-node-requires : tie.Need-find-node-requires
 find-node-requires c κs = search needs
 
--- src/steps.rt:54:1
 returns : tie.Need-returns
 returns c = c .find-node .ensures ∙ ap (λ (w : Bytes). place w (nodeNames (bookAt (c .before .before .before .before .before .args .text .now) (c .before .before .before .before .before .args .words .now) (c .before .before .before .before .before .args .counts)))) (slice-name (c .before .before .before .before .before .args .text .now) (c .before .before .before .before .before .args .name))
 

@@ -1,32 +1,26 @@
 use Rattle.lines.specs.Steps.{ownerFault}
 use borrow.Author.Tests.{eq-eqb, ne-eqb}
-use borrow.Author.Needs.{needs}
 use Rattle.lines.proofs.steps.owner_fault.Statement.{statement}
 use Rattle.lines.proofs.steps.owner_fault.Tie as tie
 use Rattle.lines.proofs.steps.owner_fault.Reads as reads
 use Rattle.lines.proofs.steps.owner_fault.Lts as lts
 
--- src/steps.rt:133:9
 returns : tie.Need-returns
 unfolding ownerFault
 returns c = rw (eq-eqb _ 4 (c .if1 .taken))
 
--- src/steps.rt:136:9
 returns-2 : tie.Need-returns-2
 unfolding ownerFault
 returns-2 c = rw (ne-eqb _ 4 (c .before .if1 .left), c .if2 .taken)
 
--- src/steps.rt:139:9
 returns-3 : tie.Need-returns-3
 unfolding ownerFault
 returns-3 c = rw (ne-eqb _ 4 (c .before .before .if1 .left), c .before .if2 .left, ne-eqb _ 0 (c .if3 .taken))
 
--- src/steps.rt:142:9
 returns-4 : tie.Need-returns-4
 unfolding ownerFault
 returns-4 c = rw (c .before .before .if2 .left, c .before .if3 .left, c .if4 .taken)
 
--- src/steps.rt:129:1
 returns-5 : tie.Need-returns-5
 unfolding ownerFault
 returns-5 c = rw (c .before .before .if2 .left, c .before .if3 .left, c .if4 .left)

@@ -1,14 +1,14 @@
 -- `lists::scans::count_names` meets its contract. Assumes nothing.
-use Prim.Native.Nat.{ℕ, _+_, _≤_, _-_}
+use Prim.Native.Nat.{_+_, _≤_, _-_}
 use mathlib.Core.List.{List}
-use mathlib.Core.Path.{_≡_, refl, sym, ap, _∙_}
+use mathlib.Core.Path.{sym, _∙_}
 use native.Mathlib.Omega.{arith}
 use lib.ListN.{length}
 use borrow.Author.Needs.{needs}
 use Rattle.model.specs.Bytes.{Bytes}
 use Rattle.lists.proofs.Heads.{placed-at}
 use Rattle.lists.proofs.Behind.{left-next, left-done, left-over}
-use Rattle.lists.specs.Names.{NamesRead, Left}
+use Rattle.lists.specs.Names.{Left}
 use Rattle.lists.proofs.scans.count_names.Statement.{statement}
 use Rattle.lists.proofs.scans.count_names.Tie as tie
 

@@ -13,11 +13,9 @@ use Rattle.pieces.proofs.parts.comes.Reads as reads
 use Rattle.pieces.proofs.parts.comes.Lts as lts
 use Rattle.pieces.proofs.parts.link.Reads as link-reads
 
--- src/parts.rt:124:5
 link-requires : tie.Need-link-requires
 link-requires c κs = search needs
 
--- src/parts.rt:121:1
 returns : tie.Need-returns
 unfolding linkPiece markBytes spotAfter
 returns c = record { reads = link-by comes (bytesOf "-") (λ e l v. refl) (signsFrom true false (c .before .before .args .s .now) (c .before .before .args .from)) ∙ c .link .ensures .reads; moves = c .link .ensures .moves; stands = c .link .ensures .stands }

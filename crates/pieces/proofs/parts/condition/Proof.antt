@@ -5,12 +5,12 @@ use Rattle.signs.specs.Marks.{markBytes}
 use Rattle.pieces.proofs.StepLaws.{condition-by}
 use Rattle.pieces.proofs.PartLaws.{name-read, name-unread, name-moves, mark-moves, rest-differs, rest-asks, step-farther, name-stands, mark-stands, step-stands}
 use Rattle.pieces.specs.Steps.{stepOf, asked}
-use Rattle.pieces.specs.Walk.{orStopped, stopped}
+use Rattle.pieces.specs.Walk.{orStopped}
 use Rattle.signs.specs.Reads.{signsFrom}
 use Rattle.model.specs.Answers.{nameAt}
 use native.Mathlib.Omega.{arith}
 use mathlib.Core.Bool.{true, false}
-use mathlib.Core.Path.{refl, sym, ap, _∙_}
+use mathlib.Core.Path.{ap, _∙_}
 use borrow.Author.Needs.{needs}
 use Rattle.pieces.proofs.parts.condition.Statement.{statement}
 use Rattle.pieces.proofs.parts.condition.Tie as tie
@@ -21,44 +21,34 @@ use Rattle.pieces.proofs.parts.differ.Reads as differ-reads
 use Rattle.signs.proofs.expected.mark_next.Reads as mark-next-reads
 use Rattle.signs.proofs.expected.name_next.Reads as name-next-reads
 
--- src/parts.rt:184:33
 name-next-requires : tie.Need-name-next-requires
 name-next-requires c κs = search needs
 
--- src/parts.rt:184:25
 enum-known-x : tie.Need-enum-known-x
 enum-known-x c = search needs
 
--- src/parts.rt:185:9
 enum-told : tie.Need-enum-told
 enum-told c = search needs
 
--- src/parts.rt:185:9
 returns : tie.Need-returns
 unfolding stepOf orStopped
 returns c = record { reads = condition-by (signsFrom false true (c .before .before .before .before .args .s .now) (c .before .before .before .before .args .from)) ∙ ap orStopped (name-unread false true (c .before .before .before .before .args .s .now) (c .before .before .before .before .args .from) (c .before .before .name-next .result) (c .before .before .name-next .ensures) (c .enum-told .given .1) _); moves = tt; stands = tt }
 
--- src/parts.rt:187:11
 mark-next-requires : tie.Need-mark-next-requires
 mark-next-requires c κs = search needs
 
--- src/parts.rt:188:17
 enum-known-b : tie.Need-enum-known-b
 enum-known-b c = search needs
 
--- src/parts.rt:188:23
 differ-requires : tie.Need-differ-requires
 differ-requires c κs = search needs
 
--- src/parts.rt:189:22
 enum-told-2 : tie.Need-enum-told-2
 enum-told-2 c = search needs
 
--- src/parts.rt:189:22
 demand-requires : tie.Need-demand-requires
 demand-requires c κs = search needs
 
--- src/parts.rt:181:1
 returns-2 : tie.Need-returns-2
 unfolding bracketOf isMark same markBytes variableAt
 returns-2 c = record {
@@ -67,7 +57,6 @@ returns-2 c = record {
   stands = step-stands (c .before .before .before .before .before .before .before .before .before .before .args .s .now) (c .differ .result) (name-stands false true (c .before .before .before .before .before .before .before .before .before .before .args .s .now) (c .before .before .before .before .before .before .before .before .before .before .args .from) (c .before .before .before .before .before .before .before .before .name-next .result) (c .before .before .before .before .before .before .before .before .name-next .ensures) (c .before .before .before .before .before .before .x .given .0 .0) (c .before .before .before .before .before .before .x .given .0 .1 .0) (c .before .before .before .before .before .before .x .given .1) none ∙ mark-stands false true (c .before .before .before .before .before .before .before .before .before .before .args .s .now) (c .before .before .before .before .before .before .x .given .0 .1 .0) 15422 (c .before .before .before .before .mark-next .result) (c .before .before .before .before .mark-next .ensures) (c .before .before .b .given .0 .0) (c .before .before .b .given .1) none) (c .differ .ensures .stands);
 }
 
--- src/parts.rt:181:1
 returns-3 : tie.Need-returns-3
 unfolding bracketOf isMark same markBytes variableAt
 returns-3 c = record {

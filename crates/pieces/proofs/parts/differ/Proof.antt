@@ -2,10 +2,10 @@ use Rattle.model.specs.Places.{none, variableAt}
 use Rattle.pieces.specs.Steps.{otherThen}
 use Rattle.pieces.proofs.PartLaws.{name-read, name-unread, name-moves, name-stands}
 use Rattle.pieces.specs.Steps.{stepOf, walkAt, pieceOf, spotOf, chainAt, pieceStanding}
-use Rattle.pieces.specs.Walk.{orStopped, stopped, walk}
+use Rattle.pieces.specs.Walk.{orStopped}
 use native.Mathlib.Omega.{arith}
-use mathlib.Core.Bool.{true, false}
-use mathlib.Core.Path.{refl, sym, ap, _∙_}
+use mathlib.Core.Bool.{false}
+use mathlib.Core.Path.{ap}
 use borrow.Author.Needs.{needs}
 use Rattle.pieces.proofs.parts.differ.Statement.{statement}
 use Rattle.pieces.proofs.parts.differ.Tie as tie
@@ -13,24 +13,19 @@ use Rattle.pieces.proofs.parts.differ.Reads as reads
 use Rattle.pieces.proofs.parts.differ.Lts as lts
 use Rattle.signs.proofs.expected.name_next.Reads as name-next-reads
 
--- src/parts.rt:136:33
 name-next-requires : tie.Need-name-next-requires
 name-next-requires c κs = search needs
 
--- src/parts.rt:136:25
 enum-known-u : tie.Need-enum-known-u
 enum-known-u c = search needs
 
--- src/parts.rt:137:9
 enum-told : tie.Need-enum-told
 enum-told c = search needs
 
--- src/parts.rt:137:9
 returns : tie.Need-returns
 unfolding stepOf walkAt pieceOf spotOf chainAt orStopped otherThen
 returns c = record { reads = ap orStopped (name-unread false false (c .before .before .before .before .args .s .now) (c .before .before .before .before .args .from) (c .before .before .name-next .result) (c .before .before .name-next .ensures) (c .enum-told .given .1) _); moves = tt; stands = tt }
 
--- src/parts.rt:133:1
 returns-2 : tie.Need-returns-2
 unfolding stepOf walkAt pieceOf spotOf chainAt orStopped otherThen pieceStanding variableAt
 returns-2 c = record { reads = ap orStopped (name-read false false (c .before .before .before .before .before .args .s .now) (c .before .before .before .before .before .args .from) (c .before .before .before .name-next .result) (c .before .before .before .name-next .ensures) (c .before .u .given .0 .0) (c .before .u .given .0 .1 .0) (c .before .u .given .1) _); moves = omega (arith, name-moves false false (c .before .before .before .before .before .args .s .now) (c .before .before .before .before .before .args .from) (c .before .before .before .name-next .result) (c .before .before .before .name-next .ensures) (c .before .u .given .0 .0) (c .before .u .given .0 .1 .0) (c .before .u .given .1)); stands = name-stands false false (c .before .before .before .before .before .args .s .now) (c .before .before .before .before .before .args .from) (c .before .before .before .name-next .result) (c .before .before .before .name-next .ensures) (c .before .u .given .0 .0) (c .before .u .given .0 .1 .0) (c .before .u .given .1) none }

@@ -21,130 +21,100 @@ use Rattle.pieces.proofs.parts.vertex.Reads as vertex-reads
 use Rattle.signs.proofs.expected.mark_next.Reads as mark-next-reads
 use Rattle.signs.proofs.expected.name_next.Reads as name-next-reads
 
--- src/parts.rt:60:22
 mark-next-requires : tie.Need-mark-next-requires
 mark-next-requires c κs = search needs
 
--- src/parts.rt:60:17
 enum-known-a : tie.Need-enum-known-a
 enum-known-a c = search needs
 
--- src/parts.rt:61:9
 enum-told : tie.Need-enum-told
 enum-told c = search needs
 
--- src/parts.rt:61:9
 returns : tie.Need-returns
 unfolding linkThen stepOf orStopped markBytes
 returns c = record { reads = ap orStopped (mark-unread true false (c .before .before .before .before .args .s .now) (c .before .before .before .before .args .from) 91 (c .before .before .mark-next .result) (c .before .before .mark-next .ensures) (c .enum-told .given .1) _); moves = tt; stands = tt }
 
--- src/parts.rt:63:36
 name-next-requires : tie.Need-name-next-requires
 name-next-requires c κs = search needs
 
--- src/parts.rt:63:25
 enum-known-edge : tie.Need-enum-known-edge
 enum-known-edge c = search needs
 
--- src/parts.rt:64:9
 enum-told-2 : tie.Need-enum-told-2
 enum-told-2 c = search needs
 
--- src/parts.rt:64:9
 returns-2 : tie.Need-returns-2
 unfolding linkThen stepOf orStopped markBytes
 returns-2 c = record { reads = ap orStopped (mark-read true false (c .before .before .before .before .before .before .before .before .args .s .now) (c .before .before .before .before .before .before .before .before .args .from) 91 (c .before .before .before .before .before .before .mark-next .result) (c .before .before .before .before .before .before .mark-next .ensures) (c .before .before .before .before .a .given .0 .0) (c .before .before .before .before .a .given .1) _ ∙ name-unread true false (c .before .before .before .before .before .before .before .before .args .s .now) (c .before .before .before .before .a .given .0 .0) (c .before .before .name-next .result) (c .before .before .name-next .ensures) (c .enum-told2 .given .1) _); moves = tt; stands = tt }
 
--- src/parts.rt:66:22
 mark-next-requires-2 : tie.Need-mark-next-requires-2
 mark-next-requires-2 c κs = search needs
 
--- src/parts.rt:66:17
 enum-known-c : tie.Need-enum-known-c
 enum-known-c c = search needs
 
--- src/parts.rt:67:9
 enum-told-3 : tie.Need-enum-told-3
 enum-told-3 c = search needs
 
--- src/parts.rt:67:9
 returns-3 : tie.Need-returns-3
 unfolding linkThen stepOf orStopped markBytes
 returns-3 c = record { reads = ap orStopped (mark-read true false (c .before .before .before .before .before .before .before .before .before .before .before .before .args .s .now) (c .before .before .before .before .before .before .before .before .before .before .before .before .args .from) 91 (c .before .before .before .before .before .before .before .before .before .before .mark-next .result) (c .before .before .before .before .before .before .before .before .before .before .mark-next .ensures) (c .before .before .before .before .before .before .before .before .a .given .0 .0) (c .before .before .before .before .before .before .before .before .a .given .1) _ ∙ name-read true false (c .before .before .before .before .before .before .before .before .before .before .before .before .args .s .now) (c .before .before .before .before .before .before .before .before .a .given .0 .0) (c .before .before .before .before .before .before .name-next .result) (c .before .before .before .before .before .before .name-next .ensures) (c .before .before .before .before .edge .given .0 .0) (c .before .before .before .before .edge .given .0 .1 .0) (c .before .before .before .before .edge .given .1) _ ∙ mark-unread true true (c .before .before .before .before .before .before .before .before .before .before .before .before .args .s .now) (c .before .before .before .before .edge .given .0 .1 .0) 58 (c .before .before .mark-next2 .result) (c .before .before .mark-next2 .ensures) (c .enum-told3 .given .1) _); moves = tt; stands = tt }
 
--- src/parts.rt:69:37
 name-next-requires-2 : tie.Need-name-next-requires-2
 name-next-requires-2 c κs = search needs
 
--- src/parts.rt:69:25
 enum-known-label : tie.Need-enum-known-label
 enum-known-label c = search needs
 
--- src/parts.rt:70:9
 enum-told-4 : tie.Need-enum-told-4
 enum-told-4 c = search needs
 
--- src/parts.rt:70:9
 returns-4 : tie.Need-returns-4
 unfolding linkThen stepOf orStopped markBytes
 returns-4 c = record { reads = ap orStopped (mark-read true false (c .before .before .before .before .before .before .before .before .before .before .before .before .before .before .before .before .args .s .now) (c .before .before .before .before .before .before .before .before .before .before .before .before .before .before .before .before .args .from) 91 (c .before .before .before .before .before .before .before .before .before .before .before .before .before .before .mark-next .result) (c .before .before .before .before .before .before .before .before .before .before .before .before .before .before .mark-next .ensures) (c .before .before .before .before .before .before .before .before .before .before .before .before .a .given .0 .0) (c .before .before .before .before .before .before .before .before .before .before .before .before .a .given .1) _ ∙ name-read true false (c .before .before .before .before .before .before .before .before .before .before .before .before .before .before .before .before .args .s .now) (c .before .before .before .before .before .before .before .before .before .before .before .before .a .given .0 .0) (c .before .before .before .before .before .before .before .before .before .before .name-next .result) (c .before .before .before .before .before .before .before .before .before .before .name-next .ensures) (c .before .before .before .before .before .before .before .before .edge .given .0 .0) (c .before .before .before .before .before .before .before .before .edge .given .0 .1 .0) (c .before .before .before .before .before .before .before .before .edge .given .1) _ ∙ mark-read true true (c .before .before .before .before .before .before .before .before .before .before .before .before .before .before .before .before .args .s .now) (c .before .before .before .before .before .before .before .before .edge .given .0 .1 .0) 58 (c .before .before .before .before .before .before .mark-next2 .result) (c .before .before .before .before .before .before .mark-next2 .ensures) (c .before .before .before .before .c .given .0 .0) (c .before .before .before .before .c .given .1) _ ∙ name-unread true false (c .before .before .before .before .before .before .before .before .before .before .before .before .before .before .before .before .args .s .now) (c .before .before .before .before .c .given .0 .0) (c .before .before .name-next2 .result) (c .before .before .name-next2 .ensures) (c .enum-told4 .given .1) _); moves = tt; stands = tt }
 
--- src/parts.rt:72:22
 mark-next-requires-3 : tie.Need-mark-next-requires-3
 mark-next-requires-3 c κs = search needs
 
--- src/parts.rt:72:17
 enum-known-e : tie.Need-enum-known-e
 enum-known-e c = search needs
 
--- src/parts.rt:73:9
 enum-told-5 : tie.Need-enum-told-5
 enum-told-5 c = search needs
 
--- src/parts.rt:73:9
 returns-5 : tie.Need-returns-5
 unfolding linkThen stepOf orStopped markBytes
 returns-5 c = record { reads = ap orStopped (mark-read true false (c .before .before .before .before .before .before .before .before .before .before .before .before .before .before .before .before .before .before .before .before .args .s .now) (c .before .before .before .before .before .before .before .before .before .before .before .before .before .before .before .before .before .before .before .before .args .from) 91 (c .before .before .before .before .before .before .before .before .before .before .before .before .before .before .before .before .before .before .mark-next .result) (c .before .before .before .before .before .before .before .before .before .before .before .before .before .before .before .before .before .before .mark-next .ensures) (c .before .before .before .before .before .before .before .before .before .before .before .before .before .before .before .before .a .given .0 .0) (c .before .before .before .before .before .before .before .before .before .before .before .before .before .before .before .before .a .given .1) _ ∙ name-read true false (c .before .before .before .before .before .before .before .before .before .before .before .before .before .before .before .before .before .before .before .before .args .s .now) (c .before .before .before .before .before .before .before .before .before .before .before .before .before .before .before .before .a .given .0 .0) (c .before .before .before .before .before .before .before .before .before .before .before .before .before .before .name-next .result) (c .before .before .before .before .before .before .before .before .before .before .before .before .before .before .name-next .ensures) (c .before .before .before .before .before .before .before .before .before .before .before .before .edge .given .0 .0) (c .before .before .before .before .before .before .before .before .before .before .before .before .edge .given .0 .1 .0) (c .before .before .before .before .before .before .before .before .before .before .before .before .edge .given .1) _ ∙ mark-read true true (c .before .before .before .before .before .before .before .before .before .before .before .before .before .before .before .before .before .before .before .before .args .s .now) (c .before .before .before .before .before .before .before .before .before .before .before .before .edge .given .0 .1 .0) 58 (c .before .before .before .before .before .before .before .before .before .before .mark-next2 .result) (c .before .before .before .before .before .before .before .before .before .before .mark-next2 .ensures) (c .before .before .before .before .before .before .before .before .c .given .0 .0) (c .before .before .before .before .before .before .before .before .c .given .1) _ ∙ name-read true false (c .before .before .before .before .before .before .before .before .before .before .before .before .before .before .before .before .before .before .before .before .args .s .now) (c .before .before .before .before .before .before .before .before .c .given .0 .0) (c .before .before .before .before .before .before .name-next2 .result) (c .before .before .before .before .before .before .name-next2 .ensures) (c .before .before .before .before .label .given .0 .0) (c .before .before .before .before .label .given .0 .1 .0) (c .before .before .before .before .label .given .1) _ ∙ mark-unread true true (c .before .before .before .before .before .before .before .before .before .before .before .before .before .before .before .before .before .before .before .before .args .s .now) (c .before .before .before .before .label .given .0 .1 .0) 93 (c .before .before .mark-next3 .result) (c .before .before .mark-next3 .ensures) (c .enum-told5 .given .1) _); moves = tt; stands = tt }
 
--- src/parts.rt:75:22
 mark-next-requires-4 : tie.Need-mark-next-requires-4
 mark-next-requires-4 c κs = c .before .before .before .before .before .before .before .before .before .before .before .before .before .before .before .before .before .before .before .before .before .pre
 
--- src/parts.rt:75:17
 enum-known-f : tie.Need-enum-known-f
 enum-known-f c = search needs
 
--- src/parts.rt:76:9
 enum-told-6 : tie.Need-enum-told-6
 enum-told-6 c = search needs
 
--- src/parts.rt:76:9
 returns-6 : tie.Need-returns-6
 unfolding linkThen stepOf orStopped markBytes
 returns-6 c = record { reads = ap orStopped (mark-read true false (c .before .before .before .before .before .before .before .before .before .before .before .before .before .before .before .before .before .before .before .before .before .before .before .before .args .s .now) (c .before .before .before .before .before .before .before .before .before .before .before .before .before .before .before .before .before .before .before .before .before .before .before .before .args .from) 91 (c .before .before .before .before .before .before .before .before .before .before .before .before .before .before .before .before .before .before .before .before .before .before .mark-next .result) (c .before .before .before .before .before .before .before .before .before .before .before .before .before .before .before .before .before .before .before .before .before .before .mark-next .ensures) (c .before .before .before .before .before .before .before .before .before .before .before .before .before .before .before .before .before .before .before .before .a .given .0 .0) (c .before .before .before .before .before .before .before .before .before .before .before .before .before .before .before .before .before .before .before .before .a .given .1) _ ∙ name-read true false (c .before .before .before .before .before .before .before .before .before .before .before .before .before .before .before .before .before .before .before .before .before .before .before .before .args .s .now) (c .before .before .before .before .before .before .before .before .before .before .before .before .before .before .before .before .before .before .before .before .a .given .0 .0) (c .before .before .before .before .before .before .before .before .before .before .before .before .before .before .before .before .before .before .name-next .result) (c .before .before .before .before .before .before .before .before .before .before .before .before .before .before .before .before .before .before .name-next .ensures) (c .before .before .before .before .before .before .before .before .before .before .before .before .before .before .before .before .edge .given .0 .0) (c .before .before .before .before .before .before .before .before .before .before .before .before .before .before .before .before .edge .given .0 .1 .0) (c .before .before .before .before .before .before .before .before .before .before .before .before .before .before .before .before .edge .given .1) _ ∙ mark-read true true (c .before .before .before .before .before .before .before .before .before .before .before .before .before .before .before .before .before .before .before .before .before .before .before .before .args .s .now) (c .before .before .before .before .before .before .before .before .before .before .before .before .before .before .before .before .edge .given .0 .1 .0) 58 (c .before .before .before .before .before .before .before .before .before .before .before .before .before .before .mark-next2 .result) (c .before .before .before .before .before .before .before .before .before .before .before .before .before .before .mark-next2 .ensures) (c .before .before .before .before .before .before .before .before .before .before .before .before .c .given .0 .0) (c .before .before .before .before .before .before .before .before .before .before .before .before .c .given .1) _ ∙ name-read true false (c .before .before .before .before .before .before .before .before .before .before .before .before .before .before .before .before .before .before .before .before .before .before .before .before .args .s .now) (c .before .before .before .before .before .before .before .before .before .before .before .before .c .given .0 .0) (c .before .before .before .before .before .before .before .before .before .before .name-next2 .result) (c .before .before .before .before .before .before .before .before .before .before .name-next2 .ensures) (c .before .before .before .before .before .before .before .before .label .given .0 .0) (c .before .before .before .before .before .before .before .before .label .given .0 .1 .0) (c .before .before .before .before .before .before .before .before .label .given .1) _ ∙ mark-read true true (c .before .before .before .before .before .before .before .before .before .before .before .before .before .before .before .before .before .before .before .before .before .before .before .before .args .s .now) (c .before .before .before .before .before .before .before .before .label .given .0 .1 .0) 93 (c .before .before .before .before .before .before .mark-next3 .result) (c .before .before .before .before .before .before .mark-next3 .ensures) (c .before .before .before .before .e .given .0 .0) (c .before .before .before .before .e .given .1) _ ∙ mark-unread true false (c .before .before .before .before .before .before .before .before .before .before .before .before .before .before .before .before .before .before .before .before .before .before .before .before .args .s .now) (c .before .before .before .before .e .given .0 .0) (c .before .before .before .before .before .before .before .before .before .before .before .before .before .before .before .before .before .before .before .before .before .before .before .before .args .arrow) (c .before .before .mark-next4 .result) (c .before .before .mark-next4 .ensures) (c .enum-told6 .given .1) _); moves = tt; stands = tt }
 
--- src/parts.rt:78:38
 vertex-requires : tie.Need-vertex-requires
 vertex-requires c κs = search needs
 
--- src/parts.rt:78:25
 enum-known-vertex : tie.Need-enum-known-vertex
 enum-known-vertex c = search needs
 
--- src/parts.rt:79:9
 enum-told-7 : tie.Need-enum-told-7
 enum-told-7 c = search needs
 
--- src/parts.rt:79:9
 returns-7 : tie.Need-returns-7
 unfolding linkThen stepOf orStopped markBytes
 returns-7 c = record { reads = ap orStopped (mark-read true false (c .before .before .before .before .before .before .before .before .before .before .before .before .before .before .before .before .before .before .before .before .before .before .before .before .before .before .before .before .args .s .now) (c .before .before .before .before .before .before .before .before .before .before .before .before .before .before .before .before .before .before .before .before .before .before .before .before .before .before .before .before .args .from) 91 (c .before .before .before .before .before .before .before .before .before .before .before .before .before .before .before .before .before .before .before .before .before .before .before .before .before .before .mark-next .result) (c .before .before .before .before .before .before .before .before .before .before .before .before .before .before .before .before .before .before .before .before .before .before .before .before .before .before .mark-next .ensures) (c .before .before .before .before .before .before .before .before .before .before .before .before .before .before .before .before .before .before .before .before .before .before .before .before .a .given .0 .0) (c .before .before .before .before .before .before .before .before .before .before .before .before .before .before .before .before .before .before .before .before .before .before .before .before .a .given .1) _ ∙ name-read true false (c .before .before .before .before .before .before .before .before .before .before .before .before .before .before .before .before .before .before .before .before .before .before .before .before .before .before .before .before .args .s .now) (c .before .before .before .before .before .before .before .before .before .before .before .before .before .before .before .before .before .before .before .before .before .before .before .before .a .given .0 .0) (c .before .before .before .before .before .before .before .before .before .before .before .before .before .before .before .before .before .before .before .before .before .before .name-next .result) (c .before .before .before .before .before .before .before .before .before .before .before .before .before .before .before .before .before .before .before .before .before .before .name-next .ensures) (c .before .before .before .before .before .before .before .before .before .before .before .before .before .before .before .before .before .before .before .before .edge .given .0 .0) (c .before .before .before .before .before .before .before .before .before .before .before .before .before .before .before .before .before .before .before .before .edge .given .0 .1 .0) (c .before .before .before .before .before .before .before .before .before .before .before .before .before .before .before .before .before .before .before .before .edge .given .1) _ ∙ mark-read true true (c .before .before .before .before .before .before .before .before .before .before .before .before .before .before .before .before .before .before .before .before .before .before .before .before .before .before .before .before .args .s .now) (c .before .before .before .before .before .before .before .before .before .before .before .before .before .before .before .before .before .before .before .before .edge .given .0 .1 .0) 58 (c .before .before .before .before .before .before .before .before .before .before .before .before .before .before .before .before .before .before .mark-next2 .result) (c .before .before .before .before .before .before .before .before .before .before .before .before .before .before .before .before .before .before .mark-next2 .ensures) (c .before .before .before .before .before .before .before .before .before .before .before .before .before .before .before .before .c .given .0 .0) (c .before .before .before .before .before .before .before .before .before .before .before .before .before .before .before .before .c .given .1) _ ∙ name-read true false (c .before .before .before .before .before .before .before .before .before .before .before .before .before .before .before .before .before .before .before .before .before .before .before .before .before .before .before .before .args .s .now) (c .before .before .before .before .before .before .before .before .before .before .before .before .before .before .before .before .c .given .0 .0) (c .before .before .before .before .before .before .before .before .before .before .before .before .before .before .name-next2 .result) (c .before .before .before .before .before .before .before .before .before .before .before .before .before .before .name-next2 .ensures) (c .before .before .before .before .before .before .before .before .before .before .before .before .label .given .0 .0) (c .before .before .before .before .before .before .before .before .before .before .before .before .label .given .0 .1 .0) (c .before .before .before .before .before .before .before .before .before .before .before .before .label .given .1) _ ∙ mark-read true true (c .before .before .before .before .before .before .before .before .before .before .before .before .before .before .before .before .before .before .before .before .before .before .before .before .before .before .before .before .args .s .now) (c .before .before .before .before .before .before .before .before .before .before .before .before .label .given .0 .1 .0) 93 (c .before .before .before .before .before .before .before .before .before .before .mark-next3 .result) (c .before .before .before .before .before .before .before .before .before .before .mark-next3 .ensures) (c .before .before .before .before .before .before .before .before .e .given .0 .0) (c .before .before .before .before .before .before .before .before .e .given .1) _ ∙ mark-read true false (c .before .before .before .before .before .before .before .before .before .before .before .before .before .before .before .before .before .before .before .before .before .before .before .before .before .before .before .before .args .s .now) (c .before .before .before .before .before .before .before .before .e .given .0 .0) (c .before .before .before .before .before .before .before .before .before .before .before .before .before .before .before .before .before .before .before .before .before .before .before .before .before .before .before .before .args .arrow) (c .before .before .before .before .before .before .mark-next4 .result) (c .before .before .before .before .before .before .mark-next4 .ensures) (c .before .before .before .before .f .given .0 .0) (c .before .before .before .before .f .given .1) _ ∙ vertex-unread false (c .before .before .before .before .before .before .before .before .before .before .before .before .before .before .before .before .before .before .before .before .before .before .before .before .before .before .before .before .args .s .now) (c .before .before .before .before .f .given .0 .0) (c .before .before .vertex .result) (c .before .before .vertex .ensures) (c .enum-told7 .given .1) _); moves = tt; stands = tt }
 
--- src/parts.rt:87:16
 linked-requires : tie.Need-linked-requires
 linked-requires c κs = search needs
 
--- src/parts.rt:56:1
 returns-8 : tie.Need-returns-8
 unfolding linkThen stepOf walkAt spotOf chainAt orStopped markBytes bracketOf isMark same variableAt
 returns-8 c = record { reads = ap orStopped (mark-read true false (c .before .before .before .before .before .before .before .before .before .before .before .before .before .before .before .before .before .before .before .before .before .before .before .before .before .before .before .before .before .before .args .s .now) (c .before .before .before .before .before .before .before .before .before .before .before .before .before .before .before .before .before .before .before .before .before .before .before .before .before .before .before .before .before .before .args .from) 91 (c .before .before .before .before .before .before .before .before .before .before .before .before .before .before .before .before .before .before .before .before .before .before .before .before .before .before .before .before .mark-next .result) (c .before .before .before .before .before .before .before .before .before .before .before .before .before .before .before .before .before .before .before .before .before .before .before .before .before .before .before .before .mark-next .ensures) (c .before .before .before .before .before .before .before .before .before .before .before .before .before .before .before .before .before .before .before .before .before .before .before .before .before .before .a .given .0 .0) (c .before .before .before .before .before .before .before .before .before .before .before .before .before .before .before .before .before .before .before .before .before .before .before .before .before .before .a .given .1) _ ∙ name-read true false (c .before .before .before .before .before .before .before .before .before .before .before .before .before .before .before .before .before .before .before .before .before .before .before .before .before .before .before .before .before .before .args .s .now) (c .before .before .before .before .before .before .before .before .before .before .before .before .before .before .before .before .before .before .before .before .before .before .before .before .before .before .a .given .0 .0) (c .before .before .before .before .before .before .before .before .before .before .before .before .before .before .before .before .before .before .before .before .before .before .before .before .name-next .result) (c .before .before .before .before .before .before .before .before .before .before .before .before .before .before .before .before .before .before .before .before .before .before .before .before .name-next .ensures) (c .before .before .before .before .before .before .before .before .before .before .before .before .before .before .before .before .before .before .before .before .before .before .edge .given .0 .0) (c .before .before .before .before .before .before .before .before .before .before .before .before .before .before .before .before .before .before .before .before .before .before .edge .given .0 .1 .0) (c .before .before .before .before .before .before .before .before .before .before .before .before .before .before .before .before .before .before .before .before .before .before .edge .given .1) _ ∙ mark-read true true (c .before .before .before .before .before .before .before .before .before .before .before .before .before .before .before .before .before .before .before .before .before .before .before .before .before .before .before .before .before .before .args .s .now) (c .before .before .before .before .before .before .before .before .before .before .before .before .before .before .before .before .before .before .before .before .before .before .edge .given .0 .1 .0) 58 (c .before .before .before .before .before .before .before .before .before .before .before .before .before .before .before .before .before .before .before .before .mark-next2 .result) (c .before .before .before .before .before .before .before .before .before .before .before .before .before .before .before .before .before .before .before .before .mark-next2 .ensures) (c .before .before .before .before .before .before .before .before .before .before .before .before .before .before .before .before .before .before .c .given .0 .0) (c .before .before .before .before .before .before .before .before .before .before .before .before .before .before .before .before .before .before .c .given .1) _ ∙ name-read true false (c .before .before .before .before .before .before .before .before .before .before .before .before .before .before .before .before .before .before .before .before .before .before .before .before .before .before .before .before .before .before .args .s .now) (c .before .before .before .before .before .before .before .before .before .before .before .before .before .before .before .before .before .before .c .given .0 .0) (c .before .before .before .before .before .before .before .before .before .before .before .before .before .before .before .before .name-next2 .result) (c .before .before .before .before .before .before .before .before .before .before .before .before .before .before .before .before .name-next2 .ensures) (c .before .before .before .before .before .before .before .before .before .before .before .before .before .before .label .given .0 .0) (c .before .before .before .before .before .before .before .before .before .before .before .before .before .before .label .given .0 .1 .0) (c .before .before .before .before .before .before .before .before .before .before .before .before .before .before .label .given .1) _ ∙ mark-read true true (c .before .before .before .before .before .before .before .before .before .before .before .before .before .before .before .before .before .before .before .before .before .before .before .before .before .before .before .before .before .before .args .s .now) (c .before .before .before .before .before .before .before .before .before .before .before .before .before .before .label .given .0 .1 .0) 93 (c .before .before .before .before .before .before .before .before .before .before .before .before .mark-next3 .result) (c .before .before .before .before .before .before .before .before .before .before .before .before .mark-next3 .ensures) (c .before .before .before .before .before .before .before .before .before .before .e .given .0 .0) (c .before .before .before .before .before .before .before .before .before .before .e .given .1) _ ∙ mark-read true false (c .before .before .before .before .before .before .before .before .before .before .before .before .before .before .before .before .before .before .before .before .before .before .before .before .before .before .before .before .before .before .args .s .now) (c .before .before .before .before .before .before .before .before .before .before .e .given .0 .0) (c .before .before .before .before .before .before .before .before .before .before .before .before .before .before .before .before .before .before .before .before .before .before .before .before .before .before .before .before .before .before .args .arrow) (c .before .before .before .before .before .before .before .before .mark-next4 .result) (c .before .before .before .before .before .before .before .before .mark-next4 .ensures) (c .before .before .before .before .before .before .f .given .0 .0) (c .before .before .before .before .before .before .f .given .1) _ ∙ vertex-read false (c .before .before .before .before .before .before .before .before .before .before .before .before .before .before .before .before .before .before .before .before .before .before .before .before .before .before .before .before .before .before .args .s .now) (c .before .before .before .before .before .before .f .given .0 .0) (c .before .before .before .before .vertex .result) (c .before .before .before .before .vertex .ensures) (c .before .before .vertex2 .given .0 .0) (c .before .before .vertex2 .given .0 .1 .0) (c .before .before .vertex2 .given .1) _) ∙ ap (λ p. ahead p (walk inChain 0 (signsFrom true false (c .before .before .before .before .before .before .before .before .before .before .before .before .before .before .before .before .before .before .before .before .before .before .before .before .before .before .before .before .before .before .args .s .now) (c .before .before .vertex2 .given .0 .1 .0)))) (c .linked .ensures .reads (c .before .before .before .before .before .before .before .before .before .before .before .before .before .before .before .before .before .before .before .before .before .before .before .before .before .before .before .before .before .before .args .s .now)); moves = omega (arith, mark-moves true false (c .before .before .before .before .before .before .before .before .before .before .before .before .before .before .before .before .before .before .before .before .before .before .before .before .before .before .before .before .before .before .args .s .now) (c .before .before .before .before .before .before .before .before .before .before .before .before .before .before .before .before .before .before .before .before .before .before .before .before .before .before .before .before .before .before .args .from) 91 (c .before .before .before .before .before .before .before .before .before .before .before .before .before .before .before .before .before .before .before .before .before .before .before .before .before .before .before .before .mark-next .result) (c .before .before .before .before .before .before .before .before .before .before .before .before .before .before .before .before .before .before .before .before .before .before .before .before .before .before .before .before .mark-next .ensures) (c .before .before .before .before .before .before .before .before .before .before .before .before .before .before .before .before .before .before .before .before .before .before .before .before .before .before .a .given .0 .0) (c .before .before .before .before .before .before .before .before .before .before .before .before .before .before .before .before .before .before .before .before .before .before .before .before .before .before .a .given .1), name-moves true false (c .before .before .before .before .before .before .before .before .before .before .before .before .before .before .before .before .before .before .before .before .before .before .before .before .before .before .before .before .before .before .args .s .now) (c .before .before .before .before .before .before .before .before .before .before .before .before .before .before .before .before .before .before .before .before .before .before .before .before .before .before .a .given .0 .0) (c .before .before .before .before .before .before .before .before .before .before .before .before .before .before .before .before .before .before .before .before .before .before .before .before .name-next .result) (c .before .before .before .before .before .before .before .before .before .before .before .before .before .before .before .before .before .before .before .before .before .before .before .before .name-next .ensures) (c .before .before .before .before .before .before .before .before .before .before .before .before .before .before .before .before .before .before .before .before .before .before .edge .given .0 .0) (c .before .before .before .before .before .before .before .before .before .before .before .before .before .before .before .before .before .before .before .before .before .before .edge .given .0 .1 .0) (c .before .before .before .before .before .before .before .before .before .before .before .before .before .before .before .before .before .before .before .before .before .before .edge .given .1), mark-moves true true (c .before .before .before .before .before .before .before .before .before .before .before .before .before .before .before .before .before .before .before .before .before .before .before .before .before .before .before .before .before .before .args .s .now) (c .before .before .before .before .before .before .before .before .before .before .before .before .before .before .before .before .before .before .before .before .before .before .edge .given .0 .1 .0) 58 (c .before .before .before .before .before .before .before .before .before .before .before .before .before .before .before .before .before .before .before .before .mark-next2 .result) (c .before .before .before .before .before .before .before .before .before .before .before .before .before .before .before .before .before .before .before .before .mark-next2 .ensures) (c .before .before .before .before .before .before .before .before .before .before .before .before .before .before .before .before .before .before .c .given .0 .0) (c .before .before .before .before .before .before .before .before .before .before .before .before .before .before .before .before .before .before .c .given .1), name-moves true false (c .before .before .before .before .before .before .before .before .before .before .before .before .before .before .before .before .before .before .before .before .before .before .before .before .before .before .before .before .before .before .args .s .now) (c .before .before .before .before .before .before .before .before .before .before .before .before .before .before .before .before .before .before .c .given .0 .0) (c .before .before .before .before .before .before .before .before .before .before .before .before .before .before .before .before .name-next2 .result) (c .before .before .before .before .before .before .before .before .before .before .before .before .before .before .before .before .name-next2 .ensures) (c .before .before .before .before .before .before .before .before .before .before .before .before .before .before .label .given .0 .0) (c .before .before .before .before .before .before .before .before .before .before .before .before .before .before .label .given .0 .1 .0) (c .before .before .before .before .before .before .before .before .before .before .before .before .before .before .label .given .1), mark-moves true true (c .before .before .before .before .before .before .before .before .before .before .before .before .before .before .before .before .before .before .before .before .before .before .before .before .before .before .before .before .before .before .args .s .now) (c .before .before .before .before .before .before .before .before .before .before .before .before .before .before .label .given .0 .1 .0) 93 (c .before .before .before .before .before .before .before .before .before .before .before .before .mark-next3 .result) (c .before .before .before .before .before .before .before .before .before .before .before .before .mark-next3 .ensures) (c .before .before .before .before .before .before .before .before .before .before .e .given .0 .0) (c .before .before .before .before .before .before .before .before .before .before .e .given .1), mark-moves true false (c .before .before .before .before .before .before .before .before .before .before .before .before .before .before .before .before .before .before .before .before .before .before .before .before .before .before .before .before .before .before .args .s .now) (c .before .before .before .before .before .before .before .before .before .before .e .given .0 .0) (c .before .before .before .before .before .before .before .before .before .before .before .before .before .before .before .before .before .before .before .before .before .before .before .before .before .before .before .before .before .before .args .arrow) (c .before .before .before .before .before .before .before .before .mark-next4 .result) (c .before .before .before .before .before .before .before .before .mark-next4 .ensures) (c .before .before .before .before .before .before .f .given .0 .0) (c .before .before .before .before .before .before .f .given .1), vertex-moves false (c .before .before .before .before .before .before .before .before .before .before .before .before .before .before .before .before .before .before .before .before .before .before .before .before .before .before .before .before .before .before .args .s .now) (c .before .before .before .before .before .before .f .given .0 .0) (c .before .before .before .before .vertex .result) (c .before .before .before .before .vertex .ensures) (c .before .before .vertex2 .given .0 .0) (c .before .before .vertex2 .given .0 .1 .0) (c .before .before .vertex2 .given .1)); stands = mark-stands true false (c .before .before .before .before .before .before .before .before .before .before .before .before .before .before .before .before .before .before .before .before .before .before .before .before .before .before .before .before .before .before .args .s .now) (c .before .before .before .before .before .before .before .before .before .before .before .before .before .before .before .before .before .before .before .before .before .before .before .before .before .before .before .before .before .before .args .from) 91 (c .before .before .before .before .before .before .before .before .before .before .before .before .before .before .before .before .before .before .before .before .before .before .before .before .before .before .before .before .mark-next .result) (c .before .before .before .before .before .before .before .before .before .before .before .before .before .before .before .before .before .before .before .before .before .before .before .before .before .before .before .before .mark-next .ensures) (c .before .before .before .before .before .before .before .before .before .before .before .before .before .before .before .before .before .before .before .before .before .before .before .before .before .before .a .given .0 .0) (c .before .before .before .before .before .before .before .before .before .before .before .before .before .before .before .before .before .before .before .before .before .before .before .before .before .before .a .given .1) none ∙ name-stands true false (c .before .before .before .before .before .before .before .before .before .before .before .before .before .before .before .before .before .before .before .before .before .before .before .before .before .before .before .before .before .before .args .s .now) (c .before .before .before .before .before .before .before .before .before .before .before .before .before .before .before .before .before .before .before .before .before .before .before .before .before .before .a .given .0 .0) (c .before .before .before .before .before .before .before .before .before .before .before .before .before .before .before .before .before .before .before .before .before .before .before .before .name-next .result) (c .before .before .before .before .before .before .before .before .before .before .before .before .before .before .before .before .before .before .before .before .before .before .before .before .name-next .ensures) (c .before .before .before .before .before .before .before .before .before .before .before .before .before .before .before .before .before .before .before .before .before .before .edge .given .0 .0) (c .before .before .before .before .before .before .before .before .before .before .before .before .before .before .before .before .before .before .before .before .before .before .edge .given .0 .1 .0) (c .before .before .before .before .before .before .before .before .before .before .before .before .before .before .before .before .before .before .before .before .before .before .edge .given .1) square ∙ ap (λ l. edge (c .before .before .before .before .before .before .before .before .before .before .before .before .before .before .before .before .before .before .before .before .before .before .edge .given .0 .0) ∷ l) (mark-stands true true (c .before .before .before .before .before .before .before .before .before .before .before .before .before .before .before .before .before .before .before .before .before .before .before .before .before .before .before .before .before .before .args .s .now) (c .before .before .before .before .before .before .before .before .before .before .before .before .before .before .before .before .before .before .before .before .before .before .edge .given .0 .1 .0) 58 (c .before .before .before .before .before .before .before .before .before .before .before .before .before .before .before .before .before .before .before .before .mark-next2 .result) (c .before .before .before .before .before .before .before .before .before .before .before .before .before .before .before .before .before .before .before .before .mark-next2 .ensures) (c .before .before .before .before .before .before .before .before .before .before .before .before .before .before .before .before .before .before .c .given .0 .0) (c .before .before .before .before .before .before .before .before .before .before .before .before .before .before .before .before .before .before .c .given .1) none ∙ name-stands true false (c .before .before .before .before .before .before .before .before .before .before .before .before .before .before .before .before .before .before .before .before .before .before .before .before .before .before .before .before .before .before .args .s .now) (c .before .before .before .before .before .before .before .before .before .before .before .before .before .before .before .before .before .before .c .given .0 .0) (c .before .before .before .before .before .before .before .before .before .before .before .before .before .before .before .before .name-next2 .result) (c .before .before .before .before .before .before .before .before .before .before .before .before .before .before .before .before .name-next2 .ensures) (c .before .before .before .before .before .before .before .before .before .before .before .before .before .before .label .given .0 .0) (c .before .before .before .before .before .before .before .before .before .before .before .before .before .before .label .given .0 .1 .0) (c .before .before .before .before .before .before .before .before .before .before .before .before .before .before .label .given .1) none ∙ mark-stands true true (c .before .before .before .before .before .before .before .before .before .before .before .before .before .before .before .before .before .before .before .before .before .before .before .before .before .before .before .before .before .before .args .s .now) (c .before .before .before .before .before .before .before .before .before .before .before .before .before .before .label .given .0 .1 .0) 93 (c .before .before .before .before .before .before .before .before .before .before .before .before .mark-next3 .result) (c .before .before .before .before .before .before .before .before .before .before .before .before .mark-next3 .ensures) (c .before .before .before .before .before .before .before .before .before .before .e .given .0 .0) (c .before .before .before .before .before .before .before .before .before .before .e .given .1) none ∙ mark-stands true false (c .before .before .before .before .before .before .before .before .before .before .before .before .before .before .before .before .before .before .before .before .before .before .before .before .before .before .before .before .before .before .args .s .now) (c .before .before .before .before .before .before .before .before .before .before .e .given .0 .0) (c .before .before .before .before .before .before .before .before .before .before .before .before .before .before .before .before .before .before .before .before .before .before .before .before .before .before .before .before .before .before .args .arrow) (c .before .before .before .before .before .before .before .before .mark-next4 .result) (c .before .before .before .before .before .before .before .before .mark-next4 .ensures) (c .before .before .before .before .before .before .f .given .0 .0) (c .before .before .before .before .before .before .f .given .1) none ∙ vertex-stands false (c .before .before .before .before .before .before .before .before .before .before .before .before .before .before .before .before .before .before .before .before .before .before .before .before .before .before .before .before .before .before .args .s .now) (c .before .before .before .before .before .before .f .given .0 .0) (c .before .before .before .before .vertex .result) (c .before .before .before .before .vertex .ensures) (c .before .before .vertex2 .given .0 .0) (c .before .before .vertex2 .given .0 .1 .0) (c .before .before .vertex2 .given .1) _) ∙ ap (λ l. l ++ standingsFrom none true false (c .before .before .before .before .before .before .before .before .before .before .before .before .before .before .before .before .before .before .before .before .before .before .before .before .before .before .before .before .before .before .args .s .now) (c .before .before .vertex2 .given .0 .1 .0)) (sym (c .linked .ensures .stands)) }

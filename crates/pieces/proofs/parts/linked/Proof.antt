@@ -6,12 +6,10 @@ use Rattle.pieces.proofs.parts.linked.Tie as tie
 use Rattle.pieces.proofs.parts.linked.Reads as reads
 use Rattle.pieces.proofs.parts.linked.Lts as lts
 
--- src/parts.rt:50:9
 returns : tie.Need-returns
 unfolding linkPiece pieceOf pieceStanding
 returns c = record { reads = λ s. rw (eq-eqb _ 45 (c .if1 .taken)); stands = refl }
 
--- src/parts.rt:46:1
 returns-2 : tie.Need-returns-2
 unfolding linkPiece pieceOf pieceStanding
 returns-2 c = record { reads = λ s. rw (ne-eqb _ 45 (c .if1 .left)); stands = refl }

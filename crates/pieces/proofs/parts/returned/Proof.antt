@@ -3,10 +3,10 @@ use Rattle.pieces.proofs.StepLaws.{return-by}
 use Rattle.signs.specs.Reads.{signsFrom}
 use Rattle.pieces.proofs.PartLaws.{name-read, name-unread, name-moves, name-stands}
 use Rattle.pieces.specs.Steps.{stepOf, walkAt, pieceOf, spotOf, chainAt, pieceStanding}
-use Rattle.pieces.specs.Walk.{orStopped, stopped, walk}
+use Rattle.pieces.specs.Walk.{orStopped}
 use native.Mathlib.Omega.{arith}
-use mathlib.Core.Bool.{true, false}
-use mathlib.Core.Path.{refl, sym, ap, _∙_}
+use mathlib.Core.Bool.{false}
+use mathlib.Core.Path.{ap, _∙_}
 use borrow.Author.Needs.{needs}
 use Rattle.pieces.proofs.parts.returned.Statement.{statement}
 use Rattle.pieces.proofs.parts.returned.Tie as tie
@@ -14,24 +14,19 @@ use Rattle.pieces.proofs.parts.returned.Reads as reads
 use Rattle.pieces.proofs.parts.returned.Lts as lts
 use Rattle.signs.proofs.expected.name_next.Reads as name-next-reads
 
--- src/parts.rt:197:33
 name-next-requires : tie.Need-name-next-requires
 name-next-requires c κs = search needs
 
--- src/parts.rt:197:25
 enum-known-v : tie.Need-enum-known-v
 enum-known-v c = search needs
 
--- src/parts.rt:198:9
 enum-told : tie.Need-enum-told
 enum-told c = search needs
 
--- src/parts.rt:198:9
 returns : tie.Need-returns
 unfolding stepOf walkAt pieceOf spotOf chainAt orStopped
 returns c = record { reads = return-by (signsFrom false (c .before .before .before .before .args .close) (c .before .before .before .before .args .s .now) (c .before .before .before .before .args .from)) ∙ ap orStopped (name-unread false (c .before .before .before .before .args .close) (c .before .before .before .before .args .s .now) (c .before .before .before .before .args .from) (c .before .before .name-next .result) (c .before .before .name-next .ensures) (c .enum-told .given .1) _); moves = tt; stands = tt }
 
--- src/parts.rt:194:1
 returns-2 : tie.Need-returns-2
 unfolding stepOf walkAt pieceOf spotOf chainAt orStopped pieceStanding variableAt
 returns-2 c = record { reads = return-by (signsFrom false (c .before .before .before .before .before .args .close) (c .before .before .before .before .before .args .s .now) (c .before .before .before .before .before .args .from)) ∙ ap orStopped (name-read false (c .before .before .before .before .before .args .close) (c .before .before .before .before .before .args .s .now) (c .before .before .before .before .before .args .from) (c .before .before .before .name-next .result) (c .before .before .before .name-next .ensures) (c .before .v .given .0 .0) (c .before .v .given .0 .1 .0) (c .before .v .given .1) _); moves = omega (arith, name-moves false (c .before .before .before .before .before .args .close) (c .before .before .before .before .before .args .s .now) (c .before .before .before .before .before .args .from) (c .before .before .before .name-next .result) (c .before .before .before .name-next .ensures) (c .before .v .given .0 .0) (c .before .v .given .0 .1 .0) (c .before .v .given .1)); stands = name-stands false (c .before .before .before .before .before .args .close) (c .before .before .before .before .before .args .s .now) (c .before .before .before .before .before .args .from) (c .before .before .before .name-next .result) (c .before .before .before .name-next .ensures) (c .before .v .given .0 .0) (c .before .v .given .0 .1 .0) (c .before .v .given .1) none }

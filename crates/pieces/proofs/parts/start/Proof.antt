@@ -3,10 +3,10 @@ use Rattle.pieces.proofs.StepLaws.{start-by}
 use Rattle.signs.specs.Reads.{signsFrom}
 use Rattle.pieces.proofs.PartLaws.{vertex-read, vertex-unread, vertex-moves, vertex-stands}
 use Rattle.pieces.specs.Steps.{stepOf, walkAt, pieceOf, spotOf, chainAt, pieceStanding}
-use Rattle.pieces.specs.Walk.{orStopped, stopped, walk}
+use Rattle.pieces.specs.Walk.{orStopped}
 use native.Mathlib.Omega.{arith}
-use mathlib.Core.Bool.{true, false}
-use mathlib.Core.Path.{refl, sym, ap, _∙_}
+use mathlib.Core.Bool.{true}
+use mathlib.Core.Path.{ap, _∙_}
 use borrow.Author.Needs.{needs}
 use Rattle.pieces.proofs.parts.start.Statement.{statement}
 use Rattle.pieces.proofs.parts.start.Tie as tie
@@ -14,24 +14,19 @@ use Rattle.pieces.proofs.parts.start.Reads as reads
 use Rattle.pieces.proofs.parts.start.Lts as lts
 use Rattle.pieces.proofs.parts.vertex.Reads as vertex-reads
 
--- src/parts.rt:85:33
 vertex-requires : tie.Need-vertex-requires
 vertex-requires c κs = search needs
 
--- src/parts.rt:85:25
 enum-known-v : tie.Need-enum-known-v
 enum-known-v c = search needs
 
--- src/parts.rt:86:9
 enum-told : tie.Need-enum-told
 enum-told c = search needs
 
--- src/parts.rt:86:9
 returns : tie.Need-returns
 unfolding stepOf walkAt pieceOf spotOf chainAt orStopped
 returns c = record { reads = start-by (signsFrom true true (c .before .before .before .before .args .s .now) (c .before .before .before .before .args .from)) ∙ ap orStopped (vertex-unread true (c .before .before .before .before .args .s .now) (c .before .before .before .before .args .from) (c .before .before .vertex .result) (c .before .before .vertex .ensures) (c .enum-told .given .1) _); moves = tt; stands = tt }
 
--- src/parts.rt:82:1
 returns-2 : tie.Need-returns-2
 unfolding stepOf walkAt pieceOf spotOf chainAt orStopped pieceStanding
 returns-2 c = record { reads = start-by (signsFrom true true (c .before .before .before .before .before .args .s .now) (c .before .before .before .before .before .args .from)) ∙ ap orStopped (vertex-read true (c .before .before .before .before .before .args .s .now) (c .before .before .before .before .before .args .from) (c .before .before .before .vertex .result) (c .before .before .before .vertex .ensures) (c .before .v .given .0 .0) (c .before .v .given .0 .1 .0) (c .before .v .given .1) _); moves = omega (arith, vertex-moves true (c .before .before .before .before .before .args .s .now) (c .before .before .before .before .before .args .from) (c .before .before .before .vertex .result) (c .before .before .before .vertex .ensures) (c .before .v .given .0 .0) (c .before .v .given .0 .1 .0) (c .before .v .given .1)); stands = vertex-stands true (c .before .before .before .before .before .args .s .now) (c .before .before .before .before .before .args .from) (c .before .before .before .vertex .result) (c .before .before .before .vertex .ensures) (c .before .v .given .0 .0) (c .before .v .given .0 .1 .0) (c .before .v .given .1) none }

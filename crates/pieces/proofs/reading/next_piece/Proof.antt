@@ -1,10 +1,10 @@
 use Rattle.pieces.proofs.SpotLaws.{place-ends, place-broken, place-piece, place-moves, place-stands}
 use Rattle.pieces.proofs.PartLaws.{step-farther, step-stands}
-use Rattle.pieces.specs.Steps.{stepOf, chainAt}
+use Rattle.pieces.specs.Steps.{stepOf}
 use Rattle.pieces.specs.Walk.{stopped}
 use Rattle.signs.specs.Reads.{NextSign}
-use mathlib.Core.Bool.{Bool, true, false}
-use mathlib.Core.Path.{refl, sym, ap, subst, _∙_}
+use mathlib.Core.Bool.{Bool}
+use mathlib.Core.Path.{sym, ap, subst, _∙_}
 use borrow.Author.Needs.{needs}
 use Rattle.pieces.proofs.reading.next_piece.Statement.{statement}
 use Rattle.pieces.proofs.reading.next_piece.Tie as tie
@@ -16,45 +16,35 @@ use Rattle.pieces.proofs.spots.piece_by.Reads as piece-by-reads
 use Rattle.signs.proofs.kinds.blanks_end.Reads as blanks-end-reads
 use Rattle.signs.proofs.reading.next_sign.Reads as next-sign-reads
 
--- src/reading.rt:17:19
 blanks-end-requires : tie.Need-blanks-end-requires
 blanks-end-requires c κs = search needs
 
--- src/reading.rt:18:32
 ends-well-requires : tie.Need-ends-well-requires
 ends-well-requires c κs = search needs
 
--- src/reading.rt:18:9
 returns : tie.Need-returns
 unfolding stepOf
 returns c = record { reads = place-ends (c .before .before .before .before .args .s .now) (c .before .before .before .before .args .place) (c .before .before .blanks-end .result) (c .before .before .blanks-end .ensures) (c .before .if1 .taken) ∙ ap stopped (sym (c .ends-well .ensures)); moves = tt; stands = tt }
 
--- src/reading.rt:20:59
 in-chain-requires : tie.Need-in-chain-requires
 in-chain-requires c κs = search needs
 
--- src/reading.rt:20:33
 next-sign-requires : tie.Need-next-sign-requires
 next-sign-requires c κs = search needs
 
--- src/reading.rt:20:25
 enum-known-t : tie.Need-enum-known-t
 enum-known-t c = search needs
 
--- src/reading.rt:21:9
 enum-told : tie.Need-enum-told
 enum-told c = search needs
 
--- src/reading.rt:21:9
 returns-2 : tie.Need-returns-2
 unfolding stepOf
 returns-2 c = record { reads = place-broken (c .before .before .before .before .before .before .before .args .s .now) (c .before .before .before .before .before .before .before .args .place) (c .before .before .before .before .before .blanks-end .result) (c .before .before .before .before .before .blanks-end .ensures) (c .before .before .before .before .if1 .left) (c .before .before .next-sign .result) (subst (λ (x : Bool). NextSign x (c .before .before .before .before .before .before .before .args .place .close) (c .before .before .before .before .before .before .before .args .s .now) (c .before .before .before .before .before .before .before .args .place .at) (c .before .before .next-sign .result)) (c .before .before .before .in-chain .ensures) (c .before .before .next-sign .ensures)) (c .enum-told .given .1); moves = tt; stands = tt }
 
--- src/reading.rt:23:5
 piece-by-requires : tie.Need-piece-by-requires
 piece-by-requires c κs = search needs
 
--- src/reading.rt:11:1
 returns-3 : tie.Need-returns-3
 returns-3 c = let h = subst (λ (x : Bool). NextSign x (c .before .before .before .before .before .before .before .before .before .args .place .close) (c .before .before .before .before .before .before .before .before .before .args .s .now) (c .before .before .before .before .before .before .before .before .before .args .place .at) (c .before .before .before .before .next-sign .result)) (c .before .before .before .before .before .in-chain .ensures) (c .before .before .before .before .next-sign .ensures) in record {
   reads = place-piece (c .before .before .before .before .before .before .before .before .before .args .s .now) (c .before .before .before .before .before .before .before .before .before .args .place) (c .before .before .before .before .before .before .before .blanks-end .result) (c .before .before .before .before .before .before .before .blanks-end .ensures) (c .before .before .before .before .before .before .if1 .left) (c .before .before .before .before .next-sign .result) h (c .before .before .t .given .0 .0) (c .before .before .t .given .0 .1 .0) (c .before .before .t .given .1) ∙ c .piece-by .ensures .reads;

@@ -1,7 +1,6 @@
 use Rattle.pieces.proofs.SpotLaws.{step-same, chain-goes, chain-comes, chain-where, chain-match, chain-return, chain-none}
 use Rattle.pieces.specs.Steps.{stepOf}
-use mathlib.Core.Bool.{true, false}
-use mathlib.Core.Path.{refl, sym, ap, subst, _∙_}
+use mathlib.Core.Path.{sym, _∙_}
 use borrow.Author.Needs.{needs}
 use Rattle.pieces.proofs.spots.chain_piece.Statement.{statement}
 use Rattle.pieces.proofs.spots.chain_piece.Tie as tie
@@ -15,75 +14,57 @@ use Rattle.pieces.proofs.parts.start.Reads as start-reads
 use Rattle.pieces.proofs.spots.is_word.Reads as is-word-reads
 use Rattle.signs.proofs.expected.mark_code.Reads as mark-code-reads
 
--- src/spots.rt:70:9
 mark-code-requires : tie.Need-mark-code-requires
 mark-code-requires c κs = search needs
 
--- src/spots.rt:72:9
 goes-requires : tie.Need-goes-requires
 goes-requires c κs = search needs
 
--- src/spots.rt:72:9
 returns : tie.Need-returns
 returns c = step-same _ _ (c .before .before .before .before .args .s .now) (c .before .before .before .before .args .q) (c .goes .result) (chain-goes (c .before .before .before .before .args .s .now) (c .before .before .before .before .args .t) (c .before .before .before .before .args .q) (sym (c .before .before .mark-code .ensures) ∙ c .before .if1 .taken)) (c .goes .ensures)
 
--- src/spots.rt:75:9
 comes-requires : tie.Need-comes-requires
 comes-requires c κs = search needs
 
--- src/spots.rt:75:9
 returns-2 : tie.Need-returns-2
 returns-2 c = step-same _ _ (c .before .before .before .before .before .args .s .now) (c .before .before .before .before .before .args .q) (c .comes .result) (chain-comes (c .before .before .before .before .before .args .s .now) (c .before .before .before .before .before .args .t) (c .before .before .before .before .before .args .q) (sym (c .before .before .before .mark-code .ensures) ∙ c .before .if2 .taken)) (c .comes .ensures)
 
--- src/spots.rt:77:22
 slice-aggregate-is-word : tie.Need-slice-aggregate-is-word
 slice-aggregate-is-word c = search needs
 
--- src/spots.rt:77:8
 is-word-requires : tie.Need-is-word-requires
 is-word-requires c κs = search needs
 
--- src/spots.rt:78:9
 condition-requires : tie.Need-condition-requires
 condition-requires c κs = search needs
 
--- src/spots.rt:78:9
 returns-3 : tie.Need-returns-3
 returns-3 c = step-same _ _ (c .before .before .before .before .before .before .before .before .args .s .now) (c .before .before .before .before .before .before .before .before .args .q) (c .condition .result) (chain-where (c .before .before .before .before .before .before .before .before .args .s .now) (c .before .before .before .before .before .before .before .before .args .t) (c .before .before .before .before .before .before .before .before .args .q) (sym (c .before .before .is-word .ensures) ∙ c .before .if3 .taken)) (c .condition .ensures)
 
--- src/spots.rt:80:22
 slice-aggregate-is-word-2 : tie.Need-slice-aggregate-is-word-2
 slice-aggregate-is-word-2 c = search needs
 
--- src/spots.rt:80:8
 is-word-requires-2 : tie.Need-is-word-requires-2
 is-word-requires-2 c κs = search needs
 
--- src/spots.rt:81:9
 start-requires : tie.Need-start-requires
 start-requires c κs = search needs
 
--- src/spots.rt:81:9
 returns-4 : tie.Need-returns-4
 returns-4 c = step-same _ _ (c .before .before .before .before .before .before .before .before .before .before .before .args .s .now) (c .before .before .before .before .before .before .before .before .before .before .before .args .q) (c .start .result) (chain-match (c .before .before .before .before .before .before .before .before .before .before .before .args .s .now) (c .before .before .before .before .before .before .before .before .before .before .before .args .t) (c .before .before .before .before .before .before .before .before .before .before .before .args .q) (sym (c .before .before .is-word2 .ensures) ∙ c .before .if4 .taken)) (c .start .ensures)
 
--- src/spots.rt:83:22
 slice-aggregate-is-word-3 : tie.Need-slice-aggregate-is-word-3
 slice-aggregate-is-word-3 c = search needs
 
--- src/spots.rt:83:8
 is-word-requires-3 : tie.Need-is-word-requires-3
 is-word-requires-3 c κs = search needs
 
--- src/spots.rt:84:9
 returned-requires : tie.Need-returned-requires
 returned-requires c κs = search needs
 
--- src/spots.rt:84:9
 returns-5 : tie.Need-returns-5
 returns-5 c = step-same _ _ (c .before .before .before .before .before .before .before .before .before .before .before .before .before .before .args .s .now) (c .before .before .before .before .before .before .before .before .before .before .before .before .before .before .args .q) (c .returned .result) (chain-return (c .before .before .before .before .before .before .before .before .before .before .before .before .before .before .args .s .now) (c .before .before .before .before .before .before .before .before .before .before .before .before .before .before .args .t) (c .before .before .before .before .before .before .before .before .before .before .before .before .before .before .args .q) (sym (c .before .before .is-word3 .ensures) ∙ c .before .if5 .taken)) (c .returned .ensures)
 
--- src/spots.rt:67:1
 returns-6 : tie.Need-returns-6
 unfolding stepOf
 returns-6 c = record { reads = chain-none (c .before .before .before .before .before .before .before .before .before .before .before .before .before .args .s .now) (c .before .before .before .before .before .before .before .before .before .before .before .before .before .args .t) (c .before .before .before .before .before .before .before .before .before .before .before .before .before .args .q) (λ z. c .before .before .before .before .before .before .before .before .before .before .if1 .left (c .before .before .before .before .before .before .before .before .before .before .before .mark-code .ensures ∙ z)) (λ z. c .before .before .before .before .before .before .before .before .before .if2 .left (c .before .before .before .before .before .before .before .before .before .before .before .mark-code .ensures ∙ z)) (sym (c .before .before .before .before .before .before .before .is-word .ensures) ∙ c .before .before .before .before .before .before .if3 .left) (sym (c .before .before .before .before .is-word2 .ensures) ∙ c .before .before .before .if4 .left) (sym (c .before .is-word3 .ensures) ∙ c .if5 .left); moves = tt; stands = tt }

@@ -1,45 +1,36 @@
-use Rattle.pieces.specs.Steps.{spotOf, chainAt}
+use Rattle.pieces.specs.Steps.{spotOf}
 use Rattle.pieces.specs.Walk.{endsWell}
-use mathlib.Core.Bool.{true, false}
-use mathlib.Core.Path.{refl, sym, ap, subst, _∙_}
+use mathlib.Core.Path.{sym, ap}
 use borrow.Author.Needs.{needs}
 use Rattle.pieces.proofs.spots.ends_well.Statement.{statement}
 use Rattle.pieces.proofs.spots.ends_well.Tie as tie
 use Rattle.pieces.proofs.spots.ends_well.Reads as reads
 use Rattle.pieces.proofs.spots.ends_well.Lts as lts
 
--- src/spots.rt:37:26
 enum-told : tie.Need-enum-told
 enum-told c = search needs
 
--- src/spots.rt:38:26
 enum-told-2 : tie.Need-enum-told-2
 enum-told-2 c = search needs
 
--- src/spots.rt:39:26
 enum-told-3 : tie.Need-enum-told-3
 enum-told-3 c = search needs
 
--- src/spots.rt:40:27
 enum-told-4 : tie.Need-enum-told-4
 enum-told-4 c = search needs
 
--- src/spots.rt:33:1
 returns : tie.Need-returns
 unfolding endsWell spotOf
 returns c = sym (ap (λ x. endsWell (spotOf x)) (c .enum-told .given .1))
 
--- src/spots.rt:33:1
 returns-2 : tie.Need-returns-2
 unfolding endsWell spotOf
 returns-2 c = sym (ap (λ x. endsWell (spotOf x)) (c .enum-told2 .given .1))
 
--- src/spots.rt:33:1
 returns-3 : tie.Need-returns-3
 unfolding endsWell spotOf
 returns-3 c = sym (ap (λ x. endsWell (spotOf x)) (c .enum-told3 .given .1))
 
--- src/spots.rt:33:1
 returns-4 : tie.Need-returns-4
 unfolding endsWell spotOf
 returns-4 c = sym (ap (λ x. endsWell (spotOf x)) (c .enum-told4 .given .1))

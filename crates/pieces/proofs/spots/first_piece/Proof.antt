@@ -1,7 +1,6 @@
 use Rattle.pieces.proofs.SpotLaws.{step-same, first-match, first-none}
 use Rattle.pieces.specs.Steps.{stepOf}
-use mathlib.Core.Bool.{true, false}
-use mathlib.Core.Path.{refl, sym, ap, subst, _∙_}
+use mathlib.Core.Path.{sym, _∙_}
 use borrow.Author.Needs.{needs}
 use Rattle.pieces.proofs.spots.first_piece.Statement.{statement}
 use Rattle.pieces.proofs.spots.first_piece.Tie as tie
@@ -10,23 +9,18 @@ use Rattle.pieces.proofs.spots.first_piece.Lts as lts
 use Rattle.pieces.proofs.parts.start.Reads as start-reads
 use Rattle.pieces.proofs.spots.is_word.Reads as is-word-reads
 
--- src/spots.rt:60:22
 slice-aggregate-is-word : tie.Need-slice-aggregate-is-word
 slice-aggregate-is-word c = search needs
 
--- src/spots.rt:60:8
 is-word-requires : tie.Need-is-word-requires
 is-word-requires c κs = search needs
 
--- src/spots.rt:61:9
 start-requires : tie.Need-start-requires
 start-requires c κs = search needs
 
--- src/spots.rt:61:9
 returns : tie.Need-returns
 returns c = step-same _ _ (c .before .before .before .before .before .args .s .now) (c .before .before .before .before .before .args .q) (c .start .result) (first-match (c .before .before .before .before .before .args .s .now) (c .before .before .before .before .before .args .t) (c .before .before .before .before .before .args .q) (sym (c .before .before .is-word .ensures) ∙ c .before .if1 .taken)) (c .start .ensures)
 
--- src/spots.rt:57:1
 returns-2 : tie.Need-returns-2
 unfolding stepOf
 returns-2 c = record { reads = first-none (c .before .before .before .before .args .s .now) (c .before .before .before .before .args .t) (c .before .before .before .before .args .q) (sym (c .before .is-word .ensures) ∙ c .if1 .left); moves = tt; stands = tt }

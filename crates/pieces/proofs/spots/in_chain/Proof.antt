@@ -1,45 +1,35 @@
-use Rattle.pieces.specs.Steps.{spotOf, chainAt}
-use Rattle.pieces.specs.Walk.{endsWell}
-use mathlib.Core.Bool.{true, false}
-use mathlib.Core.Path.{refl, sym, ap, subst, _∙_}
+use Rattle.pieces.specs.Steps.{chainAt}
+use mathlib.Core.Path.{sym, ap}
 use borrow.Author.Needs.{needs}
 use Rattle.pieces.proofs.spots.in_chain.Statement.{statement}
 use Rattle.pieces.proofs.spots.in_chain.Tie as tie
 use Rattle.pieces.proofs.spots.in_chain.Reads as reads
 use Rattle.pieces.proofs.spots.in_chain.Lts as lts
 
--- src/spots.rt:49:26
 enum-told : tie.Need-enum-told
 enum-told c = search needs
 
--- src/spots.rt:50:26
 enum-told-2 : tie.Need-enum-told-2
 enum-told-2 c = search needs
 
--- src/spots.rt:51:26
 enum-told-3 : tie.Need-enum-told-3
 enum-told-3 c = search needs
 
--- src/spots.rt:52:27
 enum-told-4 : tie.Need-enum-told-4
 enum-told-4 c = search needs
 
--- src/spots.rt:45:1
 returns : tie.Need-returns
 unfolding chainAt
 returns c = sym (ap chainAt (c .enum-told .given .1))
 
--- src/spots.rt:45:1
 returns-2 : tie.Need-returns-2
 unfolding chainAt
 returns-2 c = sym (ap chainAt (c .enum-told2 .given .1))
 
--- src/spots.rt:45:1
 returns-3 : tie.Need-returns-3
 unfolding chainAt
 returns-3 c = sym (ap chainAt (c .enum-told3 .given .1))
 
--- src/spots.rt:45:1
 returns-4 : tie.Need-returns-4
 unfolding chainAt
 returns-4 c = sym (ap chainAt (c .enum-told4 .given .1))

@@ -2,8 +2,7 @@ use Rattle.signs.specs.Reads.{signOf}
 use Rattle.model.specs.Answers.{nameAt}
 use Rattle.model.specs.Signs.{isWord}
 use Rattle.model.specs.Bytes.{same}
-use mathlib.Core.Bool.{true, false}
-use mathlib.Core.Path.{refl, sym, ap, subst, _∙_}
+use mathlib.Core.Path.{sym, ap, _∙_}
 use borrow.Author.Needs.{needs}
 use Rattle.pieces.proofs.spots.is_word.Statement.{statement}
 use Rattle.pieces.proofs.spots.is_word.Tie as tie
@@ -12,46 +11,36 @@ use Rattle.pieces.proofs.spots.is_word.Lts as lts
 use Rattle.signs.proofs.expected.part.Reads as part-reads
 use Rattle.text.proofs.compare.same_bytes.Reads as same-bytes-reads
 
--- src/spots.rt:21:20
 enum-known-t : tie.Need-enum-known-t
 enum-known-t c = search needs
 
--- src/spots.rt:24:33
 part-requires : tie.Need-part-requires
 part-requires c κs = search needs
 
--- src/spots.rt:24:13
 same-bytes-requires : tie.Need-same-bytes-requires
 same-bytes-requires c κs = search needs
 
--- src/spots.rt:26:27
 enum-told : tie.Need-enum-told
 enum-told c = search needs
 
--- src/spots.rt:27:26
 enum-told-2 : tie.Need-enum-told-2
 enum-told-2 c = search needs
 
--- src/spots.rt:28:26
 enum-told-3 : tie.Need-enum-told-3
 enum-told-3 c = search needs
 
--- src/spots.rt:17:1
 returns : tie.Need-returns
 unfolding isWord signOf nameAt
 returns c = c .same-bytes .ensures ∙ ap (λ w. same w (c .before .before .before .before .before .before .before .args .word .now)) (c .before .part .ensures) ∙ sym (ap (λ x. isWord (c .before .before .before .before .before .before .before .args .word .now) (signOf (c .before .before .before .before .before .before .before .args .s .now) x)) (c .before .before .before .t .given .1))
 
--- src/spots.rt:17:1
 returns-2 : tie.Need-returns-2
 unfolding isWord signOf
 returns-2 c = sym (ap (λ x. isWord (c .before .before .before .before .args .word .now) (signOf (c .before .before .before .before .args .s .now) x)) (c .enum-told .given .1))
 
--- src/spots.rt:17:1
 returns-3 : tie.Need-returns-3
 unfolding isWord signOf
 returns-3 c = sym (ap (λ x. isWord (c .before .before .before .before .args .word .now) (signOf (c .before .before .before .before .args .s .now) x)) (c .enum-told2 .given .1))
 
--- src/spots.rt:17:1
 returns-4 : tie.Need-returns-4
 unfolding isWord signOf
 returns-4 c = sym (ap (λ x. isWord (c .before .before .before .before .args .word .now) (signOf (c .before .before .before .before .args .s .now) x)) (c .enum-told3 .given .1))

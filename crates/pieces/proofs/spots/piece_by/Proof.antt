@@ -1,6 +1,4 @@
 use Rattle.pieces.proofs.SpotLaws.{step-same, by-spot}
-use mathlib.Core.Bool.{true, false}
-use mathlib.Core.Path.{refl, sym, ap, subst, _∙_}
 use borrow.Author.Needs.{needs}
 use Rattle.pieces.proofs.spots.piece_by.Statement.{statement}
 use Rattle.pieces.proofs.spots.piece_by.Tie as tie
@@ -11,51 +9,39 @@ use Rattle.pieces.proofs.spots.first_piece.Reads as first-piece-reads
 use Rattle.pieces.proofs.spots.return_piece.Reads as return-piece-reads
 use Rattle.pieces.proofs.spots.where_piece.Reads as where-piece-reads
 
--- src/spots.rt:120:26
 enum-told : tie.Need-enum-told
 enum-told c = search needs
 
--- src/spots.rt:120:26
 first-piece-requires : tie.Need-first-piece-requires
 first-piece-requires c κs = search needs
 
--- src/spots.rt:121:26
 enum-told-2 : tie.Need-enum-told-2
 enum-told-2 c = search needs
 
--- src/spots.rt:121:26
 chain-piece-requires : tie.Need-chain-piece-requires
 chain-piece-requires c κs = search needs
 
--- src/spots.rt:122:26
 enum-told-3 : tie.Need-enum-told-3
 enum-told-3 c = search needs
 
--- src/spots.rt:122:26
 where-piece-requires : tie.Need-where-piece-requires
 where-piece-requires c κs = search needs
 
--- src/spots.rt:123:27
 enum-told-4 : tie.Need-enum-told-4
 enum-told-4 c = search needs
 
--- src/spots.rt:123:27
 return-piece-requires : tie.Need-return-piece-requires
 return-piece-requires c κs = search needs
 
--- src/spots.rt:116:1
 returns : tie.Need-returns
 returns c = step-same _ _ (c .before .before .before .before .args .s .now) (c .before .before .before .before .args .q) (c .first-piece .result) (by-spot (c .before .before .before .before .args .s .now) (c .before .before .before .before .args .t) (c .before .before .before .before .args .q) (c .before .enum-told .given .1)) (c .first-piece .ensures)
 
--- src/spots.rt:116:1
 returns-2 : tie.Need-returns-2
 returns-2 c = step-same _ _ (c .before .before .before .before .args .s .now) (c .before .before .before .before .args .q) (c .chain-piece .result) (by-spot (c .before .before .before .before .args .s .now) (c .before .before .before .before .args .t) (c .before .before .before .before .args .q) (c .before .enum-told2 .given .1)) (c .chain-piece .ensures)
 
--- src/spots.rt:116:1
 returns-3 : tie.Need-returns-3
 returns-3 c = step-same _ _ (c .before .before .before .before .args .s .now) (c .before .before .before .before .args .q) (c .where-piece .result) (by-spot (c .before .before .before .before .args .s .now) (c .before .before .before .before .args .t) (c .before .before .before .before .args .q) (c .before .enum-told3 .given .1)) (c .where-piece .ensures)
 
--- src/spots.rt:116:1
 returns-4 : tie.Need-returns-4
 returns-4 c = step-same _ _ (c .before .before .before .before .args .s .now) (c .before .before .before .before .args .q) (c .return-piece .result) (by-spot (c .before .before .before .before .args .s .now) (c .before .before .before .before .args .t) (c .before .before .before .before .args .q) (c .before .enum-told4 .given .1)) (c .return-piece .ensures)
 

@@ -1,7 +1,6 @@
 use Rattle.pieces.proofs.SpotLaws.{step-same, return-comma, return-none}
 use Rattle.pieces.specs.Steps.{stepOf}
-use mathlib.Core.Bool.{true, false}
-use mathlib.Core.Path.{refl, sym, ap, subst, _∙_}
+use mathlib.Core.Path.{sym, _∙_}
 use borrow.Author.Needs.{needs}
 use Rattle.pieces.proofs.spots.return_piece.Statement.{statement}
 use Rattle.pieces.proofs.spots.return_piece.Tie as tie
@@ -10,19 +9,15 @@ use Rattle.pieces.proofs.spots.return_piece.Lts as lts
 use Rattle.pieces.proofs.parts.returned.Reads as returned-reads
 use Rattle.signs.proofs.expected.mark_code.Reads as mark-code-reads
 
--- src/spots.rt:109:8
 mark-code-requires : tie.Need-mark-code-requires
 mark-code-requires c κs = search needs
 
--- src/spots.rt:110:9
 returned-requires : tie.Need-returned-requires
 returned-requires c κs = search needs
 
--- src/spots.rt:110:9
 returns : tie.Need-returns
 returns c = step-same _ _ (c .before .before .before .before .args .s .now) (c .before .before .before .before .args .q) (c .returned .result) (return-comma (c .before .before .before .before .args .s .now) (c .before .before .before .before .args .t) (c .before .before .before .before .args .q) (sym (c .before .before .mark-code .ensures) ∙ c .before .if1 .taken)) (c .returned .ensures)
 
--- src/spots.rt:106:1
 returns-2 : tie.Need-returns-2
 unfolding stepOf
 returns-2 c = record { reads = return-none (c .before .before .before .args .s .now) (c .before .before .before .args .t) (c .before .before .before .args .q) (λ z. c .if1 .left (c .before .mark-code .ensures ∙ z)); moves = tt; stands = tt }

@@ -1,7 +1,6 @@
 use Rattle.pieces.proofs.SpotLaws.{step-same, where-and, where-match, where-return, where-none}
 use Rattle.pieces.specs.Steps.{stepOf}
-use mathlib.Core.Bool.{true, false}
-use mathlib.Core.Path.{refl, sym, ap, subst, _∙_}
+use mathlib.Core.Path.{sym, _∙_}
 use borrow.Author.Needs.{needs}
 use Rattle.pieces.proofs.spots.where_piece.Statement.{statement}
 use Rattle.pieces.proofs.spots.where_piece.Tie as tie
@@ -12,55 +11,42 @@ use Rattle.pieces.proofs.parts.returned.Reads as returned-reads
 use Rattle.pieces.proofs.parts.start.Reads as start-reads
 use Rattle.pieces.proofs.spots.is_word.Reads as is-word-reads
 
--- src/spots.rt:93:22
 slice-aggregate-is-word : tie.Need-slice-aggregate-is-word
 slice-aggregate-is-word c = search needs
 
--- src/spots.rt:93:8
 is-word-requires : tie.Need-is-word-requires
 is-word-requires c κs = search needs
 
--- src/spots.rt:94:9
 condition-requires : tie.Need-condition-requires
 condition-requires c κs = search needs
 
--- src/spots.rt:94:9
 returns : tie.Need-returns
 returns c = step-same _ _ (c .before .before .before .before .before .args .s .now) (c .before .before .before .before .before .args .q) (c .condition .result) (where-and (c .before .before .before .before .before .args .s .now) (c .before .before .before .before .before .args .t) (c .before .before .before .before .before .args .q) (sym (c .before .before .is-word .ensures) ∙ c .before .if1 .taken)) (c .condition .ensures)
 
--- src/spots.rt:96:22
 slice-aggregate-is-word-2 : tie.Need-slice-aggregate-is-word-2
 slice-aggregate-is-word-2 c = search needs
 
--- src/spots.rt:96:8
 is-word-requires-2 : tie.Need-is-word-requires-2
 is-word-requires-2 c κs = search needs
 
--- src/spots.rt:97:9
 start-requires : tie.Need-start-requires
 start-requires c κs = search needs
 
--- src/spots.rt:97:9
 returns-2 : tie.Need-returns-2
 returns-2 c = step-same _ _ (c .before .before .before .before .before .before .before .before .args .s .now) (c .before .before .before .before .before .before .before .before .args .q) (c .start .result) (where-match (c .before .before .before .before .before .before .before .before .args .s .now) (c .before .before .before .before .before .before .before .before .args .t) (c .before .before .before .before .before .before .before .before .args .q) (sym (c .before .before .is-word2 .ensures) ∙ c .before .if2 .taken)) (c .start .ensures)
 
--- src/spots.rt:99:22
 slice-aggregate-is-word-3 : tie.Need-slice-aggregate-is-word-3
 slice-aggregate-is-word-3 c = search needs
 
--- src/spots.rt:99:8
 is-word-requires-3 : tie.Need-is-word-requires-3
 is-word-requires-3 c κs = search needs
 
--- src/spots.rt:100:9
 returned-requires : tie.Need-returned-requires
 returned-requires c κs = search needs
 
--- src/spots.rt:100:9
 returns-3 : tie.Need-returns-3
 returns-3 c = step-same _ _ (c .before .before .before .before .before .before .before .before .before .before .before .args .s .now) (c .before .before .before .before .before .before .before .before .before .before .before .args .q) (c .returned .result) (where-return (c .before .before .before .before .before .before .before .before .before .before .before .args .s .now) (c .before .before .before .before .before .before .before .before .before .before .before .args .t) (c .before .before .before .before .before .before .before .before .before .before .before .args .q) (sym (c .before .before .is-word3 .ensures) ∙ c .before .if3 .taken)) (c .returned .ensures)
 
--- src/spots.rt:90:1
 returns-4 : tie.Need-returns-4
 unfolding stepOf
 returns-4 c = record { reads = where-none (c .before .before .before .before .before .before .before .before .before .before .args .s .now) (c .before .before .before .before .before .before .before .before .before .before .args .t) (c .before .before .before .before .before .before .before .before .before .before .args .q) (sym (c .before .before .before .before .before .before .before .is-word .ensures) ∙ c .before .before .before .before .before .before .if1 .left) (sym (c .before .before .before .before .is-word2 .ensures) ∙ c .before .before .before .if2 .left) (sym (c .before .is-word3 .ensures) ∙ c .if3 .left); moves = tt; stands = tt }

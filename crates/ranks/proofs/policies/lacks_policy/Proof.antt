@@ -1,12 +1,8 @@
 -- `ranks::policies::lacks_policy` meets its contract. Assumes nothing.
-use Prim.Native.Nat.{ℕ, _+_, _*_}
-use mathlib.Core.Bool.{not, _&&_}
-use mathlib.Core.Path.{_≡_, sym, _∙_, ap}
-use lib.Dec.{eqb, ltb}
+use mathlib.Core.Path.{_∙_}
 use borrow.Author.Tests.{eq-eqb, ne-eqb}
 use borrow.Author.Needs.{needs}
 use Rattle.ranks.proofs.PolicyLaws.{at-least}
-use Rattle.ranks.specs.Enforced.{hasOne}
 use Rattle.ranks.specs.Layout.{overCountAt}
 use Rattle.tables.specs.View.{wordAt}
 use Rattle.ranks.proofs.policies.lacks_policy.Statement.{statement}

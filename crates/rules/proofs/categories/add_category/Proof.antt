@@ -1,12 +1,11 @@
 -- `rules::categories::add_category` meets its contract. Assumes nothing.
-use Prim.Native.Nat.{ℕ, _+_, _*_, _-_}
+use Prim.Native.Nat.{ℕ}
 use mathlib.Core.Bool.{_||_}
-use mathlib.Core.Path.{_≡_, refl, sym, ap, subst, _∙_}
+use mathlib.Core.Path.{sym, ap, subst, _∙_}
 use native.Mathlib.Omega.{arith}
 use lib.Dec.{eqb}
 use borrow.Author.Needs.{needs}
 use Rattle.rules.proofs.CategoryLaws.{lower-asked, category-done, clear-of, added-of}
-use Rattle.rules.specs.Stored.{NamesRoom}
 use Rattle.ranks.specs.Fits.{belowSome, LowerAsked}
 use Rattle.ranks.specs.Layout.{overFrom}
 use Rattle.tables.specs.View.{namesAt}

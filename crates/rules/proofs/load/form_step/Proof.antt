@@ -3,7 +3,6 @@ use borrow.Author.Needs.{needs}
 use native.Mathlib.Omega.{arith}
 use Rattle.model.specs.Answers.{partOf}
 use Rattle.rules.proofs.LoadLaws.{of-category, of-policy, of-none}
-use Rattle.rules.specs.Steps.{stepOf}
 use Rattle.rules.proofs.load.form_step.Statement.{statement}
 use Rattle.rules.proofs.load.form_step.Tie as tie
 

@@ -1,6 +1,5 @@
 -- `rules::policies::lowest_of` meets its contract. Assumes nothing.
 use borrow.Author.Tests.{eq-eqb, ne-eqb}
-use borrow.Author.Needs.{needs}
 use Rattle.rules.specs.Policies.{combined}
 use Rattle.rules.proofs.policies.lowest_of.Statement.{statement}
 use Rattle.rules.proofs.policies.lowest_of.Tie as tie

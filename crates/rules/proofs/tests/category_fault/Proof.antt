@@ -1,5 +1,5 @@
 -- `rules::tests::category_fault` meets its contract. Assumes nothing.
-use mathlib.Core.Path.{_≡_, refl, sym, ap, _∙_}
+use mathlib.Core.Path.{sym, _∙_}
 use native.Mathlib.Omega.{arith}
 use borrow.Author.Needs.{needs}
 use Rattle.rules.proofs.TestLaws.{is-4, is-5, is-7, is-9, is-none}

@@ -1,5 +1,4 @@
 -- `rules::tests::is_past_limit` meets its contract. Assumes nothing.
-use mathlib.Core.Path.{_≡_, refl, sym, ap, _∙_}
 use borrow.Author.Tests.{le-leb, lt-leb}
 use borrow.Author.Needs.{needs}
 use Rattle.rules.proofs.tests.is_past_limit.Statement.{statement}

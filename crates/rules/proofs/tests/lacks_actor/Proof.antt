@@ -1,5 +1,4 @@
 -- `rules::tests::lacks_actor` meets its contract. Assumes nothing.
-use mathlib.Core.Path.{_≡_, refl, sym, ap, _∙_}
 use borrow.Author.Needs.{needs}
 use Rattle.rules.proofs.tests.lacks_actor.Statement.{statement}
 use Rattle.rules.proofs.tests.lacks_actor.Tie as tie

@@ -3,7 +3,7 @@ use Rattle.model.specs.Answers.{partOf}
 use denote.Ref.{now}
 use lib.ListN.{take, drop}
 use native.Mathlib.Nat.{add-sub-cancel-left}
-use Prim.Native.Nat.{ℕ, _-_, _+_}
+use Prim.Native.Nat.{ℕ}
 use mathlib.Core.Path.{ap}
 use borrow.Author.Needs.{needs}
 use Rattle.signs.proofs.expected.part.Statement.{statement}

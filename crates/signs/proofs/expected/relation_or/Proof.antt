@@ -1,6 +1,5 @@
 use Rattle.signs.specs.Expected.{relationOr}
 use borrow.Author.Tests.{eq-eqb, ne-eqb}
-use borrow.Author.Needs.{needs}
 use Rattle.signs.proofs.expected.relation_or.Statement.{statement}
 use Rattle.signs.proofs.expected.relation_or.Tie as tie
 use Rattle.signs.proofs.expected.relation_or.Reads as reads

@@ -2,7 +2,7 @@ use Rattle.signs.proofs.ExpectLaws.{value-end, value-mark, value-whole,
 use Rattle.signs.specs.Expected.{ValueNext}
 use Rattle.signs.specs.declared.Sign.{Sign}
 use Rattle.signs.specs.declared.SignRead.the-variants.{Found}
-use mathlib.Core.Path.{refl, sym, ap, subst, _∙_}
+use mathlib.Core.Path.{sym, ap, subst, _∙_}
 use borrow.Author.Needs.{needs}
 use Rattle.signs.proofs.expected.value_next.Statement.{statement}
 use Rattle.signs.proofs.expected.value_next.Tie as tie

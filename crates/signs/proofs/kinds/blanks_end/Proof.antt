@@ -4,7 +4,7 @@ use Rattle.text.specs.Places.{past, peekAt}
 use mathlib.Core.Bool.{true}
 use native.Mathlib.Omega.{arith}
 use lib.ListN.{length}
-use Prim.Native.Nat.{ℕ, _-_, _<_}
+use Prim.Native.Nat.{_-_}
 use mathlib.Core.Path.{_≡_, refl, sym, ap, _∙_}
 use borrow.Author.Needs.{needs}
 use Rattle.signs.proofs.kinds.blanks_end.Statement.{statement}
@@ -23,34 +23,27 @@ abbrev μ-loop : tie.MeasureT-loop
 passes : (c : tie.Then1 Inv-loop μ-loop) → isBlank (peekAt (c .before .before .before .before .before .args .s .now) (c .before .before .before .loop .i)) ≡ true
 passes c = ap isBlank (sym (c .before .before .peek .ensures)) ∙ sym (c .before .is-blank .ensures) ∙ c .if1 .taken
 
--- src/kinds.rt:29:5
 loop-holds : tie.Need-loop-holds Inv-loop μ-loop
 loop-holds c = refl
 
--- src/kinds.rt:29:20
 peek-requires : tie.Need-peek-requires Inv-loop μ-loop
 peek-requires c κs = search needs
 
--- src/kinds.rt:29:11
 is-blank-requires : tie.Need-is-blank-requires Inv-loop μ-loop
 is-blank-requires c κs = search needs
 
--- src/kinds.rt:30:9
 add-i : tie.Need-add-i Inv-loop μ-loop
 unfolding isBlank
 add-i c = omega (arith, test-in isBlank (c .before .before .before .before .before .args .s .now) (c .before .before .before .loop .i) refl (passes c))
 
--- src/kinds.rt:29:5
 loop-less : tie.Need-loop-less Inv-loop μ-loop
 unfolding isBlank
 loop-less c = omega (arith, test-in isBlank (c .before .before .before .before .before .args .s .now) (c .before .before .before .loop .i) refl (passes c))
 
--- src/kinds.rt:29:5
 loop-again : tie.Need-loop-again Inv-loop μ-loop
 unfolding isBlank
 loop-again c = sym (past-step isBlank (c .before .before .before .before .before .args .s .now) (c .before .before .before .loop .i) refl (passes c)) ∙ c .before .before .before .loop .inv
 
--- src/kinds.rt:25:1
 returns : tie.Need-returns Inv-loop μ-loop
 returns c = sym (past-stop isBlank (c .before .before .before .before .before .args .s .now) (c .before .before .before .loop .i) (ap isBlank (sym (c .before .before .peek .ensures)) ∙ sym (c .before .is-blank .ensures) ∙ c .if1 .left)) ∙ c .before .before .before .loop .inv
 

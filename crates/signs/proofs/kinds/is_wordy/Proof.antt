@@ -6,38 +6,30 @@ use Rattle.signs.proofs.kinds.is_wordy.Tie as tie
 use Rattle.signs.proofs.kinds.is_wordy.Reads as reads
 use Rattle.signs.proofs.kinds.is_wordy.Lts as lts
 
--- src/kinds.rt:55:26
 enum-told : tie.Need-enum-told
 enum-told c = search needs
 
--- src/kinds.rt:56:27
 enum-told-2 : tie.Need-enum-told-2
 enum-told-2 c = search needs
 
--- src/kinds.rt:57:26
 enum-told-3 : tie.Need-enum-told-3
 enum-told-3 c = search needs
 
--- src/kinds.rt:58:26
 enum-told-4 : tie.Need-enum-told-4
 enum-told-4 c = search needs
 
--- src/kinds.rt:51:1
 returns : tie.Need-returns
 unfolding isWordy
 returns c = sym (ap isWordy (c .enum-told .given .1))
 
--- src/kinds.rt:51:1
 returns-2 : tie.Need-returns-2
 unfolding isWordy
 returns-2 c = sym (ap isWordy (c .enum-told2 .given .1))
 
--- src/kinds.rt:51:1
 returns-3 : tie.Need-returns-3
 unfolding isWordy
 returns-3 c = sym (ap isWordy (c .enum-told3 .given .1))
 
--- src/kinds.rt:51:1
 returns-4 : tie.Need-returns-4
 unfolding isWordy
 returns-4 c = sym (ap isWordy (c .enum-told4 .given .1))

@@ -1,6 +1,5 @@
 use Rattle.signs.proofs.SignLaws.{number-digit, number-none, number-minus}
-use borrow.Author.Tests.{eq-eqb, ne-eqb}
-use mathlib.Core.Path.{sym, ap, _∙_}
+use mathlib.Core.Path.{sym, _∙_}
 use borrow.Author.Needs.{needs}
 use Rattle.signs.proofs.kinds.starts_number.Statement.{statement}
 use Rattle.signs.proofs.kinds.starts_number.Tie as tie
@@ -9,35 +8,27 @@ use Rattle.signs.proofs.kinds.starts_number.Lts as lts
 use Rattle.text.proofs.bytes.is_digit.Reads as is-digit-reads
 use Rattle.text.proofs.bytes.peek.Reads as peek-reads
 
--- src/kinds.rt:40:9
 peek-requires : tie.Need-peek-requires
 peek-requires c κs = search needs
 
--- src/kinds.rt:41:8
 is-digit-requires : tie.Need-is-digit-requires
 is-digit-requires c κs = search needs
 
--- src/kinds.rt:42:9
 returns : tie.Need-returns
 returns c = number-digit (c .before .before .before .before .args .s .now) (c .before .before .before .before .args .at) (c .before .before .peek .result) (c .before .before .peek .ensures) (sym (c .before .is-digit .ensures) ∙ c .if1 .taken)
 
--- src/kinds.rt:45:9
 returns-2 : tie.Need-returns-2
 returns-2 c = number-none (c .before .before .before .before .before .args .s .now) (c .before .before .before .before .before .args .at) (c .before .before .before .peek .result) (c .before .before .before .peek .ensures) (sym (c .before .before .is-digit .ensures) ∙ c .before .if1 .left) (c .if2 .taken)
 
--- src/kinds.rt:47:36
 add-peek : tie.Need-add-peek
 add-peek c = search needs
 
--- src/kinds.rt:47:21
 peek-requires-2 : tie.Need-peek-requires-2
 peek-requires-2 c κs = search needs
 
--- src/kinds.rt:47:5
 is-digit-requires-2 : tie.Need-is-digit-requires-2
 is-digit-requires-2 c κs = search needs
 
--- src/kinds.rt:36:1
 returns-3 : tie.Need-returns-3
 returns-3 c = number-minus (c .before .before .before .before .before .before .before .args .s .now) (c .before .before .before .before .before .before .before .args .at) (c .before .before .before .before .before .peek .result) (c .before .before .before .before .before .peek .ensures) (sym (c .before .before .before .before .is-digit .ensures) ∙ c .before .before .before .if1 .left) (c .before .before .if2 .left) (c .before .peek2 .result) (c .before .peek2 .ensures) (c .is-digit2 .result) (c .is-digit2 .ensures)
 

@@ -1,21 +1,17 @@
 use Rattle.signs.specs.Marks.{isArrow}
 use borrow.Author.Tests.{eq-eqb, ne-eqb, not-true, not-false}
-use borrow.Author.Needs.{needs}
 use Rattle.signs.proofs.marks.is_arrow.Statement.{statement}
 use Rattle.signs.proofs.marks.is_arrow.Tie as tie
 use Rattle.signs.proofs.marks.is_arrow.Reads as reads
 use Rattle.signs.proofs.marks.is_arrow.Lts as lts
 
--- src/marks.rt:80:9
 returns : tie.Need-returns
 returns c = simp (not-true (c .before .args .chain) (c .if1 .taken))
 
--- src/marks.rt:83:9
 returns-2 : tie.Need-returns-2
 unfolding isArrow
 returns-2 c = simp (not-false (c .before .before .args .chain) (c .before .if1 .left), eq-eqb _ 15405 (c .if2 .taken))
 
--- src/marks.rt:76:1
 returns-3 : tie.Need-returns-3
 unfolding isArrow
 returns-3 c = simp (not-false (c .before .before .args .chain) (c .before .if1 .left), ne-eqb _ 15405 (c .if2 .left))

@@ -1,22 +1,18 @@
 use Rattle.signs.specs.Marks.{isPair}
 use borrow.Author.Tests.{eq-eqb, ne-eqb}
-use borrow.Author.Needs.{needs}
 use Rattle.signs.proofs.marks.is_pair.Statement.{statement}
 use Rattle.signs.proofs.marks.is_pair.Tie as tie
 use Rattle.signs.proofs.marks.is_pair.Reads as reads
 use Rattle.signs.proofs.marks.is_pair.Lts as lts
 
--- src/marks.rt:67:9
 returns : tie.Need-returns
 unfolding isPair
 returns c = simp (eq-eqb _ 15422 (c .if1 .taken))
 
--- src/marks.rt:70:9
 returns-2 : tie.Need-returns-2
 unfolding isPair
 returns-2 c = simp (ne-eqb _ 15422 (c .before .if1 .left), eq-eqb _ 15421 (c .if2 .taken))
 
--- src/marks.rt:63:1
 returns-3 : tie.Need-returns-3
 unfolding isPair
 returns-3 c = simp (ne-eqb _ 15422 (c .before .if1 .left), ne-eqb _ 15421 (c .if2 .left))

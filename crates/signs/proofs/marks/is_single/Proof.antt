@@ -1,52 +1,42 @@
 use Rattle.signs.specs.Marks.{isSingle}
 use borrow.Author.Tests.{lt-ltb, le-ltb, le-leb, lt-leb, eq-eqb, ne-eqb}
-use borrow.Author.Needs.{needs}
 use Rattle.signs.proofs.marks.is_single.Statement.{statement}
 use Rattle.signs.proofs.marks.is_single.Tie as tie
 use Rattle.signs.proofs.marks.is_single.Reads as reads
 use Rattle.signs.proofs.marks.is_single.Lts as lts
 
--- src/marks.rt:36:9
 returns : tie.Need-returns
 unfolding isSingle
 returns c = rw (lt-ltb _ 40 (c .if1 .taken))
 
--- src/marks.rt:39:9
 returns-2 : tie.Need-returns-2
 unfolding isSingle
 returns-2 c = rw (le-ltb _ 40 (c .before .if1 .left), le-leb _ 41 (c .if2 .taken))
 
--- src/marks.rt:42:9
 returns-3 : tie.Need-returns-3
 unfolding isSingle
 returns-3 c = rw (le-ltb _ 40 (c .before .before .if1 .left), lt-leb _ 41 (c .before .if2 .left), lt-ltb _ 44 (c .if3 .taken))
 
--- src/marks.rt:45:9
 returns-4 : tie.Need-returns-4
 unfolding isSingle
 returns-4 c = rw (le-ltb _ 40 (c .before .before .before .if1 .left), lt-leb _ 41 (c .before .before .if2 .left), le-ltb _ 44 (c .before .if3 .left), le-leb _ 46 (c .if4 .taken))
 
--- src/marks.rt:48:9
 returns-5 : tie.Need-returns-5
 unfolding isSingle
 returns-5 c = rw (le-ltb _ 40 (c .before .before .before .before .if1 .left), lt-leb _ 41 (c .before .before .before .if2 .left), le-ltb _ 44 (c .before .before .if3 .left), lt-leb _ 46 (c .before .if4 .left), eq-eqb _ 58 (c .if5 .taken))
 
--- src/marks.rt:51:9
 returns-6 : tie.Need-returns-6
 unfolding isSingle
 returns-6 c = rw (le-ltb _ 40 (c .before .before .before .before .before .if1 .left), lt-leb _ 41 (c .before .before .before .before .if2 .left), le-ltb _ 44 (c .before .before .before .if3 .left), lt-leb _ 46 (c .before .before .if4 .left), ne-eqb _ 58 (c .before .if5 .left), lt-ltb _ 60 (c .if6 .taken))
 
--- src/marks.rt:54:9
 returns-7 : tie.Need-returns-7
 unfolding isSingle
 returns-7 c = rw (le-ltb _ 40 (c .before .before .before .before .before .before .if1 .left), lt-leb _ 41 (c .before .before .before .before .before .if2 .left), le-ltb _ 44 (c .before .before .before .before .if3 .left), lt-leb _ 46 (c .before .before .before .if4 .left), ne-eqb _ 58 (c .before .before .if5 .left), le-ltb _ 60 (c .before .if6 .left), le-leb _ 62 (c .if7 .taken))
 
--- src/marks.rt:57:9
 returns-8 : tie.Need-returns-8
 unfolding isSingle
 returns-8 c = rw (le-ltb _ 40 (c .before .before .before .before .before .before .before .if1 .left), lt-leb _ 41 (c .before .before .before .before .before .before .if2 .left), le-ltb _ 44 (c .before .before .before .before .before .if3 .left), lt-leb _ 46 (c .before .before .before .before .if4 .left), ne-eqb _ 58 (c .before .before .before .if5 .left), le-ltb _ 60 (c .before .before .if6 .left), lt-leb _ 62 (c .before .if7 .left), eq-eqb _ 91 (c .if8 .taken))
 
--- src/marks.rt:32:1
 returns-9 : tie.Need-returns-9
 unfolding isSingle
 returns-9 c = rw (le-ltb _ 40 (c .before .before .before .before .before .before .before .if1 .left), lt-leb _ 41 (c .before .before .before .before .before .before .if2 .left), le-ltb _ 44 (c .before .before .before .before .before .if3 .left), lt-leb _ 46 (c .before .before .before .before .if4 .left), ne-eqb _ 58 (c .before .before .before .if5 .left), le-ltb _ 60 (c .before .before .if6 .left), lt-leb _ 62 (c .before .if7 .left), ne-eqb _ 91 (c .if8 .left))

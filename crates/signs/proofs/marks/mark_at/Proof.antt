@@ -1,7 +1,7 @@
 use Rattle.signs.proofs.MarkLaws.{peek-bound, mark-arrow, mark-pair, mark-one, mark-none}
 use native.Mathlib.Omega.{arith}
-use Prim.Native.Nat.{ℕ, _+_}
-use mathlib.Core.Path.{sym, ap, _∙_}
+use Prim.Native.Nat.{_+_}
+use mathlib.Core.Path.{sym, _∙_}
 use borrow.Author.Needs.{needs}
 use Rattle.signs.proofs.marks.mark_at.Statement.{statement}
 use Rattle.signs.proofs.marks.mark_at.Tie as tie
@@ -12,51 +12,39 @@ use Rattle.signs.proofs.marks.is_pair.Reads as is-pair-reads
 use Rattle.signs.proofs.marks.is_single.Reads as is-single-reads
 use Rattle.text.proofs.bytes.peek.Reads as peek-reads
 
--- src/marks.rt:93:9
 peek-requires : tie.Need-peek-requires
 peek-requires c κs = search needs
 
--- src/marks.rt:94:16
 mul-pair : tie.Need-mul-pair
 mul-pair c = omega (arith, c .peek .ensures, peek-bound (c .before .before .args .s .now) (c .before .before .args .at) (c .before .shared-slice-known .given (c .before .before .args .at) .fits))
 
--- src/marks.rt:94:41
 add-peek : tie.Need-add-peek
 add-peek c = search needs
 
--- src/marks.rt:94:26
 peek-requires-2 : tie.Need-peek-requires-2
 peek-requires-2 c κs = search needs
 
--- src/marks.rt:94:16
 add-pair : tie.Need-add-pair
 add-pair c = omega (arith, c .before .peek .ensures, peek-bound (c .before .before .before .args .s .now) (c .before .before .before .args .at) (c .before .before .shared-slice-known .given (c .before .before .before .args .at) .fits), c .peek2 .ensures, peek-bound (c .before .before .before .args .s .now) (c .before .before .before .args .at + 1) (c .before .before .shared-slice-known .given (c .before .before .before .args .at + 1) .fits))
 
--- src/marks.rt:95:8
 is-arrow-requires : tie.Need-is-arrow-requires
 is-arrow-requires c κs = search needs
 
--- src/marks.rt:96:9
 returns : tie.Need-returns
 returns c = mark-arrow (c .before .before .before .before .before .args .s .now) (c .before .before .before .before .before .args .at) (c .before .before .before .before .before .pre) (λ i. c .before .before .before .before .shared-slice-known .given i .fits) (c .before .before .before .peek .result) (c .before .before .peek2 .result) (c .before .before .before .peek .ensures) (c .before .before .peek2 .ensures) (c .before .before .before .before .before .args .chain) (sym (c .before .is-arrow .ensures) ∙ c .if1 .taken)
 
--- src/marks.rt:98:8
 is-pair-requires : tie.Need-is-pair-requires
 is-pair-requires c κs = search needs
 
--- src/marks.rt:99:9
 returns-2 : tie.Need-returns-2
 returns-2 c = mark-pair (c .before .before .before .before .before .before .before .args .s .now) (c .before .before .before .before .before .before .before .args .at) (c .before .before .before .before .before .before .before .pre) (λ i. c .before .before .before .before .before .before .shared-slice-known .given i .fits) (c .before .before .before .before .before .peek .result) (c .before .before .before .before .peek2 .result) (c .before .before .before .before .before .peek .ensures) (c .before .before .before .before .peek2 .ensures) (c .before .before .before .before .before .before .before .args .chain) (sym (c .before .before .before .is-arrow .ensures) ∙ c .before .before .if1 .left) (sym (c .before .is-pair .ensures) ∙ c .if2 .taken)
 
--- src/marks.rt:101:8
 is-single-requires : tie.Need-is-single-requires
 is-single-requires c κs = search needs
 
--- src/marks.rt:102:9
 returns-3 : tie.Need-returns-3
 returns-3 c = mark-one (c .before .before .before .before .before .before .before .before .before .args .s .now) (c .before .before .before .before .before .before .before .before .before .args .at) (c .before .before .before .before .before .before .before .before .before .pre) (λ i. c .before .before .before .before .before .before .before .before .shared-slice-known .given i .fits) (c .before .before .before .before .before .before .before .peek .result) (c .before .before .before .before .before .before .peek2 .result) (c .before .before .before .before .before .before .before .peek .ensures) (c .before .before .before .before .before .before .peek2 .ensures) (c .before .before .before .before .before .before .before .before .before .args .chain) (sym (c .before .before .before .before .before .is-arrow .ensures) ∙ c .before .before .before .before .if1 .left) (sym (c .before .before .before .is-pair .ensures) ∙ c .before .before .if2 .left) (sym (c .before .is-single .ensures) ∙ c .if3 .taken)
 
--- src/marks.rt:89:1
 returns-4 : tie.Need-returns-4
 returns-4 c = mark-none (c .before .before .before .before .before .before .before .before .before .args .s .now) (c .before .before .before .before .before .before .before .before .before .args .at) (c .before .before .before .before .before .before .before .before .before .pre) (λ i. c .before .before .before .before .before .before .before .before .shared-slice-known .given i .fits) (c .before .before .before .before .before .before .before .peek .result) (c .before .before .before .before .before .before .peek2 .result) (c .before .before .before .before .before .before .before .peek .ensures) (c .before .before .before .before .before .before .peek2 .ensures) (c .before .before .before .before .before .before .before .before .before .args .chain) (sym (c .before .before .before .before .before .is-arrow .ensures) ∙ c .before .before .before .before .if1 .left) (sym (c .before .before .before .is-pair .ensures) ∙ c .before .before .if2 .left) (sym (c .before .is-single .ensures) ∙ c .if3 .left)
 

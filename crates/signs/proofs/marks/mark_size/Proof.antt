@@ -1,17 +1,14 @@
 use Rattle.signs.specs.Marks.{markSize}
 use borrow.Author.Tests.{lt-ltb, le-ltb}
-use borrow.Author.Needs.{needs}
 use Rattle.signs.proofs.marks.mark_size.Statement.{statement}
 use Rattle.signs.proofs.marks.mark_size.Tie as tie
 use Rattle.signs.proofs.marks.mark_size.Reads as reads
 use Rattle.signs.proofs.marks.mark_size.Lts as lts
 
--- src/marks.rt:112:9
 returns : tie.Need-returns
 unfolding markSize
 returns c = simp (lt-ltb _ 256 (c .if1 .taken))
 
--- src/marks.rt:108:1
 returns-2 : tie.Need-returns-2
 unfolding markSize
 returns-2 c = simp (le-ltb _ 256 (c .if1 .left))

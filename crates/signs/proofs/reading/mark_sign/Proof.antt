@@ -1,7 +1,5 @@
 use Rattle.signs.proofs.SignLaws.{mark-found, mark-missing, mark-small}
-use Rattle.signs.specs.Marks.{markSize}
 use native.Mathlib.Omega.{arith}
-use mathlib.Core.Path.{sym, _∙_}
 use borrow.Author.Needs.{needs}
 use Rattle.signs.proofs.reading.mark_sign.Statement.{statement}
 use Rattle.signs.proofs.reading.mark_sign.Tie as tie
@@ -10,23 +8,18 @@ use Rattle.signs.proofs.reading.mark_sign.Lts as lts
 use Rattle.signs.proofs.marks.mark_at.Reads as mark-at-reads
 use Rattle.signs.proofs.marks.mark_size.Reads as mark-size-reads
 
--- src/reading.rt:68:9
 mark-at-requires : tie.Need-mark-at-requires
 mark-at-requires c κs = search needs
 
--- src/reading.rt:70:9
 returns : tie.Need-returns
 returns c = record { got = mark-missing (c .before .before .before .args .s .now) (c .before .before .before .args .at) (c .before .before .before .args .chain) (c .before .mark-at .result) (c .before .mark-at .ensures) (c .if1 .taken); part = tt }
 
--- src/reading.rt:72:41
 mark-size-requires : tie.Need-mark-size-requires
 mark-size-requires c κs = search needs
 
--- src/reading.rt:72:36
 add-t8 : tie.Need-add-t8
 add-t8 c = omega (arith, c .mark-size .ensures, mark-small (c .before .before .mark-at .result))
 
--- src/reading.rt:64:1
 returns-2 : tie.Need-returns-2
 returns-2 c = record { got = mark-found (c .before .before .before .before .args .s .now) (c .before .before .before .before .args .at) (c .before .before .before .before .args .chain) (c .before .before .mark-at .result) (c .mark-size .result) (c .before .before .mark-at .ensures) (c .mark-size .ensures) (c .before .if1 .left); part = tt }
 

@@ -7,23 +7,18 @@ use Rattle.signs.proofs.reading.number_sign.Reads as reads
 use Rattle.signs.proofs.reading.number_sign.Lts as lts
 use Rattle.text.proofs.numbers.whole.Reads as whole-reads
 
--- src/reading.rt:41:36
 whole-requires : tie.Need-whole-requires
 whole-requires c κs = search needs
 
--- src/reading.rt:41:28
 enum-known-n : tie.Need-enum-known-n
 enum-known-n c = search needs
 
--- src/reading.rt:42:9
 enum-told : tie.Need-enum-told
 enum-told c = search needs
 
--- src/reading.rt:42:9
 returns : tie.Need-returns
 returns c = record { got = whole-none (c .before .before .before .before .args .s .now) (c .before .before .before .before .args .at) (sym (c .enum-told .given .1) ∙ c .before .before .whole .ensures); part = tt }
 
--- src/reading.rt:38:1
 returns-2 : tie.Need-returns-2
 returns-2 c = record { got = whole-found (c .before .before .before .before .before .args .s .now) (c .before .before .before .before .before .args .at) (c .before .n .given .0 .0) (c .before .n .given .0 .1 .0) (sym (c .before .n .given .1) ∙ c .before .before .before .whole .ensures); part = tt }
 

@@ -14,47 +14,36 @@ use Rattle.signs.proofs.reading.word_sign.Reads as word-sign-reads
 use Rattle.text.proofs.bytes.is_letter.Reads as is-letter-reads
 use Rattle.text.proofs.bytes.peek.Reads as peek-reads
 
--- src/reading.rt:80:9
 peek-requires : tie.Need-peek-requires
 peek-requires c κs = search needs
 
--- src/reading.rt:81:8
 is-letter-requires : tie.Need-is-letter-requires
 is-letter-requires c κs = search needs
 
--- src/reading.rt:82:9
 word-sign-requires : tie.Need-word-sign-requires
 word-sign-requires c κs = search needs
 
--- src/reading.rt:82:9
 returns : tie.Need-returns
 returns c = record { got = sign-word (c .before .before .before .before .before .args .s .now) (c .before .before .before .before .before .args .at) (c .before .before .before .before .before .args .chain) (c .before .before .before .before .before .pre) _ (ap isLetter (sym (c .before .before .before .peek .ensures)) ∙ sym (c .before .before .is-letter .ensures) ∙ c .before .if1 .taken) (c .word-sign .ensures .got); part = c .word-sign .ensures .part }
 
--- src/reading.rt:84:8
 starts-number-requires : tie.Need-starts-number-requires
 starts-number-requires c κs = search needs
 
--- src/reading.rt:85:9
 number-sign-requires : tie.Need-number-sign-requires
 number-sign-requires c κs = search needs
 
--- src/reading.rt:85:9
 returns-2 : tie.Need-returns-2
 returns-2 c = record { got = sign-whole (c .before .before .before .before .before .before .before .args .s .now) (c .before .before .before .before .before .before .before .args .at) (c .before .before .before .before .before .before .before .args .chain) (c .before .before .before .before .before .before .before .pre) _ (ap isLetter (sym (c .before .before .before .before .before .peek .ensures)) ∙ sym (c .before .before .before .before .is-letter .ensures) ∙ c .before .before .before .if1 .left) (sym (c .before .before .starts-number .ensures) ∙ c .before .if2 .taken) (c .number-sign .ensures .got); part = c .number-sign .ensures .part }
 
--- src/reading.rt:88:9
 text-sign-requires : tie.Need-text-sign-requires
 text-sign-requires c κs = search needs
 
--- src/reading.rt:88:9
 returns-3 : tie.Need-returns-3
 returns-3 c = record { got = sign-text (c .before .before .before .before .before .before .before .before .args .s .now) (c .before .before .before .before .before .before .before .before .args .at) (c .before .before .before .before .before .before .before .before .args .chain) (c .before .before .before .before .before .before .before .before .pre) _ (ap isLetter (sym (c .before .before .before .before .before .before .peek .ensures)) ∙ sym (c .before .before .before .before .before .is-letter .ensures) ∙ c .before .before .before .before .if1 .left) (sym (c .before .before .before .starts-number .ensures) ∙ c .before .before .if2 .left) (sym (c .before .before .before .before .before .before .peek .ensures) ∙ c .before .if3 .taken) (c .text-sign .ensures .got); part = c .text-sign .ensures .part }
 
--- src/reading.rt:90:5
 mark-sign-requires : tie.Need-mark-sign-requires
 mark-sign-requires c κs = search needs
 
--- src/reading.rt:76:1
 returns-4 : tie.Need-returns-4
 returns-4 c = record { got = sign-mark (c .before .before .before .before .before .before .before .before .args .s .now) (c .before .before .before .before .before .before .before .before .args .at) (c .before .before .before .before .before .before .before .before .args .chain) (c .before .before .before .before .before .before .before .before .pre) _ (ap isLetter (sym (c .before .before .before .before .before .before .peek .ensures)) ∙ sym (c .before .before .before .before .before .is-letter .ensures) ∙ c .before .before .before .before .if1 .left) (sym (c .before .before .before .starts-number .ensures) ∙ c .before .before .if2 .left) (λ z. c .before .if3 .left (c .before .before .before .before .before .before .peek .ensures ∙ z)) (c .mark-sign .ensures .got); part = c .mark-sign .ensures .part }
 

@@ -9,35 +9,27 @@ use Rattle.signs.proofs.reading.text_sign.Reads as reads
 use Rattle.signs.proofs.reading.text_sign.Lts as lts
 use Rattle.text.proofs.quotes.text_value.Reads as text-value-reads
 
--- src/reading.rt:52:22
 text-value-requires : tie.Need-text-value-requires
 text-value-requires c κs = search needs
 
--- src/reading.rt:52:17
 enum-known-q : tie.Need-enum-known-q
 enum-known-q c = search needs
 
--- src/reading.rt:53:9
 enum-told : tie.Need-enum-told
 enum-told c = search needs
 
--- src/reading.rt:53:9
 returns : tie.Need-returns
 returns c = record { got = text-none (c .before .before .before .before .args .s .now) (c .before .before .before .before .args .at) (sym (c .enum-told .given .1) ∙ c .before .before .text-value .ensures); part = tt }
 
--- src/reading.rt:57:20
 add-t5 : tie.Need-add-t5
 add-t5 c = search needs
 
--- src/reading.rt:58:21
 sub-t6 : tie.Need-sub-t6
 sub-t6 c = omega (arith, text-behind (c .before .before .before .before .before .args .s .now) (c .before .before .before .before .before .args .at) (c .before .q .given .0 .0) (sym (c .before .q .given .1) ∙ c .before .before .before .text-value .ensures))
 
--- src/reading.rt:58:21
 sub-t7 : tie.Need-sub-t7
 sub-t7 c = omega (arith, text-behind (c .before .before .before .before .before .args .s .now) (c .before .before .before .before .before .args .at) (c .before .q .given .0 .0) (sym (c .before .q .given .1) ∙ c .before .before .before .text-value .ensures))
 
--- src/reading.rt:48:1
 returns-2 : tie.Need-returns-2
 returns-2 c = record { got = text-found (c .before .before .before .before .before .args .s .now) (c .before .before .before .before .before .args .at) (c .before .q .given .0 .0) (sym (c .before .q .given .1) ∙ c .before .before .before .text-value .ensures); part = text-part (c .before .before .before .before .before .args .s .now) (c .before .before .before .before .before .args .at) (c .before .q .given .0 .0) (sym (c .before .q .given .1) ∙ c .before .before .before .text-value .ensures) }
 

@@ -1,6 +1,5 @@
 use Rattle.signs.proofs.PlacedLaws.{word-part}
 use Rattle.signs.proofs.SignLaws.{word-found, word-none, end-behind}
-use native.Mathlib.Omega.{arith}
 use mathlib.Core.Path.{sym, _∙_}
 use borrow.Author.Needs.{needs}
 use Rattle.signs.proofs.reading.word_sign.Statement.{statement}
@@ -9,27 +8,21 @@ use Rattle.signs.proofs.reading.word_sign.Reads as reads
 use Rattle.signs.proofs.reading.word_sign.Lts as lts
 use Rattle.text.proofs.words.word.Reads as word-reads
 
--- src/reading.rt:25:22
 word-requires : tie.Need-word-requires
 word-requires c κs = search needs
 
--- src/reading.rt:25:17
 enum-known-q : tie.Need-enum-known-q
 enum-known-q c = search needs
 
--- src/reading.rt:26:9
 enum-told : tie.Need-enum-told
 enum-told c = search needs
 
--- src/reading.rt:26:9
 returns : tie.Need-returns
 returns c = record { got = word-none (c .before .before .before .before .args .s .now) (c .before .before .before .before .args .at) (sym (c .enum-told .given .1) ∙ c .before .before .word .ensures); part = tt }
 
--- src/reading.rt:31:21
 sub-t5 : tie.Need-sub-t5
 sub-t5 c = end-behind (c .before .before .before .before .before .args .at) (c .before .q .given .0 .0) _ (sym (c .before .q .given .1) ∙ c .before .before .before .word .ensures)
 
--- src/reading.rt:22:1
 returns-2 : tie.Need-returns-2
 returns-2 c = record { got = word-found (c .before .before .before .before .before .args .s .now) (c .before .before .before .before .before .args .at) (c .before .q .given .0 .0) (sym (c .before .q .given .1) ∙ c .before .before .before .word .ensures); part = word-part (c .before .before .before .before .before .args .s .now) (c .before .before .before .before .before .args .at) (c .before .q .given .0 .0) (sym (c .before .q .given .1) ∙ c .before .before .before .word .ensures) }
 

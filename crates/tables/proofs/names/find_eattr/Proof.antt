@@ -9,11 +9,9 @@ use Rattle.tables.proofs.names.find_eattr.Reads as reads
 use Rattle.tables.proofs.names.find_eattr.Lts as lts
 use Rattle.tables.proofs.names.find_name.Reads as find-name-reads
 
--- src/names.rt:49:5
 find-name-requires : tie.Need-find-name-requires
 find-name-requires c κs = search needs
 
--- src/names.rt:45:1
 returns : tie.Need-returns
 unfolding bookAt
 returns c = c .find-name .ensures ∙ ap (place (c .before .before .before .before .args .name .now)) (sym (attr-names (c .before .before .before .before .args .text .now) (c .before .before .before .before .args .words .now) 64 (c .before .before .before .before .args .counts .eattrs)))

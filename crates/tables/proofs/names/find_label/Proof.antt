@@ -6,11 +6,9 @@ use Rattle.tables.proofs.names.find_label.Reads as reads
 use Rattle.tables.proofs.names.find_label.Lts as lts
 use Rattle.tables.proofs.names.find_name.Reads as find-name-reads
 
--- src/names.rt:57:5
 find-name-requires : tie.Need-find-name-requires
 find-name-requires c κs = search needs
 
--- src/names.rt:53:1
 returns : tie.Need-returns
 unfolding bookAt
 returns c = c .find-name .ensures

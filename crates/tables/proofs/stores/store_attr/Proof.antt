@@ -5,39 +5,30 @@ use Rattle.tables.proofs.stores.store_attr.Tie as tie
 use Rattle.tables.proofs.stores.store_attr.Reads as reads
 use Rattle.tables.proofs.stores.store_attr.Lts as lts
 
--- src/stores.rt:26:11
 add-words : tie.Need-add-words
 add-words c = search needs
 
--- src/stores.rt:26:5
 mul-words : tie.Need-mul-words
 mul-words c = search needs
 
--- src/stores.rt:26:5
 slice-write-words : tie.Need-slice-write-words
 slice-write-words c = search needs
 
--- src/stores.rt:27:11
 add-words-2 : tie.Need-add-words-2
 add-words-2 c = search needs
 
--- src/stores.rt:27:11
 add-words-3 : tie.Need-add-words-3
 add-words-3 c = search needs
 
--- src/stores.rt:27:5
 mul-words-2 : tie.Need-mul-words-2
 mul-words-2 c = search needs
 
--- src/stores.rt:27:5
 slice-write-words-2 : tie.Need-slice-write-words-2
 slice-write-words-2 c = search needs
 
--- src/stores.rt:22:1
 same-length : tie.Need-same-length
 same-length c = search needs
 
--- src/stores.rt:22:1
 returns : tie.Need-returns
 unfolding withAttr
 returns c = search needs

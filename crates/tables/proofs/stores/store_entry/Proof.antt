@@ -7,67 +7,51 @@ use Rattle.tables.proofs.stores.store_entry.Tie as tie
 use Rattle.tables.proofs.stores.store_entry.Reads as reads
 use Rattle.tables.proofs.stores.store_entry.Lts as lts
 
--- src/stores.rt:93:21
 mul-words : tie.Need-mul-words
 mul-words c = search needs
 
--- src/stores.rt:93:11
 add-words : tie.Need-add-words
 add-words c = search needs
 
--- src/stores.rt:93:5
 mul-words-2 : tie.Need-mul-words-2
 mul-words-2 c = search needs
 
--- src/stores.rt:93:5
 slice-write-words : tie.Need-slice-write-words
 slice-write-words c = search needs
 
--- src/stores.rt:94:21
 mul-words-3 : tie.Need-mul-words-3
 mul-words-3 c = search needs
 
--- src/stores.rt:94:11
 add-words-2 : tie.Need-add-words-2
 add-words-2 c = search needs
 
--- src/stores.rt:94:11
 add-words-3 : tie.Need-add-words-3
 add-words-3 c = search needs
 
--- src/stores.rt:94:5
 mul-words-4 : tie.Need-mul-words-4
 mul-words-4 c = search needs
 
--- src/stores.rt:94:5
 slice-write-words-2 : tie.Need-slice-write-words-2
 slice-write-words-2 c = simp length-set (omega arith)
 
--- src/stores.rt:95:21
 mul-words-5 : tie.Need-mul-words-5
 mul-words-5 c = search needs
 
--- src/stores.rt:95:11
 add-words-4 : tie.Need-add-words-4
 add-words-4 c = search needs
 
--- src/stores.rt:95:11
 add-words-5 : tie.Need-add-words-5
 add-words-5 c = search needs
 
--- src/stores.rt:95:5
 mul-words-6 : tie.Need-mul-words-6
 mul-words-6 c = search needs
 
--- src/stores.rt:95:5
 slice-write-words-3 : tie.Need-slice-write-words-3
 slice-write-words-3 c = simp length-set (omega arith)
 
--- src/stores.rt:89:1
 same-length : tie.Need-same-length
 same-length c = search needs
 
--- src/stores.rt:89:1
 returns : tie.Need-returns
 unfolding withEntry
 returns c = search needs

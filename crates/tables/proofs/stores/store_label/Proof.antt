@@ -5,27 +5,21 @@ use Rattle.tables.proofs.stores.store_label.Tie as tie
 use Rattle.tables.proofs.stores.store_label.Reads as reads
 use Rattle.tables.proofs.stores.store_label.Lts as lts
 
--- src/stores.rt:37:11
 add-words : tie.Need-add-words
 add-words c = search needs
 
--- src/stores.rt:37:5
 mul-words : tie.Need-mul-words
 mul-words c = search needs
 
--- src/stores.rt:37:5
 slice-write-words : tie.Need-slice-write-words
 slice-write-words c = search needs
 
--- src/stores.rt:41:17
 add-t5 : tie.Need-add-t5
 add-t5 c = search needs
 
--- src/stores.rt:31:1
 same-length : tie.Need-same-length
 same-length c = search needs
 
--- src/stores.rt:31:1
 returns : tie.Need-returns
 unfolding withLabel
 returns c = search needs

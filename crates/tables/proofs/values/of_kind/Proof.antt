@@ -5,27 +5,21 @@ use Rattle.tables.proofs.values.of_kind.Tie as tie
 use Rattle.tables.proofs.values.of_kind.Reads as reads
 use Rattle.tables.proofs.values.of_kind.Lts as lts
 
--- src/values.rt:58:29
 enum-told : tie.Need-enum-told
 enum-told c = search needs
 
--- src/values.rt:59:30
 enum-told-2 : tie.Need-enum-told-2
 enum-told-2 c = search needs
 
--- src/values.rt:60:28
 enum-told-3 : tie.Need-enum-told-3
 enum-told-3 c = search needs
 
--- src/values.rt:54:1
 returns : tie.Need-returns
 returns c = number-kind (c .before .before .args .value) (c .before .before .args .kind) _ (c .enum-told .given .1)
 
--- src/values.rt:54:1
 returns-2 : tie.Need-returns-2
 returns-2 c = text-kind (c .before .before .args .value) (c .before .before .args .kind) _ _ (c .enum-told2 .given .1)
 
--- src/values.rt:54:1
 returns-3 : tie.Need-returns-3
 returns-3 c = truth-kind (c .before .before .args .value) (c .before .before .args .kind) _ (c .enum-told3 .given .1)
 

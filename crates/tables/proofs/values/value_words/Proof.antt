@@ -8,47 +8,36 @@ use Rattle.tables.proofs.values.value_words.Tie as tie
 use Rattle.tables.proofs.values.value_words.Reads as reads
 use Rattle.tables.proofs.values.value_words.Lts as lts
 
--- src/values.rt:26:23
 enum-known-value : tie.Need-enum-known-value
 enum-known-value c = search needs
 
--- src/values.rt:28:20
 cast-t8 : tie.Need-cast-t8
 cast-t8 c = search needs
 
--- src/values.rt:29:21
 cast-t10 : tie.Need-cast-t10
 cast-t10 c = search needs
 
--- src/values.rt:31:21
 enum-known-value-2 : tie.Need-enum-known-value-2
 enum-known-value-2 c = search needs
 
--- src/values.rt:33:20
 cast-t11 : tie.Need-cast-t11
 cast-t11 c = omega (arith, subst (EndsBefore 65536) (c .before .value2 .given .1) (c .before .before .before .pre))
 
--- src/values.rt:34:21
 cast-t12 : tie.Need-cast-t12
 cast-t12 c = omega (arith, subst (EndsBefore 65536) (c .before .value2 .given .1) (c .before .before .before .pre))
 
--- src/values.rt:36:22
 enum-known-value-3 : tie.Need-enum-known-value-3
 enum-known-value-3 c = search needs
 
--- src/values.rt:38:17
 returns : tie.Need-returns
 returns c = says-true (c .before .before .before .before .args .value) _ (c .before .before .value3 .given .1) (c .if1 .taken)
 
--- src/values.rt:21:1
 returns-2 : tie.Need-returns-2
 returns-2 c = says-number (c .before .before .before .args .value) _ (c .before .value .given .1)
 
--- src/values.rt:21:1
 returns-3 : tie.Need-returns-3
 returns-3 c = says-text (c .before .before .before .args .value) _ _ (c .before .value2 .given .1)
 
--- src/values.rt:21:1
 returns-4 : tie.Need-returns-4
 returns-4 c = says-false (c .before .before .before .before .args .value) _ (c .before .before .value3 .given .1) (c .if1 .left)
 

@@ -3,7 +3,7 @@ use Rattle.text.proofs.QuoteLaws.{quoted-past, quoted-open, quoted-shut
 use Rattle.text.proofs.PlaceLaws.{past-within}
 use Rattle.text.specs.Places.{isInQuoted}
 use native.Mathlib.Omega.{arith}
-use Prim.Native.Nat.{_+_, _-_}
+use Prim.Native.Nat.{_+_}
 use mathlib.Core.Path.{sym, _∙_}
 use borrow.Author.Needs.{needs}
 use Rattle.text.proofs.quotes.quoted.Statement.{statement}

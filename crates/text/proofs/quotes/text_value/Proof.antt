@@ -3,7 +3,7 @@ use Rattle.text.proofs.QuoteLaws.{text-past, text-open, text-fits, text
 use Rattle.text.proofs.PlaceLaws.{past-on, past-within}
 use Rattle.text.specs.Places.{isInText}
 use native.Mathlib.Omega.{arith}
-use Prim.Native.Nat.{_+_, _-_}
+use Prim.Native.Nat.{_+_}
 use mathlib.Core.Path.{sym, _∙_}
 use borrow.Author.Needs.{needs}
 use Rattle.text.proofs.quotes.text_value.Statement.{statement}
