@@ -1,4 +1,4 @@
-//! Links the static library that `rt staticlib library` makes: from the folder that HIFMUNETH_LIBRARY names, or from target/staticlib.
+//! Links the static library that `rt staticlib hifmuneth` makes: from the folder that HIFMUNETH_LIBRARY names, or from target/staticlib.
 use std::{env, path::PathBuf};
 
 fn main() {
@@ -7,7 +7,7 @@ fn main() {
         let here = PathBuf::from(env::var("CARGO_MANIFEST_DIR").expect("cargo sets it"));
         here.join("../../target/staticlib")
     });
-    println!("cargo:rerun-if-changed={}", folder.join("liblibrary.a").display());
+    println!("cargo:rerun-if-changed={}", folder.join("libhifmuneth.a").display());
     println!("cargo:rustc-link-search=native={}", folder.display());
-    println!("cargo:rustc-link-lib=static=library");
+    println!("cargo:rustc-link-lib=static=hifmuneth");
 }

@@ -1,0 +1,23 @@
+// Telling a verdict in numbers.
+ghost use Rattle.hifmuneth.specs.Told.{VerdictTold};
+use model::Verdict;
+
+// Tells a verdict: true, or false and the three numbers of the refusal, which are 0 where there is none.
+pub fn tell(verdict: Verdict, number: &mut u32, text: &mut u32, line: &mut u32) -> bool
+    ensures { λ r. ⌜ VerdictTold verdict r (now (number .exit)) (now (text .exit)) (now (line .exit)) ⌝ }
+{
+    match verdict {
+        Verdict::Accepted => {
+            *number = 0;
+            *text = 0;
+            *line = 0;
+            return true;
+        }
+        Verdict::Refused(refusal) => {
+            *number = refusal.number;
+            *text = refusal.text;
+            *line = refusal.line;
+            return false;
+        }
+    }
+}

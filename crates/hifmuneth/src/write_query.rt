@@ -1,0 +1,38 @@
+// Writing a query, for programs in other languages.
+ghost use mathlib.Core.Path.{_≡_};
+ghost use lib.ListN.{length};
+ghost use Rattle.model.specs.Service.{ones, writerService};
+ghost use Rattle.hifmuneth.specs.Told.{CountTold};
+use crate::tell::tell;
+use model::QueryWritten;
+use model::Verdict;
+
+// Writes a query in front of the text buffer: true and its length in bytes, or false and the refusal, which leaves the buffer as it is.
+// What does not apply is 0. The working memory ends all ones.
+#[no_mangle]
+pub extern "C" fn hifmuneth_write_query(
+    book: &[u8],
+    rules: &[u8],
+    query: &[u8],
+    out: &mut [u8],
+    work: &mut [u32],
+    size: &mut usize,
+    number: &mut u32,
+    text: &mut u32,
+    line: &mut u32,
+) -> bool
+    ensures answer { λ r. ⌜ CountTold (writerService (length (now (work .entry))) (now (out .entry)) (now (book .entry)) (now (rules .entry)) (now (query .entry)) .answer) r (now (size .exit)) (now (number .exit)) (now (text .exit)) (now (line .exit)) ⌝ }
+    ensures written { λ _. ⌜ now (out .exit) ≡ writerService (length (now (work .entry))) (now (out .entry)) (now (book .entry)) (now (rules .entry)) (now (query .entry)) .text ⌝ }
+    ensures cleared { λ _. ⌜ now (work .exit) ≡ ones (length (now (work .entry))) ⌝ }
+{
+    match service::write_query(book, rules, query, out, work) {
+        QueryWritten::Length(n) => {
+            *size = n;
+            return tell(Verdict::Accepted, number, text, line);
+        }
+        QueryWritten::Refused(refusal) => {
+            *size = 0;
+            return tell(Verdict::Refused(refusal), number, text, line);
+        }
+    }
+}
