@@ -5,8 +5,8 @@
  * every other number is 0. Whatever it answers, the working memory ends all ones. No function keeps a pointer, allocates memory or fails
  * in any other way.
  *
- * How long a call takes: a text within its limits is read or refused in under a millisecond on a machine of today, whatever it says (measured; see
- * docs/SPEED.md). A list searches besides, and the search has no bound yet: a dense book and a query of many vertices that hardly narrow each
+ * How long a call takes: a text within its limits is read or refused in a few milliseconds on a machine of today, whatever it says, nearly every one in under a
+ * tenth of that (measured; see docs/SPEED.md). A list searches besides, and the search has no bound yet: a dense book and a query of many vertices that hardly narrow each
  * other can keep it busy for long. Call it where a slow answer holds up nothing else.
  *
  * What a caller owes: every pointer is valid, aligned, and not NULL (also where its length is 0); no two of the buffers and numbers
