@@ -17,7 +17,7 @@ use Rattle.model.specs.declared.Clause.{Clause}
 use Rattle.model.specs.declared.Pattern.{Pattern}
 use Rattle.model.specs.declared.Identity.{Identity}
 use Rattle.model.specs.declared.RequestRead.{RequestRead}
-use Rattle.tables.specs.Listed.{listed}
+use Rattle.book_tables.specs.Listed.{listed}
 
 -- one word of so many rows of a width, or 0 past them
 unfoldable pub rowWord : ℕ → ℕ → (ℕ → List ℕ) → ℕ → ℕ

@@ -20,18 +20,18 @@ use Rattle.model.specs.Service.{ones}
 use Rattle.text.specs.Lines.{lineAt}
 use Rattle.chains.specs.Chains.{cleared}
 use Rattle.chains.proofs.ChainLaws.{length-cleared, cleared-before, cleared-chained, chained-kept}
-use Rattle.tables.specs.declared.BookCounts.{BookCounts}
-use Rattle.tables.specs.Listed.{listed}
-use Rattle.tables.specs.Layout.{nodeHeads, nodeLinks, fromHeads, fromLinks, keys, bookWords}
-use Rattle.tables.specs.View.{namesAt, nodeSlot, attrsAt, relFrom, bookAt}
-use Rattle.tables.specs.Fits.{Fits}
-use Rattle.tables.specs.Stores.{noCounts, withoutChains}
-use Rattle.words.specs.Filled.{filled}
-use Rattle.words.specs.FilledLaws.{length-filled, filled-whole}
-use Rattle.lines.specs.declared.LineStep.{LineStep}
-use Rattle.lines.specs.declared.LineStep.the-variants.{Fault, Known}
-use Rattle.lines.specs.Steps.{stepOf, Stepped}
-use Rattle.lines.specs.Forms.{formStepOf, FormAsked}
+use Rattle.book_tables.specs.declared.BookCounts.{BookCounts}
+use Rattle.book_tables.specs.Listed.{listed}
+use Rattle.book_tables.specs.Layout.{nodeHeads, nodeLinks, fromHeads, fromLinks, keys, bookWords}
+use Rattle.book_tables.specs.View.{namesAt, nodeSlot, attrsAt, relFrom, bookAt}
+use Rattle.book_tables.specs.Fits.{Fits}
+use Rattle.book_tables.specs.Stores.{noCounts, withoutChains}
+use Rattle.fill.specs.Filled.{filled}
+use Rattle.fill.specs.FilledLaws.{length-filled, filled-whole}
+use Rattle.book_lines.specs.declared.LineStep.{LineStep}
+use Rattle.book_lines.specs.declared.LineStep.the-variants.{Fault, Known}
+use Rattle.book_lines.specs.Steps.{stepOf, Stepped}
+use Rattle.book_lines.specs.Forms.{formStepOf, FormAsked}
 use Rattle.book.specs.Loaded.{LineAsked}
 
 pub empty-is : (text : Bytes) (words : List ℕ) → bookAt text words noCounts ≡ emptyBook

@@ -10,9 +10,9 @@ use Rattle.model.specs.Service.{withWork, bookService}
 use Rattle.model.specs.Answers.{refusalOf, bookAnswer}
 use Rattle.model.specs.declared.BookRead.the-variants as answer
 use Rattle.model.specs.declared.Refusal.{Refusal as RefusalData}
-use Rattle.tables.specs.declared.BookCounts.{BookCounts}
-use Rattle.tables.specs.View.{nodeOf, relOf, bookAt}
-use Rattle.tables.proofs.ListedLaws.{length-listed}
+use Rattle.book_tables.specs.declared.BookCounts.{BookCounts}
+use Rattle.book_tables.specs.View.{nodeOf, relOf, bookAt}
+use Rattle.book_tables.proofs.ListedLaws.{length-listed}
 use Rattle.book.specs.declared.BookLoad.{BookLoad}
 use Rattle.book.specs.declared.BookLoad.the-variants as load
 use Rattle.book.specs.Loaded.{Loaded}

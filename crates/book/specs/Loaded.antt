@@ -8,9 +8,9 @@ use Rattle.model.specs.Refusal.{Outcome, accepted, refused}
 use Rattle.model.specs.Book.{Book}
 use Rattle.model.specs.Service.{ones}
 use Rattle.model.specs.Answers.{refusalOf}
-use Rattle.tables.specs.declared.BookCounts.{BookCounts}
-use Rattle.tables.specs.View.{bookAt}
-use Rattle.tables.specs.Fits.{Fits}
+use Rattle.book_tables.specs.declared.BookCounts.{BookCounts}
+use Rattle.book_tables.specs.View.{bookAt}
+use Rattle.book_tables.specs.Fits.{Fits}
 use Rattle.book.specs.declared.BookLoad.{BookLoad}
 use Rattle.book.specs.declared.BookLoad.the-variants as load
 

@@ -9,7 +9,7 @@ pub mod load;
 use model::BookRead;
 use model::Refusal;
 use model::limits::WORK_WORDS;
-use tables::BookCounts;
+use book_tables::BookCounts;
 
 // What reading a book into the working memory gives: the counts of its tables, or a refusal.
 pub enum BookLoad {
@@ -26,7 +26,7 @@ pub fn read_book(book: &[u8], work: &mut [u32]) -> BookRead
     ensures cleared { λ _. ⌜ now (work .exit) ≡ ones (length (now (work .entry))) ⌝ }
 {
     if work.len() < WORK_WORDS {
-        words::fill(work, 0);
+        fill::fill(work, 0);
         return BookRead::Refused(Refusal {
             number: TOO_LITTLE,
             text: 0,
@@ -34,7 +34,7 @@ pub fn read_book(book: &[u8], work: &mut [u32]) -> BookRead
         });
     }
     let read = load::load(book, work);
-    words::fill(work, 0);
+    fill::fill(work, 0);
     match read {
         BookLoad::Loaded(counts) => {
             BookRead::Counts(counts.nodes, counts.relationships, counts.entries)

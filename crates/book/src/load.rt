@@ -5,15 +5,15 @@ ghost use Rattle.model.specs.Lines.{readLines, linesOf};
 ghost use Rattle.model.specs.Book.{emptyBook};
 ghost use Rattle.model.specs.ReadBook.{bookStep, readBook};
 ghost use Rattle.text.specs.Lines.{lineAt};
-ghost use Rattle.tables.specs.View.{bookAt};
-ghost use Rattle.lines.specs.Steps.{Stepped};
+ghost use Rattle.book_tables.specs.View.{bookAt};
+ghost use Rattle.book_lines.specs.Steps.{Stepped};
 ghost use Rattle.book.specs.Loaded.{LineAsked, Loaded};
 use crate::BookLoad;
-use lines::LineStep;
+use book_lines::LineStep;
 use model::Refusal;
 use model::limits::MAX_BOOK_BYTES;
-use tables::BookCounts;
-use tables::no_counts;
+use book_tables::BookCounts;
+use book_tables::no_counts;
 use text::BytesRead;
 
 // The book is text 1.
@@ -33,7 +33,7 @@ pub fn load(text: &[u8], words: &mut [u32]) -> BookLoad
 {
     match text::lines::bytes_read(text, MAX_BOOK_BYTES) {
         BytesRead::TooLong => {
-            words::fill(words, 0);
+            fill::fill(words, 0);
             return BookLoad::Refused(Refusal {
                 number: TOO_LONG,
                 text: BOOK,
@@ -41,7 +41,7 @@ pub fn load(text: &[u8], words: &mut [u32]) -> BookLoad
             });
         }
         BytesRead::BadLine(line) => {
-            words::fill(words, 0);
+            fill::fill(words, 0);
             return BookLoad::Refused(Refusal {
                 number: NOT_ALLOWED,
                 text: BOOK,
@@ -59,7 +59,7 @@ fn load_lines(text: &[u8], words: &mut [u32]) -> BookLoad
     requires { ⌜ (length (now text) ≤ 65536) × (10752 ≤ length (now words)) ⌝ }
     ensures { λ r. ⌜ Loaded (now (text .entry)) (now (words .exit)) r (readLines 1 bookStep 1 emptyBook (linesOf (now (text .entry)))) ⌝ }
 {
-    tables::stores::clear_chains(words);
+    book_tables::stores::clear_chains(words);
     let mut at = 0;
     let mut line = 1;
     let mut counts = no_counts();
@@ -67,7 +67,7 @@ fn load_lines(text: &[u8], words: &mut [u32]) -> BookLoad
         let to = text::lines::line_end(text, at);
         match line_step(text, at, to, words, counts) {
             LineStep::Fault(number) => {
-                words::fill(words, 0);
+                fill::fill(words, 0);
                 return BookLoad::Refused(Refusal {
                     number,
                     text: BOOK,
@@ -92,5 +92,5 @@ fn line_step(text: &[u8], from: usize, to: usize, words: &mut [u32], counts: Boo
     if text.len() <= to {
         return LineStep::Fault(BROKEN);
     }
-    lines::forms::read_line(text, &text[from..to], from, words, counts)
+    book_lines::forms::read_line(text, &text[from..to], from, words, counts)
 }

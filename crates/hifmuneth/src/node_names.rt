@@ -2,12 +2,12 @@
 ghost use mathlib.Core.Path.{_≡_};
 ghost use lib.ListN.{length};
 ghost use Rattle.model.specs.Service.{ones, bookService};
-ghost use Rattle.names.specs.Names.{namesLeft};
+ghost use Rattle.node_names.specs.Names.{namesLeft};
 ghost use Rattle.hifmuneth.specs.Told.{NamesTold};
 use crate::tell::tell;
 use model::BookRead;
 use model::Verdict;
-use names::ALL_NAME_BYTES;
+use node_names::ALL_NAME_BYTES;
 
 // Gives the names of a book's nodes, 25 bytes for each: the name, then zeros. True and the number of nodes, or false and the refusal. What does
 // not apply is 0. The working memory ends all ones.
@@ -25,7 +25,7 @@ pub extern "C" fn hifmuneth_node_names(
     ensures names { λ _. ⌜ now (names .exit) ≡ namesLeft (length (now (work .entry))) (now (book .entry)) ⌝ }
     ensures cleared { λ _. ⌜ now (work .exit) ≡ ones (length (now (work .entry))) ⌝ }
 {
-    match names::node_names(book, names, work) {
+    match node_names::node_names(book, names, work) {
         BookRead::Counts(nodes, _, _) => {
             *count = nodes;
             return tell(Verdict::Accepted, number, text, line);

@@ -4,7 +4,7 @@ use model::limits::MAX_BOOK_BYTES;
 use model::limits::MAX_QUERY_BYTES;
 use model::limits::MAX_REQUEST_BYTES;
 use model::limits::MAX_RULES_BYTES;
-use showing::files;
+use program_io::files;
 
 // Each text has room for one byte more than its limit, so that a file past the limit is seen to be too long.
 const BOOK_BYTES: usize = MAX_BOOK_BYTES + 1;
@@ -29,7 +29,7 @@ fn main() {
         let rules_length = rules_read.length;
         let query_length = query_read.length;
         let request_length = request_read.length;
-        showing::print_list(
+        program_io::print_list(
             &book[..book_length],
             &rules[..rules_length],
             &query[..query_length],

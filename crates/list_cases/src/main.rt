@@ -6,8 +6,8 @@ use model::limits::MAX_BOOK_BYTES;
 use model::limits::MAX_QUERY_BYTES;
 use model::limits::MAX_REQUEST_BYTES;
 use model::limits::MAX_RULES_BYTES;
-use writer::bytes::put_byte;
-use writer::bytes::put_bytes;
+use query_writer::bytes::put_byte;
+use query_writer::bytes::put_bytes;
 
 // The cases are counted from 1.
 const CASES: usize = 40;
@@ -64,18 +64,18 @@ fn read_case(i: usize, file: &[u8], text: &mut [u8]) -> usize
     let at = put_bytes(b"/", &mut path, at);
     let end = put_bytes(file, &mut path, at);
     if end <= PATH_BYTES {
-        return showing::files::read_either(&path[0..end], file, text).length;
+        return program_io::files::read_either(&path[0..end], file, text).length;
     }
     0
 }
 
 // Prints the answers on four texts.
 fn print_answers(book: &[u8], rules: &[u8], query: &[u8], request: &[u8]) {
-    showing::readers::print_book(book);
-    showing::readers::print_rules(book, rules);
-    showing::readers::print_request(book, rules, request);
-    showing::readers::print_written(book, rules, query);
-    showing::print_list(book, rules, query, request);
+    program_io::readers::print_book(book);
+    program_io::readers::print_rules(book, rules);
+    program_io::readers::print_request(book, rules, request);
+    program_io::readers::print_written(book, rules, query);
+    program_io::print_list(book, rules, query, request);
     io::write_all(STDOUT_FILENO, b"no row words: ");
-    showing::print_in_no_words(book, rules, query, request);
+    program_io::print_in_no_words(book, rules, query, request);
 }

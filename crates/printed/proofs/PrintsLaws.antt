@@ -14,19 +14,19 @@ use Rattle.model.specs.Printed.{rowsText, refusalText, printed}
 use Rattle.model.specs.declared.Refusal.{Refusal as RefusalData}
 use Rattle.model.specs.declared.RowsListed.{RowsListed}
 use Rattle.model.specs.declared.RowsListed.the-variants as listed
-use Rattle.tables.specs.declared.BookCounts.{BookCounts}
-use Rattle.tables.specs.View.{bookAt}
-use Rattle.tables.specs.Fits.{Fits}
+use Rattle.book_tables.specs.declared.BookCounts.{BookCounts}
+use Rattle.book_tables.specs.View.{bookAt}
+use Rattle.book_tables.specs.Fits.{Fits}
 use Rattle.book.specs.declared.BookLoad.{BookLoad}
 use Rattle.book.specs.declared.BookLoad.the-variants as load
 use Rattle.book.specs.Loaded.{Loaded}
 use Rattle.rows.specs.Buffer.{rowsIn}
-use Rattle.writer.specs.Putting.{Puts}
-use Rattle.writer.proofs.PuttingLaws.{puts-same}
-use Rattle.printing.specs.Printing.{Prints}
-use Rattle.printing.proofs.FrontLaws.{prints}
-use Rattle.printing.proofs.LengthLaws.{refusal-short, names-short, list-short}
-use Rattle.printing.proofs.AnswerLaws.{book-refused, list-refused, Shown}
+use Rattle.query_writer.specs.Putting.{Puts}
+use Rattle.query_writer.proofs.PuttingLaws.{puts-same}
+use Rattle.list_lines.specs.Printing.{Prints}
+use Rattle.list_lines.proofs.FrontLaws.{prints}
+use Rattle.list_lines.proofs.LengthLaws.{refusal-short, names-short, list-short}
+use Rattle.list_lines.proofs.AnswerLaws.{book-refused, list-refused, Shown}
 
 -- a book that was loaded
 pub loaded : (text : Bytes) (words : List ℕ) (r : BookLoad) (c : BookCounts) → r ≡ load.Loaded c → Loaded text words r (readBook text)

@@ -3,13 +3,13 @@ ghost use mathlib.Core.Path.{_≡_};
 ghost use Rattle.model.specs.Refusal.{accepted};
 ghost use Rattle.model.specs.ReadBook.{readBook};
 ghost use Rattle.model.specs.Printed.{printed};
-ghost use Rattle.tables.specs.View.{bookAt};
-ghost use Rattle.tables.specs.Fits.{Fits};
-ghost use Rattle.printing.specs.Printing.{Prints};
+ghost use Rattle.book_tables.specs.View.{bookAt};
+ghost use Rattle.book_tables.specs.Fits.{Fits};
+ghost use Rattle.list_lines.specs.Printing.{Prints};
 use book::BookLoad;
 use model::RowsListed;
 use model::limits::WORK_WORDS;
-use tables::BookCounts;
+use book_tables::BookCounts;
 
 // "The program lends 16,384 row words."
 const ROW_WORDS: usize = 16384;
@@ -24,7 +24,7 @@ pub fn list_text(book: &[u8], rules: &[u8], query: &[u8], request: &[u8], out: &
     let mut words = [0u32; WORK_WORDS];
     match book::load::load(book, &mut words) {
         BookLoad::Refused(fault) => {
-            return printing::put_refusal(fault, out, 0);
+            return list_lines::put_refusal(fault, out, 0);
         }
         BookLoad::Loaded(counts) => {
             return from_book(book, &words, counts, rules, query, request, out);
@@ -49,10 +49,10 @@ fn from_book(
     let mut work = [0u32; WORK_WORDS];
     match service::list(book, rules, query, request, &mut rows, &mut work) {
         RowsListed::Refused(refusal) => {
-            return printing::put_refusal(refusal, out, 0);
+            return list_lines::put_refusal(refusal, out, 0);
         }
         RowsListed::Count(count, width) => {
-            return printing::put_list(book, words, counts, &rows, count, width, out, 0);
+            return list_lines::put_list(book, words, counts, &rows, count, width, out, 0);
         }
     }
 }

@@ -9,7 +9,7 @@ use native.Mathlib.Omega.{arith}
 use lib.ListN.{length, getD, take, drop, set, replicate, length-map, length-append, take-append-drop}
 use lib.Seq.{take-suc, take-suc-set, length-take-le, getD-set-same, getD-set-other, drop-drop, drop-set-lt}
 use lib.Dec.{T}
-use Rattle.facts.specs.Tests.{either, equal-or-not}
+use Rattle.logic.specs.Tests.{either, equal-or-not}
 use Rattle.model.specs.Bytes.{Bytes}
 use Rattle.model.specs.Lists.{any}
 use Rattle.model.specs.Names.{mem, firsts}
@@ -19,20 +19,20 @@ use Rattle.model.specs.Query.{ChainEdge}
 use Rattle.model.specs.ReadQuery.{hasUndeclared}
 use Rattle.model.specs.WholeAnswers.{padded}
 use Rattle.model.proofs.Members.{_∈_, test, is-false, any-i, mem-e}
-use Rattle.pieces.specs.Walk.{Ordered}
-use Rattle.pieces.specs.Named.{verticesIn, returnsIn, linksFrom}
-use Rattle.pieces.specs.Faults.{someWhere, undeclaredAt}
-use Rattle.pieces.specs.Steps.{StepAt}
-use Rattle.pieces.specs.declared.Place.{Place}
-use Rattle.pieces.specs.declared.Step.{Step}
-use Rattle.pieces.specs.declared.PieceRead.{PieceRead}
-use Rattle.pieces.specs.declared.PieceRead.the-variants as read
-use Rattle.pieces.proofs.Trees.{tree-names, returns-same}
-use Rattle.pieces.proofs.Tests.{vertex-names, undeclared-found}
-use Rattle.faults.specs.Names.{foundAt}
-use Rattle.faults.proofs.ScanLaws.{step-list}
-use Rattle.tables.specs.Listed.{listed}
-use Rattle.tables.proofs.ListedLaws.{map-end}
+use Rattle.query_pieces.specs.Walk.{Ordered}
+use Rattle.query_pieces.specs.Named.{verticesIn, returnsIn, linksFrom}
+use Rattle.query_pieces.specs.Faults.{someWhere, undeclaredAt}
+use Rattle.query_pieces.specs.Steps.{StepAt}
+use Rattle.query_pieces.specs.declared.Place.{Place}
+use Rattle.query_pieces.specs.declared.Step.{Step}
+use Rattle.query_pieces.specs.declared.PieceRead.{PieceRead}
+use Rattle.query_pieces.specs.declared.PieceRead.the-variants as read
+use Rattle.query_pieces.proofs.Trees.{tree-names, returns-same}
+use Rattle.query_pieces.proofs.Tests.{vertex-names, undeclared-found}
+use Rattle.query_faults.specs.Names.{foundAt}
+use Rattle.query_faults.proofs.ScanLaws.{step-list}
+use Rattle.book_tables.specs.Listed.{listed}
+use Rattle.book_tables.proofs.ListedLaws.{map-end}
 
 -- the slots of an array of n past the first count hold one fixed value
 abbrev pub Blank : {A : Type 0} → ℕ → A → ℕ → List A → Type 0

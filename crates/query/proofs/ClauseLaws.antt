@@ -29,22 +29,22 @@ use Rattle.model.specs.declared.Condition.the-variants.{Excluded, OfVertex, OfE
 use Rattle.model.specs.declared.Clause.{Clause as ClauseData}
 use Rattle.model.proofs.Members.{mem-e}
 use Rattle.model.proofs.Places.{at-place, length-map, map-append}
-use Rattle.tables.specs.declared.BookCounts.{BookCounts}
-use Rattle.tables.specs.Layout.{vattrNames, eattrNames}
-use Rattle.tables.specs.View.{bookAt}
-use Rattle.tables.proofs.NameLaws.{length-names, attr-names}
-use Rattle.pieces.specs.declared.Demand.{Demand}
-use Rattle.pieces.specs.declared.Place.{Place}
-use Rattle.pieces.specs.declared.Step.{Step}
-use Rattle.pieces.specs.declared.PieceRead.{PieceRead}
-use Rattle.pieces.specs.declared.PieceRead.the-variants as read
-use Rattle.pieces.specs.Named.{edgesIn, conditionIn, conditionsIn}
-use Rattle.pieces.specs.Steps.{pieceOf, pieceStanding, walkAt, StepAt}
-use Rattle.pieces.proofs.Tests.{joined-end}
-use Rattle.signs.specs.Expected.{valueStanding}
-use Rattle.faults.specs.Names.{foundAt, textStart, textPieces}
-use Rattle.faults.proofs.ScanLaws.{step-list, step-none}
-use Rattle.writer.specs.Writable.{Limits, ConditionFits}
+use Rattle.book_tables.specs.declared.BookCounts.{BookCounts}
+use Rattle.book_tables.specs.Layout.{vattrNames, eattrNames}
+use Rattle.book_tables.specs.View.{bookAt}
+use Rattle.book_tables.proofs.NameLaws.{length-names, attr-names}
+use Rattle.query_pieces.specs.declared.Demand.{Demand}
+use Rattle.query_pieces.specs.declared.Place.{Place}
+use Rattle.query_pieces.specs.declared.Step.{Step}
+use Rattle.query_pieces.specs.declared.PieceRead.{PieceRead}
+use Rattle.query_pieces.specs.declared.PieceRead.the-variants as read
+use Rattle.query_pieces.specs.Named.{edgesIn, conditionIn, conditionsIn}
+use Rattle.query_pieces.specs.Steps.{pieceOf, pieceStanding, walkAt, StepAt}
+use Rattle.query_pieces.proofs.Tests.{joined-end}
+use Rattle.query_signs.specs.Expected.{valueStanding}
+use Rattle.query_faults.specs.Names.{foundAt, textStart, textPieces}
+use Rattle.query_faults.proofs.ScanLaws.{step-list, step-none}
+use Rattle.query_writer.specs.Writable.{Limits, ConditionFits}
 use Rattle.query.specs.declared.clauses.Clauses.{Clauses}
 use Rattle.query.specs.Clauses.{requirementIn, demandIn, noClauses}
 use Rattle.query.proofs.ArrayLaws.{Blank, room-for, length-taken, taken-more, each-more, blank-more}

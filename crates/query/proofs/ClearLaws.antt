@@ -8,7 +8,7 @@ use native.Mathlib.Omega.{arith}
 use lib.ListN.{length}
 use lib.Dec.{T, ltb, leb, eqb, leb→le}
 use borrow.Author.Tests.{ltb-false, not-false}
-use Rattle.facts.specs.Tests.{and-left}
+use Rattle.logic.specs.Tests.{and-left}
 use Rattle.model.specs.Bytes.{Bytes}
 use Rattle.model.specs.Choice.{pick, Maybe, nothing, just, andThen}
 use Rattle.model.specs.Lists.{any, all, keep, joined, firstsBy}
@@ -29,19 +29,19 @@ use Rattle.model.proofs.Members.{_∈_, is-true, any-i, mem-e, map-e, joined-e,
 use Rattle.model.proofs.WrittenConditions.{IsName, WritableValue, WritableCondition}
 use Rattle.model.proofs.WritableSigns.{IfThere, signs-writable}
 use Rattle.model.proofs.WritablePieces.{WritablePiece, pieces-writable}
-use Rattle.pieces.specs.Walk.{stopped, ahead, orStopped, endsWell, walk, Ordered}
-use Rattle.pieces.specs.Named.{vertexIn, edgeIn, returnIn, conditionIn, verticesIn, edgesIn, returnsIn, conditionsIn, linksFrom}
-use Rattle.pieces.specs.Faults.{someWhere, undeclaredAt, twiceAt, mistypedAt, fromItselfAt}
-use Rattle.pieces.specs.Steps.{walkAt, spotOf, chainAt}
-use Rattle.pieces.proofs.Walks.{kept, pieces-are-walked}
-use Rattle.pieces.proofs.Trees.{tree-names, returns-same}
-use Rattle.pieces.proofs.Tests.{vertex-names, edge-names, twice-found, joined-append, joined-end, mem-firsts}
-use Rattle.faults.specs.Names.{textStart, textPieces}
-use Rattle.faults.specs.Counting.{pastLimits}
-use Rattle.faults.specs.Tests.{pieceFault}
-use Rattle.faults.specs.TextFault.{textFault}
-use Rattle.faults.proofs.CountLaws.{limits-same}
-use Rattle.faults.proofs.FaultLaws.{queryOf, text-ordered, text-read, number-is}
+use Rattle.query_pieces.specs.Walk.{stopped, ahead, orStopped, endsWell, walk, Ordered}
+use Rattle.query_pieces.specs.Named.{vertexIn, edgeIn, returnIn, conditionIn, verticesIn, edgesIn, returnsIn, conditionsIn, linksFrom}
+use Rattle.query_pieces.specs.Faults.{someWhere, undeclaredAt, twiceAt, mistypedAt, fromItselfAt}
+use Rattle.query_pieces.specs.Steps.{walkAt, spotOf, chainAt}
+use Rattle.query_pieces.proofs.Walks.{kept, pieces-are-walked}
+use Rattle.query_pieces.proofs.Trees.{tree-names, returns-same}
+use Rattle.query_pieces.proofs.Tests.{vertex-names, edge-names, twice-found, joined-append, joined-end, mem-firsts}
+use Rattle.query_faults.specs.Names.{textStart, textPieces}
+use Rattle.query_faults.specs.Counting.{pastLimits}
+use Rattle.query_faults.specs.Tests.{pieceFault}
+use Rattle.query_faults.specs.TextFault.{textFault}
+use Rattle.query_faults.proofs.CountLaws.{limits-same}
+use Rattle.query_faults.proofs.FaultLaws.{queryOf, text-ordered, text-read, number-is}
 use Rattle.query.proofs.VertexLaws.{vertexNamesIn, Begins, begun-place, begun-mem, firsts-begun}
 use Rattle.query.proofs.ClauseLaws.{known, textEdges, both-left, both-right}
 

@@ -22,22 +22,22 @@ use Rattle.model.specs.declared.Part.{Part}
 use Rattle.model.specs.declared.Edge.{Edge as EdgeData}
 use Rattle.model.proofs.Members.{_∈_, firsts-i}
 use Rattle.model.proofs.Places.{at-place, getD-in, getD-map, map-to}
-use Rattle.pieces.specs.Walk.{mayStand, Ordered}
-use Rattle.pieces.specs.Named.{vertexIn, verticesIn, linksFrom}
-use Rattle.pieces.specs.Faults.{someWhere, undeclaredAt}
-use Rattle.pieces.specs.Steps.{pieceOf, pieceStanding, walkAt, StepAt}
-use Rattle.pieces.specs.declared.Place.{Place}
-use Rattle.pieces.specs.declared.Link.{Link}
-use Rattle.pieces.specs.declared.Step.{Step}
-use Rattle.pieces.specs.declared.PieceRead.{PieceRead}
-use Rattle.pieces.specs.declared.PieceRead.the-variants as read
-use Rattle.faults.specs.Names.{textStart, foundAt, textPieces}
-use Rattle.faults.proofs.ScanLaws.{step-list, step-none}
-use Rattle.faults.proofs.FaultLaws.{text-ordered}
-use Rattle.tables.specs.Layout.{labelNames}
-use Rattle.tables.specs.View.{bookAt}
-use Rattle.tables.specs.declared.BookCounts.{BookCounts}
-use Rattle.tables.proofs.NameLaws.{length-names}
+use Rattle.query_pieces.specs.Walk.{mayStand, Ordered}
+use Rattle.query_pieces.specs.Named.{vertexIn, verticesIn, linksFrom}
+use Rattle.query_pieces.specs.Faults.{someWhere, undeclaredAt}
+use Rattle.query_pieces.specs.Steps.{pieceOf, pieceStanding, walkAt, StepAt}
+use Rattle.query_pieces.specs.declared.Place.{Place}
+use Rattle.query_pieces.specs.declared.Link.{Link}
+use Rattle.query_pieces.specs.declared.Step.{Step}
+use Rattle.query_pieces.specs.declared.PieceRead.{PieceRead}
+use Rattle.query_pieces.specs.declared.PieceRead.the-variants as read
+use Rattle.query_faults.specs.Names.{textStart, foundAt, textPieces}
+use Rattle.query_faults.proofs.ScanLaws.{step-list, step-none}
+use Rattle.query_faults.proofs.FaultLaws.{text-ordered}
+use Rattle.book_tables.specs.Layout.{labelNames}
+use Rattle.book_tables.specs.View.{bookAt}
+use Rattle.book_tables.specs.declared.BookCounts.{BookCounts}
+use Rattle.book_tables.proofs.NameLaws.{length-names}
 use Rattle.query.specs.declared.vertices.Vertices.{Vertices}
 use Rattle.query.specs.declared.edges.Edges.{Edges}
 use Rattle.query.specs.Edges.{edgeNamesOf, noEdges, edgeMade}

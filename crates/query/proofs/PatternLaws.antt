@@ -24,15 +24,15 @@ use Rattle.model.specs.declared.Clause.{Clause}
 use Rattle.model.specs.declared.Pattern.{Pattern}
 use Rattle.model.proofs.Members.{_∈_, map-i, map-e}
 use Rattle.model.proofs.Places.{getD-in, length-map}
-use Rattle.tables.specs.declared.BookCounts.{BookCounts}
-use Rattle.tables.specs.View.{bookAt}
-use Rattle.pieces.specs.Named.{edgesIn, linksFrom}
-use Rattle.pieces.proofs.Trees.{tree-names, returns-same, link-names}
-use Rattle.pieces.proofs.Tests.{vertex-names, edge-names}
-use Rattle.faults.specs.Names.{textPieces}
-use Rattle.signs.specs.Expected.{valueStanding}
-use Rattle.faults.proofs.FaultLaws.{queryOf, text-ordered}
-use Rattle.writer.specs.Writable.{Limits, countLimits, ConditionFits}
+use Rattle.book_tables.specs.declared.BookCounts.{BookCounts}
+use Rattle.book_tables.specs.View.{bookAt}
+use Rattle.query_pieces.specs.Named.{edgesIn, linksFrom}
+use Rattle.query_pieces.proofs.Trees.{tree-names, returns-same, link-names}
+use Rattle.query_pieces.proofs.Tests.{vertex-names, edge-names}
+use Rattle.query_faults.specs.Names.{textPieces}
+use Rattle.query_signs.specs.Expected.{valueStanding}
+use Rattle.query_faults.proofs.FaultLaws.{queryOf, text-ordered}
+use Rattle.query_writer.specs.Writable.{Limits, countLimits, ConditionFits}
 use Rattle.model.specs.PlainData.{noPart, noEdge, noClause, NameFits, ValueFits, ConditionFits as WordsHold, PatternFits as WordsFit, ValueWithin, ConditionWithin}
 use Rattle.query.specs.declared.vertices.Vertices.{Vertices}
 use Rattle.query.specs.declared.edges.Edges.{Edges}

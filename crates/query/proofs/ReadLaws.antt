@@ -20,12 +20,12 @@ use Rattle.model.specs.declared.Verdict.the-variants.{Accepted}
 use Rattle.model.specs.declared.Pattern.{Pattern}
 use Rattle.model.specs.declared.QueryRead.{QueryRead}
 use Rattle.model.proofs.AllowedBytes.{line-allowed}
-use Rattle.tables.specs.declared.BookCounts.{BookCounts}
+use Rattle.book_tables.specs.declared.BookCounts.{BookCounts}
 use Rattle.text.specs.Lines.{onLine, bytesOf, onBytes}
 use Rattle.text.specs.declared.BytesRead.{BytesRead}
 use Rattle.text.specs.declared.BytesRead.the-variants.{Allowed, TooLong, BadLine}
 use Rattle.text.proofs.LineLaws.{bytes-first}
-use Rattle.faults.specs.TextFault.{numberOr, treeFault, textFault}
+use Rattle.query_faults.specs.TextFault.{numberOr, treeFault, textFault}
 use Rattle.query.specs.PatternRead.{PatternRead}
 use Rattle.query.specs.QueryReads.{QueryGiven, QueryReads, RefusedWith}
 

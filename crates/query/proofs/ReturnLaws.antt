@@ -12,16 +12,16 @@ use Rattle.model.specs.Lists.{joined}
 use Rattle.model.specs.Names.{place}
 use Rattle.model.specs.Book.{Book}
 use Rattle.model.proofs.Places.{at-place, getD-in, getD-map, map-append}
-use Rattle.pieces.specs.Named.{returnIn, returnsIn}
-use Rattle.pieces.specs.Faults.{someWhere, undeclaredAt}
-use Rattle.pieces.specs.Steps.{pieceOf, StepAt}
-use Rattle.pieces.specs.declared.Place.{Place}
-use Rattle.pieces.specs.declared.Step.{Step}
-use Rattle.pieces.specs.declared.PieceRead.{PieceRead}
-use Rattle.pieces.specs.declared.PieceRead.the-variants as read
-use Rattle.faults.specs.Names.{textStart, foundAt, textPieces}
-use Rattle.faults.proofs.ScanLaws.{step-list, step-none}
-use Rattle.faults.proofs.FaultLaws.{text-ordered}
+use Rattle.query_pieces.specs.Named.{returnIn, returnsIn}
+use Rattle.query_pieces.specs.Faults.{someWhere, undeclaredAt}
+use Rattle.query_pieces.specs.Steps.{pieceOf, StepAt}
+use Rattle.query_pieces.specs.declared.Place.{Place}
+use Rattle.query_pieces.specs.declared.Step.{Step}
+use Rattle.query_pieces.specs.declared.PieceRead.{PieceRead}
+use Rattle.query_pieces.specs.declared.PieceRead.the-variants as read
+use Rattle.query_faults.specs.Names.{textStart, foundAt, textPieces}
+use Rattle.query_faults.proofs.ScanLaws.{step-list, step-none}
+use Rattle.query_faults.proofs.FaultLaws.{text-ordered}
 use Rattle.query.specs.declared.vertices.Vertices.{Vertices}
 use Rattle.query.specs.declared.returns.Returns.{Returns}
 use Rattle.query.specs.Returns.{noReturns}

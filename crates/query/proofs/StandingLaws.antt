@@ -17,16 +17,16 @@ use Rattle.model.specs.Answers.{nameAt, partOf}
 use Rattle.model.specs.Places.{placed, none, Standing, vertex, edge, value, standings, standingIn, vertexPart, edgePart, valuePart, addPart, firstParts, vertexParts, edgeParts, valueParts}
 use Rattle.model.specs.declared.Part.{Part}
 use Rattle.model.proofs.Standings.{none-placed, EndsBy, standings-end}
-use Rattle.signs.specs.Reads.{signsFrom}
-use Rattle.pieces.specs.Walk.{Walk, stopped, ahead, orStopped, walk}
-use Rattle.pieces.specs.Steps.{spotOf, chainAt, walkAt, standingsAt, pieceStanding, StepStands, StepAt}
-use Rattle.pieces.specs.declared.Place.{Place}
-use Rattle.pieces.specs.declared.Step.{Step}
-use Rattle.pieces.specs.declared.PieceRead.{PieceRead}
-use Rattle.pieces.specs.declared.PieceRead.the-variants as read
-use Rattle.pieces.proofs.Tests.{joined-append}
-use Rattle.faults.specs.Names.{textStart}
-use Rattle.faults.proofs.ScanLaws.{step-whole, step-none}
+use Rattle.query_signs.specs.Reads.{signsFrom}
+use Rattle.query_pieces.specs.Walk.{Walk, stopped, ahead, orStopped, walk}
+use Rattle.query_pieces.specs.Steps.{spotOf, chainAt, walkAt, standingsAt, pieceStanding, StepStands, StepAt}
+use Rattle.query_pieces.specs.declared.Place.{Place}
+use Rattle.query_pieces.specs.declared.Step.{Step}
+use Rattle.query_pieces.specs.declared.PieceRead.{PieceRead}
+use Rattle.query_pieces.specs.declared.PieceRead.the-variants as read
+use Rattle.query_pieces.proofs.Tests.{joined-append}
+use Rattle.query_faults.specs.Names.{textStart}
+use Rattle.query_faults.proofs.ScanLaws.{step-whole, step-none}
 
 -- a part ends within its text, and is as long as the name that stands there
 pub record Inside (s : Bytes) (p : Part) : Type 0 where

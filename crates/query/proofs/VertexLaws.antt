@@ -8,7 +8,7 @@ use native.Mathlib.Numerals.{add-one}
 use lib.ListN.{length, take, getD, set, length-append, length-set}
 use lib.Seq.{take-suc-set}
 use borrow.Author.Tests.{lt-ltb, le-ltb}
-use Rattle.facts.specs.Tests.{either, below-or-not}
+use Rattle.logic.specs.Tests.{either, below-or-not}
 use Rattle.model.specs.Bytes.{Bytes, same}
 use Rattle.model.specs.Choice.{pick}
 use Rattle.model.specs.Lists.{any, joined, placeWhere, addNewBy, firstsBy}
@@ -18,17 +18,17 @@ use Rattle.model.specs.Places.{vertexPart, addPart, firstParts, vertexParts}
 use Rattle.model.specs.PlainData.{noPart}
 use Rattle.model.specs.declared.Part.{Part}
 use Rattle.model.proofs.FirstNames.{firsts-append, firsts-grow}
-use Rattle.pieces.specs.Named.{vertexIn, verticesIn}
-use Rattle.pieces.specs.Steps.{pieceOf, StepAt, pieceStanding, walkAt, standingsAt}
-use Rattle.pieces.specs.declared.Place.{Place}
-use Rattle.pieces.specs.declared.Step.{Step}
-use Rattle.pieces.specs.declared.PieceRead.{PieceRead}
-use Rattle.pieces.specs.declared.PieceRead.the-variants as read
-use Rattle.faults.specs.Names.{textStart, foundAt, textPieces}
-use Rattle.faults.proofs.ScanLaws.{mem-append, step-list, step-none, step-whole}
-use Rattle.tables.specs.Listed.{listed}
-use Rattle.tables.proofs.ListedLaws.{scan-none, scan-on, scan-place, scan-absent, place-end, place-none}
-use Rattle.tables.proofs.NameLaws.{equal-same, mem-place}
+use Rattle.query_pieces.specs.Named.{vertexIn, verticesIn}
+use Rattle.query_pieces.specs.Steps.{pieceOf, StepAt, pieceStanding, walkAt, standingsAt}
+use Rattle.query_pieces.specs.declared.Place.{Place}
+use Rattle.query_pieces.specs.declared.Step.{Step}
+use Rattle.query_pieces.specs.declared.PieceRead.{PieceRead}
+use Rattle.query_pieces.specs.declared.PieceRead.the-variants as read
+use Rattle.query_faults.specs.Names.{textStart, foundAt, textPieces}
+use Rattle.query_faults.proofs.ScanLaws.{mem-append, step-list, step-none, step-whole}
+use Rattle.book_tables.specs.Listed.{listed}
+use Rattle.book_tables.proofs.ListedLaws.{scan-none, scan-on, scan-place, scan-absent, place-end, place-none}
+use Rattle.book_tables.proofs.NameLaws.{equal-same, mem-place}
 use Rattle.query.specs.declared.vertices.Vertices.{Vertices}
 use Rattle.query.specs.Vertices.{partsOf, namesOf, noVertices, Placed}
 use Rattle.query.proofs.ArrayLaws.{Blank, taken-listed, length-taken, taken-more, blank-more}

@@ -20,27 +20,27 @@ use Rattle.model.specs.declared.Value.the-variants.{Number, Text, Truth}
 use Rattle.model.specs.declared.Edge.{Edge}
 use Rattle.model.specs.declared.Condition.{Condition}
 use Rattle.model.specs.declared.Condition.the-variants.{Excluded}
-use Rattle.signs.specs.Expected.{valueStanding}
-use Rattle.signs.specs.Reads.{signsFrom}
-use Rattle.tables.specs.View.{bookAt}
-use Rattle.tables.specs.declared.BookCounts.{BookCounts}
-use Rattle.pieces.specs.Walk.{Ordered}
-use Rattle.pieces.specs.Named.{vertexIn, edgeIn, returnIn, conditionIn, verticesIn}
-use Rattle.pieces.specs.Steps.{pieceOf, pieceStanding, walkAt, spotOf, chainAt, StepAt}
-use Rattle.pieces.specs.declared.Place.{Place}
-use Rattle.pieces.specs.declared.Link.{Link}
-use Rattle.pieces.specs.declared.Demand.{Demand}
-use Rattle.pieces.specs.declared.Piece.{Piece as PieceData}
-use Rattle.pieces.specs.declared.Piece.the-variants as piece
-use Rattle.pieces.specs.declared.Step.{Step}
-use Rattle.pieces.specs.declared.PieceRead.{PieceRead}
-use Rattle.pieces.specs.declared.PieceRead.the-variants as read
-use Rattle.pieces.proofs.Walks.{walk-ordered}
-use Rattle.faults.specs.Names.{textStart, foundAt, textPieces}
-use Rattle.faults.proofs.ScanLaws.{step-list}
-use Rattle.faults.proofs.FaultLaws.{text-ordered}
-use Rattle.faults.proofs.SurveyLaws.{none-behind}
-use Rattle.writer.specs.Writable.{Limits}
+use Rattle.query_signs.specs.Expected.{valueStanding}
+use Rattle.query_signs.specs.Reads.{signsFrom}
+use Rattle.book_tables.specs.View.{bookAt}
+use Rattle.book_tables.specs.declared.BookCounts.{BookCounts}
+use Rattle.query_pieces.specs.Walk.{Ordered}
+use Rattle.query_pieces.specs.Named.{vertexIn, edgeIn, returnIn, conditionIn, verticesIn}
+use Rattle.query_pieces.specs.Steps.{pieceOf, pieceStanding, walkAt, spotOf, chainAt, StepAt}
+use Rattle.query_pieces.specs.declared.Place.{Place}
+use Rattle.query_pieces.specs.declared.Link.{Link}
+use Rattle.query_pieces.specs.declared.Demand.{Demand}
+use Rattle.query_pieces.specs.declared.Piece.{Piece as PieceData}
+use Rattle.query_pieces.specs.declared.Piece.the-variants as piece
+use Rattle.query_pieces.specs.declared.Step.{Step}
+use Rattle.query_pieces.specs.declared.PieceRead.{PieceRead}
+use Rattle.query_pieces.specs.declared.PieceRead.the-variants as read
+use Rattle.query_pieces.proofs.Walks.{walk-ordered}
+use Rattle.query_faults.specs.Names.{textStart, foundAt, textPieces}
+use Rattle.query_faults.proofs.ScanLaws.{step-list}
+use Rattle.query_faults.proofs.FaultLaws.{text-ordered}
+use Rattle.query_faults.proofs.SurveyLaws.{none-behind}
+use Rattle.query_writer.specs.Writable.{Limits}
 use Rattle.query.specs.declared.vertices.Vertices.{Vertices}
 use Rattle.query.specs.declared.edges.Edges.{Edges}
 use Rattle.query.specs.declared.clauses.Clauses.{Clauses}

@@ -9,7 +9,7 @@ use Rattle.model.specs.Answers.{nameAt}
 use Rattle.model.specs.declared.Requirement.{Requirement}
 use Rattle.model.specs.declared.Condition.{Condition}
 use Rattle.model.specs.declared.Condition.the-variants.{OfVertex, OfEdge}
-use Rattle.pieces.specs.declared.Demand.{Demand}
+use Rattle.query_pieces.specs.declared.Demand.{Demand}
 use Rattle.model.specs.PlainData.{noClause}
 use Rattle.query.specs.declared.clauses.Clauses.{Clauses}
 

@@ -8,7 +8,7 @@ use Rattle.model.specs.Book.{Book}
 use Rattle.model.specs.Answers.{nameAt}
 use Rattle.model.specs.declared.Edge.{Edge}
 use Rattle.model.specs.PlainData.{noEdge}
-use Rattle.pieces.specs.declared.Link.{Link}
+use Rattle.query_pieces.specs.declared.Link.{Link}
 use Rattle.query.specs.declared.edges.Edges.{Edges}
 
 -- the variables of the edges found

@@ -15,11 +15,11 @@ use Rattle.model.specs.Pattern.{patternOf}
 use Rattle.model.specs.Answers.{patternIn}
 use Rattle.model.specs.WholeAnswers.{queryData}
 use Rattle.model.specs.declared.Pattern.{Pattern}
-use Rattle.tables.specs.declared.BookCounts.{BookCounts}
-use Rattle.tables.specs.View.{bookAt}
-use Rattle.tables.specs.Fits.{Fits}
-use Rattle.faults.specs.TextFault.{textFault}
-use Rattle.writer.specs.Writable.{countLimits, PatternFits}
+use Rattle.book_tables.specs.declared.BookCounts.{BookCounts}
+use Rattle.book_tables.specs.View.{bookAt}
+use Rattle.book_tables.specs.Fits.{Fits}
+use Rattle.query_faults.specs.TextFault.{textFault}
+use Rattle.query_writer.specs.Writable.{countLimits, PatternFits}
 use Rattle.model.specs.PlainData.{PartsWithin, PatternFits as WordsFit}
 use Rattle.query.specs.declared.vertices.Vertices.{Vertices}
 use Rattle.query.specs.declared.edges.Edges.{Edges}

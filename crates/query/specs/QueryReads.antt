@@ -12,8 +12,8 @@ use Rattle.model.specs.declared.Verdict.{Verdict}
 use Rattle.model.specs.declared.Verdict.the-variants.{Accepted, Refused}
 use Rattle.model.specs.declared.Pattern.{Pattern}
 use Rattle.model.specs.declared.QueryRead.{QueryRead}
-use Rattle.tables.specs.declared.BookCounts.{BookCounts}
-use Rattle.tables.specs.Fits.{Fits}
+use Rattle.book_tables.specs.declared.BookCounts.{BookCounts}
+use Rattle.book_tables.specs.Fits.{Fits}
 use Rattle.text.specs.Lines.{bytesOf}
 use Rattle.text.specs.declared.BytesRead.the-variants.{Allowed}
 use Rattle.model.specs.PlainData.{noPattern}

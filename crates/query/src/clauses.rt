@@ -5,8 +5,8 @@ ghost use Rattle.model.specs.Names.{place};
 ghost use Rattle.model.specs.Book.{attrNames};
 ghost use Rattle.model.specs.Answers.{nameAt};
 ghost use Rattle.model.specs.declared.Condition.the-variants.{Excluded};
-ghost use Rattle.tables.specs.View.{bookAt};
-ghost use Rattle.tables.specs.Fits.{Fits};
+ghost use Rattle.book_tables.specs.View.{bookAt};
+ghost use Rattle.book_tables.specs.Fits.{Fits};
 ghost use Rattle.query.specs.Vertices.{namesOf};
 ghost use Rattle.query.specs.Edges.{edgeNamesOf};
 ghost use Rattle.query.specs.Clauses.{requirementIn, demandIn, noClauses};
@@ -19,10 +19,10 @@ use model::Condition;
 use model::Part;
 use model::Requirement;
 use model::limits::MAX_CONDITIONS;
-use pieces::Demand;
-use signs::expected;
-use tables::BookCounts;
-use tables::names;
+use query_pieces::Demand;
+use query_signs::expected;
+use book_tables::BookCounts;
+use book_tables::names;
 
 // The conditions found so far, in the order of the text.
 pub struct Clauses {

@@ -3,17 +3,17 @@ ghost use mathlib.Core.Path.{_≡_};
 ghost use Prim.Native.Nat.{_≤_};
 ghost use Rattle.model.specs.Names.{place};
 ghost use Rattle.model.specs.Answers.{nameAt};
-ghost use Rattle.tables.specs.View.{bookAt};
-ghost use Rattle.tables.specs.Fits.{Fits};
+ghost use Rattle.book_tables.specs.View.{bookAt};
+ghost use Rattle.book_tables.specs.Fits.{Fits};
 ghost use Rattle.query.specs.Edges.{edgeNamesOf, noEdges, edgeMade};
-use faults::scan;
+use query_faults::scan;
 use model::Edge;
 use model::Part;
 use model::limits::MAX_EDGES;
-use pieces::Link;
-use signs::expected;
-use tables::BookCounts;
-use tables::names;
+use query_pieces::Link;
+use query_signs::expected;
+use book_tables::BookCounts;
+use book_tables::names;
 
 // The edges found so far, in the order of the text.
 pub struct Edges {

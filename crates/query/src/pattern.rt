@@ -1,6 +1,6 @@
 // The pattern of a text that has no fault.
 ghost use mathlib.Core.Path.{_≡_};
-ghost use Rattle.tables.specs.View.{bookAt};
+ghost use Rattle.book_tables.specs.View.{bookAt};
 ghost use Rattle.query.specs.PatternRead.{PatternAsked, PatternRead, patternMade};
 ghost use Rattle.model.specs.PlainData.{noPattern};
 use crate::clauses;
@@ -11,7 +11,7 @@ use crate::returns;
 use crate::returns::Returns;
 use crate::vertices;
 use crate::vertices::Vertices;
-use faults::scan;
+use query_faults::scan;
 use model::Clause;
 use model::Condition;
 use model::Counts;
@@ -22,10 +22,10 @@ use model::limits::MAX_CONDITIONS;
 use model::limits::MAX_EDGES;
 use model::limits::MAX_RETURNS;
 use model::limits::MAX_VERTICES;
-use pieces::Piece;
-use pieces::PieceRead;
-use pieces::reading;
-use tables::BookCounts;
+use query_pieces::Piece;
+use query_pieces::PieceRead;
+use query_pieces::reading;
+use book_tables::BookCounts;
 
 // The empty pattern.
 pub fn empty() -> Pattern

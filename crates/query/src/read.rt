@@ -1,14 +1,14 @@
 // Reading a query: its pattern, or its lowest refusal beside an empty pattern.
-ghost use Rattle.tables.specs.View.{bookAt};
-ghost use Rattle.tables.specs.Fits.{Fits};
+ghost use Rattle.book_tables.specs.View.{bookAt};
+ghost use Rattle.book_tables.specs.Fits.{Fits};
 ghost use Rattle.query.specs.QueryReads.{QueryReads, TextAsked, RefusedWith};
 use crate::pattern;
-use faults::faulty;
+use query_faults::faulty;
 use model::QueryRead;
 use model::Refusal;
 use model::Verdict;
 use model::limits::MAX_QUERY_BYTES;
-use tables::BookCounts;
+use book_tables::BookCounts;
 use text::BytesRead;
 use text::lines;
 

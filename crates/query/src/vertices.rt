@@ -4,7 +4,7 @@ ghost use Prim.Native.Nat.{_<_, _≤_};
 ghost use Rattle.model.specs.Names.{place};
 ghost use Rattle.model.specs.Answers.{nameAt};
 ghost use Rattle.query.specs.Vertices.{namesOf, noVertices, Placed};
-use faults::scan;
+use query_faults::scan;
 use model::Part;
 use model::limits::MAX_VERTICES;
 

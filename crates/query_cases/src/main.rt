@@ -1,6 +1,6 @@
 // The query reader and writer on many texts: book.txt, rules.txt, and queries.txt with a query on each line. Prints each query, and what the writer writes for it or the refusal.
 use libc::STDOUT_FILENO;
-use showing::files;
+use program_io::files;
 
 const BOOK_BYTES: usize = 4096;
 
@@ -36,5 +36,5 @@ fn print_queries(book: &[u8], rules: &[u8], queries: &[u8]) {
 fn print_query(book: &[u8], rules: &[u8], query: &[u8]) {
     io::write_all(STDOUT_FILENO, query);
     io::write_all(STDOUT_FILENO, b"\n  ");
-    showing::readers::print_written(book, rules, query);
+    program_io::readers::print_written(book, rules, query);
 }

@@ -32,7 +32,7 @@ use Rattle.items.proofs.RestLaws.{rest-end}
 use Rattle.items.proofs.NextLaws.{begins}
 use Rattle.items.proofs.ListLaws.{form-claims}
 use Rattle.items.proofs.PlacedLaws.{word-placed, name-placed}
-use Rattle.lists.proofs.Forms.{form-on}
+use Rattle.name_lists.proofs.Forms.{form-on}
 use Rattle.request.specs.declared.ClaimAt.{ClaimAt}
 use Rattle.request.specs.declared.ClaimAt.the-variants as at
 use Rattle.request.specs.Claims.{claimsFrom, oneMore, areRead, ClaimPlaces, claimAt, ClaimPlaced, claimOn, Left}

@@ -6,7 +6,7 @@ use mathlib.Core.Bool.{Bool, true, false, not, _||_}
 use native.Mathlib.Omega.{arith}
 use lib.ListN.{length, length-map}
 use lib.Dec.{T, eqb, ltb}
-use Rattle.facts.specs.Tests.{either, below-or-not}
+use Rattle.logic.specs.Tests.{either, below-or-not}
 use Rattle.model.specs.Bytes.{Bytes, bytesOf}
 use Rattle.model.specs.Choice.{pick, Maybe, nothing, just}
 use Rattle.model.specs.Lists.{any, all}
@@ -18,15 +18,15 @@ use Rattle.model.specs.Request.{Claim, requestFault}
 use Rattle.model.proofs.Decides.{not-e, or-l}
 use Rattle.model.proofs.Members.{_∈_, any-i, map-e, mem-e}
 use Rattle.model.proofs.Outcomes.{no-just}
-use Rattle.tables.specs.View.{wordAt, nameOf, namesAt}
-use Rattle.tables.proofs.NameLaws.{mem-place, length-names, place-named, place-mem, place-out}
-use Rattle.ranks.specs.declared.RulesCounts.{RulesCounts}
-use Rattle.ranks.specs.Layout.{names, actorsFrom, actorCountAt}
-use Rattle.ranks.specs.View.{actorsAt, rulesAt}
-use Rattle.ranks.specs.Fits.{Fits}
-use Rattle.ranks.proofs.Lowers.{category-names}
-use Rattle.ranks.proofs.Downs.{actors-of}
-use Rattle.ranks.proofs.Fewer.{fewer-names}
+use Rattle.book_tables.specs.View.{wordAt, nameOf, namesAt}
+use Rattle.book_tables.proofs.NameLaws.{mem-place, length-names, place-named, place-mem, place-out}
+use Rattle.rules_tables.specs.declared.RulesCounts.{RulesCounts}
+use Rattle.rules_tables.specs.Layout.{names, actorsFrom, actorCountAt}
+use Rattle.rules_tables.specs.View.{actorsAt, rulesAt}
+use Rattle.rules_tables.specs.Fits.{Fits}
+use Rattle.rules_tables.proofs.Lowers.{category-names}
+use Rattle.rules_tables.proofs.Downs.{actors-of}
+use Rattle.rules_tables.proofs.Fewer.{fewer-names}
 use Rattle.request.specs.Claims.{claimsFrom, actorsIn, isUnknown}
 use Rattle.request.specs.Faults.{categoryPlace}
 use Rattle.request.specs.Stored.{ClaimsAsked}

@@ -18,7 +18,7 @@ use Rattle.items.specs.Rest.{formAt}
 use Rattle.items.specs.Pieces.{namePlaces, wordNext, nameNext}
 use Rattle.items.specs.Forms.{formOpens}
 use Rattle.items.specs.Places.{WordPlaces}
-use Rattle.lists.proofs.Forms.{line-unopened, line-opened, no-word, a-word, no-name, a-name}
+use Rattle.name_lists.proofs.Forms.{line-unopened, line-opened, no-word, a-word, no-name, a-name}
 use Rattle.request.specs.Claims.{claimsFrom, areRead}
 use Rattle.request.specs.Forms.{lineOf, LineRead, FormRead}
 use Rattle.request.proofs.PlaceLaws.{form-words}

@@ -9,7 +9,7 @@ use lib.ListN.{length, getD, take, drop, take-append-drop, length-map}
 use lib.Seq.{take-append-seam}
 use lib.Dec.{eqb, ltb}
 use borrow.Author.Tests.{ne-eqb, eqb-true, ltb-false, not-false}
-use Rattle.facts.specs.Tests.{either, below-or-not}
+use Rattle.logic.specs.Tests.{either, below-or-not}
 use Rattle.model.specs.Bytes.{Bytes}
 use Rattle.model.specs.Choice.{pick, Maybe, nothing, just, andThen}
 use Rattle.model.specs.Lists.{isNil}
@@ -33,8 +33,8 @@ use Rattle.text.specs.Places.{past, isOther}
 use Rattle.text.specs.Lines.{isInLine, onLine, bytesOf, onBytes}
 use Rattle.text.proofs.PlaceLaws.{drop-at, drop-end, past-stops}
 use Rattle.text.proofs.LineLaws.{bytes-first, bad-line-small, lines-none, lines-ended, lines-last}
-use Rattle.tables.specs.View.{nameOf}
-use Rattle.ranks.specs.Layout.{names}
+use Rattle.book_tables.specs.View.{nameOf}
+use Rattle.rules_tables.specs.Layout.{names}
 use Rattle.request.specs.declared.Identities.{Identities}
 use Rattle.request.specs.Forms.{lineOf}
 use Rattle.request.specs.Claims.{wordsAt}

@@ -8,7 +8,7 @@ use native.Mathlib.Numerals.{add-one}
 use lib.ListN.{length, getD, set, take, drop, replicate, take-append-drop, length-append, length-set, length-map}
 use lib.Seq.{take-suc-set, drop-set-lt, drop-drop, getD-set-same, getD-set-other}
 use borrow.Author.Tests.{ltb-true}
-use Rattle.facts.specs.Tests.{either, equal-or-not}
+use Rattle.logic.specs.Tests.{either, equal-or-not}
 use Rattle.model.specs.Bytes.{Bytes}
 use Rattle.model.specs.Choice.{pick, just}
 use Rattle.model.specs.Lists.{all}
@@ -21,8 +21,8 @@ use Rattle.model.specs.declared.Part.{Part}
 use Rattle.model.specs.declared.Identity.{Identity as IdentityData}
 use Rattle.text.proofs.PlaceLaws.{part-in-part}
 use Rattle.items.specs.Forms.{claimNext}
-use Rattle.tables.proofs.NameLaws.{mem-place}
-use Rattle.tables.proofs.ListedLaws.{map-end}
+use Rattle.book_tables.proofs.NameLaws.{mem-place}
+use Rattle.book_tables.proofs.ListedLaws.{map-end}
 use Rattle.request.specs.declared.ClaimAt.the-variants as at
 use Rattle.request.specs.Claims.{wordsAt, partAt, claimsFrom, ClaimPlaces, claimAt, claimOn}
 use Rattle.request.specs.Stored.{noIdentities, identityOn, numbered, ClaimsAsked, ClaimsStored}

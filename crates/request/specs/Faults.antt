@@ -7,11 +7,11 @@ use Rattle.model.specs.Bytes.{Bytes}
 use Rattle.model.specs.Choice.{pick, nothing, just}
 use Rattle.model.specs.Names.{place}
 use Rattle.model.specs.Request.{Claim, requestFault}
-use Rattle.tables.specs.declared.BookCounts.{BookCounts}
-use Rattle.tables.specs.View.{namesAt, bookAt}
-use Rattle.ranks.specs.declared.RulesCounts.{RulesCounts}
-use Rattle.ranks.specs.Layout.{names}
-use Rattle.ranks.specs.View.{rulesAt}
+use Rattle.book_tables.specs.declared.BookCounts.{BookCounts}
+use Rattle.book_tables.specs.View.{namesAt, bookAt}
+use Rattle.rules_tables.specs.declared.RulesCounts.{RulesCounts}
+use Rattle.rules_tables.specs.Layout.{names}
+use Rattle.rules_tables.specs.View.{rulesAt}
 use Rattle.request.specs.Claims.{claimsFrom}
 
 -- a category's number, or how many there are where it is none of the rules'

@@ -14,11 +14,11 @@ use Rattle.model.specs.declared.Refusal.{Refusal}
 use Rattle.model.specs.declared.Verdict.{Verdict}
 use Rattle.model.specs.declared.Verdict.the-variants as verdict
 use Rattle.model.specs.declared.RequestRead.{RequestRead}
-use Rattle.tables.specs.declared.BookCounts.{BookCounts}
-use Rattle.tables.specs.View.{nameOf, bookAt}
-use Rattle.ranks.specs.declared.RulesCounts.{RulesCounts}
-use Rattle.ranks.specs.Layout.{names}
-use Rattle.ranks.specs.View.{rulesAt}
+use Rattle.book_tables.specs.declared.BookCounts.{BookCounts}
+use Rattle.book_tables.specs.View.{nameOf, bookAt}
+use Rattle.rules_tables.specs.declared.RulesCounts.{RulesCounts}
+use Rattle.rules_tables.specs.Layout.{names}
+use Rattle.rules_tables.specs.View.{rulesAt}
 use Rattle.request.specs.Stored.{noIdentities}
 
 -- accepted: the category by its number in the rules, the identities by places of the request and by node numbers, each where its own actor stands

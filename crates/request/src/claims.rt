@@ -8,7 +8,7 @@ ghost use Rattle.request.specs.Claims.{claimsFrom, areRead, actorsIn, cl
 use crate::ClaimAt;
 use items::ClaimRead;
 use items::forms;
-use lists::LIST_DEPTH;
+use name_lists::LIST_DEPTH;
 use text::compare;
 
 // The identity that was read, if one was.

@@ -7,19 +7,19 @@ ghost use Rattle.model.specs.Lists.{any};
 ghost use Rattle.model.specs.Names.{mem};
 ghost use Rattle.model.specs.Book.{nodeNames};
 ghost use Rattle.model.specs.Request.{Claim};
-ghost use Rattle.tables.specs.View.{bookAt};
-ghost use Rattle.tables.specs.Fits.{Fits};
-ghost use Rattle.ranks.specs.View.{actorsAt};
-ghost use Rattle.ranks.specs.Fits.{Fits as RulesFit};
+ghost use Rattle.book_tables.specs.View.{bookAt};
+ghost use Rattle.book_tables.specs.Fits.{Fits};
+ghost use Rattle.rules_tables.specs.View.{actorsAt};
+ghost use Rattle.rules_tables.specs.Fits.{Fits as RulesFit};
 ghost use Rattle.request.specs.Claims.{claimsFrom, isUnknown};
 ghost use Rattle.request.specs.Faults.{FaultTold};
 use crate::ClaimAt;
 use crate::claims;
-use ranks::ACTORS;
-use ranks::CATEGORIES;
-use ranks::CATEGORY_WORDS;
-use ranks::RulesCounts;
-use tables::BookCounts;
+use rules_tables::ACTORS;
+use rules_tables::CATEGORIES;
+use rules_tables::CATEGORY_WORDS;
+use rules_tables::RulesCounts;
+use book_tables::BookCounts;
 
 // The faults of a line, in the paper's numbers.
 pub const NOT_DECLARED: u32 = 4;
@@ -35,7 +35,7 @@ fn is_actor(rules: &[u8], table: &[u32], sizes: RulesCounts, k: usize, name: &[u
 {
     let count = table[CATEGORIES + CATEGORY_WORDS * k] as usize;
     let at = CATEGORIES + CATEGORY_WORDS * k + ACTORS;
-    tables::names::find_name(rules, table, at, count, name) < count
+    book_tables::names::find_name(rules, table, at, count, name) < count
 }
 
 // Whether a name is that of a node.
@@ -43,7 +43,7 @@ fn is_node(book: &[u8], words: &[u32], counts: BookCounts, name: &[u8]) -> bool
     requires { ⌜ Fits (now book) (now words) counts ⌝ }
     ensures { λ r. ⌜ r ≡ mem (now (name .entry)) (nodeNames (bookAt (now (book .entry)) (now (words .entry)) counts)) ⌝ }
 {
-    tables::names::find_node(book, words, counts, name) < counts.nodes
+    book_tables::names::find_node(book, words, counts, name) < counts.nodes
 }
 
 // Whether an identity is given to none of category k's actors, or is none of the nodes.

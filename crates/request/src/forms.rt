@@ -7,7 +7,7 @@ use crate::claims;
 use items::Piece;
 use items::forms;
 use items::places;
-use lists::LINE_DEPTH;
+use name_lists::LINE_DEPTH;
 use text::End;
 use text::compare;
 

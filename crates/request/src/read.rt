@@ -2,10 +2,10 @@
 ghost use mathlib.Core.Path.{_≡_};
 ghost use Rattle.model.specs.Lines.{linesOf};
 ghost use Rattle.model.specs.Request.{oneLine};
-ghost use Rattle.tables.specs.View.{bookAt};
-ghost use Rattle.tables.specs.Fits.{Fits};
-ghost use Rattle.ranks.specs.View.{rulesAt};
-ghost use Rattle.ranks.specs.Fits.{Fits as RulesFit};
+ghost use Rattle.book_tables.specs.View.{bookAt};
+ghost use Rattle.book_tables.specs.Fits.{Fits};
+ghost use Rattle.rules_tables.specs.View.{rulesAt};
+ghost use Rattle.rules_tables.specs.Fits.{Fits as RulesFit};
 ghost use Rattle.request.specs.RequestReads.{refusedRead, Reads, LineReads, RequestReads};
 use crate::faults;
 use crate::forms;
@@ -16,9 +16,9 @@ use model::RequestRead;
 use model::Verdict;
 use model::limits::MAX_IDENTITIES;
 use model::limits::MAX_REQUEST_BYTES;
-use ranks::CATEGORY_NAMES;
-use ranks::RulesCounts;
-use tables::BookCounts;
+use rules_tables::CATEGORY_NAMES;
+use rules_tables::RulesCounts;
+use book_tables::BookCounts;
 use text::BytesRead;
 
 // The request is text 4.
@@ -63,7 +63,7 @@ fn read_line(
     let Piece::At(p, q) = forms::request_form(s) else {
         return refused(BROKEN, 1);
     };
-    let k = tables::names::find_name(rules, table, CATEGORY_NAMES, sizes.categories, &s[p..q]);
+    let k = book_tables::names::find_name(rules, table, CATEGORY_NAMES, sizes.categories, &s[p..q]);
     let fault = faults::request_fault(book, words, counts, rules, table, sizes, k, s, q);
     if fault != 0 {
         return refused(fault, 1);

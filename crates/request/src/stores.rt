@@ -4,8 +4,8 @@ ghost use mathlib.Core.List.{List};
 ghost use Prim.Native.Nat.{_≤_};
 ghost use Rattle.model.specs.Choice.{just};
 ghost use Rattle.model.specs.Request.{Claim};
-ghost use Rattle.tables.specs.View.{bookAt};
-ghost use Rattle.tables.specs.Fits.{Fits};
+ghost use Rattle.book_tables.specs.View.{bookAt};
+ghost use Rattle.book_tables.specs.Fits.{Fits};
 ghost use Rattle.request.specs.Claims.{claimsFrom};
 ghost use Rattle.request.specs.Stored.{identityOn, ClaimsAsked, ClaimsStored};
 use crate::ClaimAt;
@@ -14,7 +14,7 @@ use crate::claims;
 use model::Identity;
 use model::Part;
 use model::limits::MAX_IDENTITIES;
-use tables::BookCounts;
+use book_tables::BookCounts;
 
 // No identity.
 pub const NONE: Identity = Identity {
@@ -65,7 +65,7 @@ pub fn identities(
         else {
             return Identities { list, count };
         };
-        let node = tables::names::find_node(book, words, counts, &s[node_start..node_end]);
+        let node = book_tables::names::find_node(book, words, counts, &s[node_start..node_end]);
         list[count] = identity(actor_start, actor_end, node);
         count += 1;
         i = next;

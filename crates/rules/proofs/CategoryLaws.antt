@@ -7,7 +7,7 @@ use native.Mathlib.Omega.{arith}
 use lib.ListN.{length, getD, set, length-set}
 use lib.Seq.{getD-set-same, getD-set-other}
 use lib.Dec.{T, leb, ltb, eqb, le→leb, lt→ltb}
-use Rattle.facts.specs.Tests.{either, below-or-not}
+use Rattle.logic.specs.Tests.{either, below-or-not}
 use Rattle.bits.specs.Word.{bit}
 use Rattle.model.specs.Bytes.{Bytes}
 use Rattle.model.specs.Choice.{nothing}
@@ -19,25 +19,25 @@ use Rattle.model.proofs.Members.{_∈_, is-false, all-e, mem-e}
 use Rattle.model.proofs.Decides.{not-e, or-l, or-r}
 use Rattle.model.proofs.Outcomes.{no-fault}
 use Rattle.model.proofs.Places.{at-place, place-at, getD-in}
-use Rattle.tables.specs.Listed.{listed}
-use Rattle.tables.specs.View.{wordAt, nameIn, nameOf, namesAt}
-use Rattle.tables.specs.Fits.{Inside, NamesFit}
-use Rattle.tables.specs.Agree.{At}
-use Rattle.tables.proofs.ListedLaws.{getD-listed}
-use Rattle.tables.proofs.NameLaws.{length-names}
-use Rattle.tables.proofs.AgreeLaws.{name-kept, names-kept}
-use Rattle.ranks.specs.declared.RulesCounts.{RulesCounts}
-use Rattle.ranks.specs.Layout.{names, slot, actorCountAt, overCountAt, lowerAt, actorsFrom, overFrom}
-use Rattle.ranks.specs.View.{actorsAt, overAt, lowerSet, rulesAt}
-use Rattle.ranks.specs.Fits.{rank, belowSome, CategoryFits, Fits, Holds, LowerAsked}
-use Rattle.ranks.specs.Agree.{Free, Agree}
-use Rattle.ranks.specs.Stores.{moreCategories, withCategory}
-use Rattle.ranks.proofs.AgreeLaws.{set-agrees, agree-trans, any-same, lower-kept, fits-kept}
-use Rattle.ranks.proofs.Lowers.{category-names}
-use Rattle.ranks.proofs.Added.{category-added}
-use Rattle.ranks.proofs.Fewer.{fewer-names}
+use Rattle.book_tables.specs.Listed.{listed}
+use Rattle.book_tables.specs.View.{wordAt, nameIn, nameOf, namesAt}
+use Rattle.book_tables.specs.Fits.{Inside, NamesFit}
+use Rattle.book_tables.specs.Agree.{At}
+use Rattle.book_tables.proofs.ListedLaws.{getD-listed}
+use Rattle.book_tables.proofs.NameLaws.{length-names}
+use Rattle.book_tables.proofs.AgreeLaws.{name-kept, names-kept}
+use Rattle.rules_tables.specs.declared.RulesCounts.{RulesCounts}
+use Rattle.rules_tables.specs.Layout.{names, slot, actorCountAt, overCountAt, lowerAt, actorsFrom, overFrom}
+use Rattle.rules_tables.specs.View.{actorsAt, overAt, lowerSet, rulesAt}
+use Rattle.rules_tables.specs.Fits.{rank, belowSome, CategoryFits, Fits, Holds, LowerAsked}
+use Rattle.rules_tables.specs.Agree.{Free, Agree}
+use Rattle.rules_tables.specs.Stores.{moreCategories, withCategory}
+use Rattle.rules_tables.proofs.AgreeLaws.{set-agrees, agree-trans, any-same, lower-kept, fits-kept}
+use Rattle.rules_tables.proofs.Lowers.{category-names}
+use Rattle.rules_tables.proofs.Added.{category-added}
+use Rattle.rules_tables.proofs.Fewer.{fewer-names}
 use Rattle.items.specs.Places.{WordPlaces}
-use Rattle.lists.specs.Names.{NamesRead}
+use Rattle.name_lists.specs.Names.{NamesRead}
 use Rattle.rules.specs.Forms.{between}
 use Rattle.rules.specs.Stored.{LineAt, NamesStored, CategoryClear, CategoryAdded}
 use Rattle.rules.proofs.TestLaws.{fault-by-tests}

@@ -25,8 +25,8 @@ use Rattle.items.specs.Forms.{formOpens, formCloses}
 use Rattle.items.proofs.FormLaws.{line-form, form-word, form-quoted, form-name, form-end}
 use Rattle.items.proofs.RestLaws.{rest-same, rest-nothing}
 use Rattle.items.specs.Places.{WordPlaces, QuotedPlaces, QuotedPlaced}
-use Rattle.lists.specs.Names.{NamesRead, namesBehind, namesEnd, headedAt}
-use Rattle.lists.proofs.Behind.{rest-on, headed-names}
+use Rattle.name_lists.specs.Names.{NamesRead, namesBehind, namesEnd, headedAt}
+use Rattle.name_lists.proofs.Behind.{rest-on, headed-names}
 use Rattle.rules.specs.Forms.{between, afterList, ListRead, NamesList, CategoryRead, PolicyRead, FormRead}
 use Rattle.rules.specs.declared.RulesForm.{RulesForm}
 

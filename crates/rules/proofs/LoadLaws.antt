@@ -19,13 +19,13 @@ use Rattle.model.specs.ReadRules.{RulesLine, rulesLine, rulesStep, covered}
 use Rattle.model.specs.Answers.{partOf}
 use Rattle.text.specs.Places.{past}
 use Rattle.text.specs.Lines.{isInLine, lineAt}
-use Rattle.tables.specs.declared.BookCounts.{BookCounts}
-use Rattle.tables.specs.Listed.{listed}
-use Rattle.ranks.specs.declared.RulesCounts.{RulesCounts}
-use Rattle.ranks.specs.View.{rulesAt}
-use Rattle.ranks.specs.Fits.{Fits}
-use Rattle.ranks.specs.Enforced.{uncoveredIn}
-use Rattle.ranks.proofs.PolicyLaws.{covered-by}
+use Rattle.book_tables.specs.declared.BookCounts.{BookCounts}
+use Rattle.book_tables.specs.Listed.{listed}
+use Rattle.rules_tables.specs.declared.RulesCounts.{RulesCounts}
+use Rattle.rules_tables.specs.View.{rulesAt}
+use Rattle.rules_tables.specs.Fits.{Fits}
+use Rattle.rules_tables.specs.Enforced.{uncoveredIn}
+use Rattle.rules_tables.proofs.PolicyLaws.{covered-by}
 use Rattle.rules.specs.declared.RulesForm.{RulesForm}
 use Rattle.rules.specs.declared.RulesForm.the-variants.{Category, Policy, None}
 use Rattle.rules.specs.declared.RulesStep.{RulesStep}

@@ -7,7 +7,7 @@ use lib.ListN.{length}
 use lib.Dec.{leb, ltb}
 use native.Mathlib.Omega.{arith}
 use borrow.Author.Tests.{le-leb, lt-leb}
-use Rattle.facts.specs.Tests.{either, below-or-not}
+use Rattle.logic.specs.Tests.{either, below-or-not}
 use Rattle.model.specs.Bytes.{Bytes}
 use Rattle.model.specs.Choice.{Maybe, nothing, just, andThen}
 use Rattle.model.specs.Names.{mem, place}
@@ -19,16 +19,16 @@ use Rattle.model.specs.ReadQuery.{hasUndeclared, hasTwice, hasMistyped, tooMany
 use Rattle.model.specs.Rules.{Rules, categoryNames}
 use Rattle.model.specs.ReadRules.{policy, hasPolicy, rulesFault}
 use Rattle.text.proofs.PlaceLaws.{part-size}
-use Rattle.tables.specs.View.{nameOf, namesAt}
-use Rattle.tables.proofs.NameLaws.{place-named, place-mem, place-out}
-use Rattle.ranks.specs.declared.RulesCounts.{RulesCounts}
-use Rattle.ranks.specs.Layout.{names}
-use Rattle.ranks.specs.View.{rulesAt}
-use Rattle.ranks.specs.Fits.{Fits}
-use Rattle.ranks.specs.Enforced.{hasOne}
-use Rattle.ranks.proofs.Lowers.{category-names}
-use Rattle.ranks.proofs.PolicyLaws.{has-policy}
-use Rattle.faults.specs.TextFault.{numberOr, treeFault, textFault}
+use Rattle.book_tables.specs.View.{nameOf, namesAt}
+use Rattle.book_tables.proofs.NameLaws.{place-named, place-mem, place-out}
+use Rattle.rules_tables.specs.declared.RulesCounts.{RulesCounts}
+use Rattle.rules_tables.specs.Layout.{names}
+use Rattle.rules_tables.specs.View.{rulesAt}
+use Rattle.rules_tables.specs.Fits.{Fits}
+use Rattle.rules_tables.specs.Enforced.{hasOne}
+use Rattle.rules_tables.proofs.Lowers.{category-names}
+use Rattle.rules_tables.proofs.PolicyLaws.{has-policy}
+use Rattle.query_faults.specs.TextFault.{numberOr, treeFault, textFault}
 use Rattle.rules.specs.Forms.{between}
 use Rattle.rules.specs.Policies.{lineNumber, policyOn, combined}
 

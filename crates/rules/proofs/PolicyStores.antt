@@ -8,7 +8,7 @@ use lib.ListN.{length, set, length-set}
 use lib.Seq.{getD-set-same, getD-set-other}
 use lib.Dec.{eqb}
 use borrow.Author.Tests.{eq-eqb, ne-eqb, not-false, le-ltb}
-use Rattle.facts.specs.Tests.{either, equal-or-not, below-or-not}
+use Rattle.logic.specs.Tests.{either, equal-or-not, below-or-not}
 use Rattle.model.specs.Bytes.{Bytes, same}
 use Rattle.model.specs.Choice.{pick, Maybe, nothing, just}
 use Rattle.model.specs.Names.{mem, place}
@@ -16,22 +16,22 @@ use Rattle.model.specs.QueryText.{QueryText}
 use Rattle.model.specs.Grammar.{queryText}
 use Rattle.model.specs.Rules.{Policy, categoryNames}
 use Rattle.model.specs.ReadRules.{policy, hasPolicy, addRule}
-use Rattle.tables.specs.View.{wordAt, nameOf, namesAt}
-use Rattle.tables.proofs.NameLaws.{mem-place, place-named, length-names}
-use Rattle.tables.proofs.AgreeLaws.{name-kept}
-use Rattle.ranks.specs.declared.RulesCounts.{RulesCounts}
-use Rattle.ranks.specs.Layout.{names, policyAt}
-use Rattle.ranks.specs.View.{policyCategory, policyText, policyOf, treeOr, treeOf, rulesAt}
-use Rattle.ranks.specs.Fits.{PolicyFits}
-use Rattle.ranks.specs.Agree.{Free, Agree}
-use Rattle.ranks.specs.Stores.{morePolicies, withPolicy}
-use Rattle.ranks.proofs.AgreeLaws.{set-agrees, agree-trans}
-use Rattle.ranks.proofs.Lowers.{category-names}
-use Rattle.ranks.proofs.Downs.{policy-of}
-use Rattle.ranks.proofs.Added.{policy-added}
-use Rattle.ranks.proofs.Fewer.{fewer}
-use Rattle.tables.proofs.ListedLaws.{scan-found}
-use Rattle.faults.specs.TextFault.{treeFault, textFault}
+use Rattle.book_tables.specs.View.{wordAt, nameOf, namesAt}
+use Rattle.book_tables.proofs.NameLaws.{mem-place, place-named, length-names}
+use Rattle.book_tables.proofs.AgreeLaws.{name-kept}
+use Rattle.rules_tables.specs.declared.RulesCounts.{RulesCounts}
+use Rattle.rules_tables.specs.Layout.{names, policyAt}
+use Rattle.rules_tables.specs.View.{policyCategory, policyText, policyOf, treeOr, treeOf, rulesAt}
+use Rattle.rules_tables.specs.Fits.{PolicyFits}
+use Rattle.rules_tables.specs.Agree.{Free, Agree}
+use Rattle.rules_tables.specs.Stores.{morePolicies, withPolicy}
+use Rattle.rules_tables.proofs.AgreeLaws.{set-agrees, agree-trans}
+use Rattle.rules_tables.proofs.Lowers.{category-names}
+use Rattle.rules_tables.proofs.Downs.{policy-of}
+use Rattle.rules_tables.proofs.Added.{policy-added}
+use Rattle.rules_tables.proofs.Fewer.{fewer}
+use Rattle.book_tables.proofs.ListedLaws.{scan-found}
+use Rattle.query_faults.specs.TextFault.{treeFault, textFault}
 use Rattle.rules.specs.Forms.{between}
 use Rattle.rules.specs.Policies.{combined, PolicyClear, PolicyAdded}
 use Rattle.rules.proofs.StoreLaws.{part-of-line}

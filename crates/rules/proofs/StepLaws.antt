@@ -19,7 +19,7 @@ use Rattle.model.specs.Grammar.{queryText}
 use Rattle.model.specs.ReadQuery.{hasUndeclared, hasTwice, hasMistyped, tooMany, hasFromItself}
 use Rattle.model.specs.Rules.{Rules, categoryNames}
 use Rattle.model.specs.ReadRules.{RulesLine, policy, hasPolicy, rulesFault, addRule}
-use Rattle.faults.specs.TextFault.{numberOr}
+use Rattle.query_faults.specs.TextFault.{numberOr}
 use Rattle.rules.specs.Faults.{faultOf}
 use Rattle.rules.specs.Policies.{lineNumber, policyOn}
 use Rattle.rules.specs.Steps.{stepOf}

@@ -5,20 +5,20 @@ use mathlib.Core.List.{List, [], _∷_, _++_, append-assoc, append-nil}
 use native.Mathlib.Omega.{arith}
 use lib.ListN.{length, set, length-set, length-append}
 use lib.Seq.{getD-set-same, getD-set-other}
-use Rattle.facts.specs.Tests.{either, equal-or-not}
+use Rattle.logic.specs.Tests.{either, equal-or-not}
 use Rattle.model.specs.Bytes.{Bytes}
 use Rattle.model.specs.Answers.{partOf}
 use Rattle.items.specs.declared.Piece.the-variants as piece
 use Rattle.items.specs.Pieces.{namePlaces, nameNext}
 use mathlib.Core.Bool.{false}
 use Rattle.text.proofs.PlaceLaws.{part-in-part}
-use Rattle.tables.specs.Listed.{listed}
-use Rattle.tables.specs.View.{wordAt, nameIn, nameOf, namesAt}
-use Rattle.tables.specs.Fits.{Inside}
-use Rattle.tables.proofs.NameLaws.{names-end}
-use Rattle.tables.proofs.AgreeLaws.{names-kept}
+use Rattle.book_tables.specs.Listed.{listed}
+use Rattle.book_tables.specs.View.{wordAt, nameIn, nameOf, namesAt}
+use Rattle.book_tables.specs.Fits.{Inside}
+use Rattle.book_tables.proofs.NameLaws.{names-end}
+use Rattle.book_tables.proofs.AgreeLaws.{names-kept}
 use Rattle.items.specs.Places.{WordPlaces}
-use Rattle.lists.proofs.Behind.{name-step, names-done}
+use Rattle.name_lists.proofs.Behind.{name-step, names-done}
 use Rattle.rules.specs.Forms.{between}
 use Rattle.rules.specs.Stored.{LineAt, NamesStored, Storing}
 

@@ -6,7 +6,7 @@ use mathlib.Core.Bool.{Bool, true, false, not, _&&_, _||_}
 use native.Mathlib.Omega.{arith}
 use lib.ListN.{length}
 use lib.Dec.{leb, ltb}
-use Rattle.facts.specs.Tests.{either, equal-or-not}
+use Rattle.logic.specs.Tests.{either, equal-or-not}
 use Rattle.model.specs.Bytes.{Bytes, bytesOf}
 use Rattle.model.specs.Lists.{any, all}
 use Rattle.model.specs.Names.{mem, twice}
@@ -14,15 +14,15 @@ use Rattle.model.specs.Refusal.{lowest, _if_}
 use Rattle.model.specs.Book.{Book}
 use Rattle.model.specs.Rules.{Category}
 use Rattle.model.specs.ReadRules.{category, lacksActor, rulesFault}
-use Rattle.tables.specs.Listed.{listed}
-use Rattle.tables.specs.View.{nameOf, namesAt}
-use Rattle.tables.specs.Fits.{NamesFit}
-use Rattle.tables.proofs.ListedLaws.{length-listed, listed-more, all-end}
-use Rattle.ranks.specs.declared.RulesCounts.{RulesCounts}
-use Rattle.ranks.specs.Layout.{names}
-use Rattle.ranks.specs.View.{actorsAt, categoryOf, rulesAt}
-use Rattle.ranks.proofs.Lowers.{category-names}
-use Rattle.ranks.proofs.PolicyLaws.{any-alike}
+use Rattle.book_tables.specs.Listed.{listed}
+use Rattle.book_tables.specs.View.{nameOf, namesAt}
+use Rattle.book_tables.specs.Fits.{NamesFit}
+use Rattle.book_tables.proofs.ListedLaws.{length-listed, listed-more, all-end}
+use Rattle.rules_tables.specs.declared.RulesCounts.{RulesCounts}
+use Rattle.rules_tables.specs.Layout.{names}
+use Rattle.rules_tables.specs.View.{actorsAt, categoryOf, rulesAt}
+use Rattle.rules_tables.proofs.Lowers.{category-names}
+use Rattle.rules_tables.proofs.PolicyLaws.{any-alike}
 use Rattle.rules.specs.Faults.{faultOf}
 
 -- not all names pass a test

@@ -15,7 +15,7 @@ use Rattle.items.specs.declared.Piece.{Piece}
 use Rattle.items.specs.declared.Piece.the-variants as piece
 use Rattle.items.specs.Rest.{formAt}
 use Rattle.items.specs.Places.{WordPlaces}
-use Rattle.lists.specs.Names.{NamesRead, namesBehind}
+use Rattle.name_lists.specs.Names.{NamesRead, namesBehind}
 use Rattle.rules.specs.declared.RulesForm.{RulesForm}
 use Rattle.rules.specs.declared.RulesForm.the-variants.{Category, Policy, None}
 

@@ -10,11 +10,11 @@ use Rattle.model.specs.Book.{Book}
 use Rattle.model.specs.Rules.{Rules}
 use Rattle.model.specs.ReadRules.{rulesStep}
 use Rattle.model.specs.Answers.{refusalOf}
-use Rattle.tables.specs.declared.BookCounts.{BookCounts}
-use Rattle.tables.specs.Fits.{Fits as BookFits}
-use Rattle.ranks.specs.declared.RulesCounts.{RulesCounts}
-use Rattle.ranks.specs.View.{rulesAt}
-use Rattle.ranks.specs.Fits.{Fits}
+use Rattle.book_tables.specs.declared.BookCounts.{BookCounts}
+use Rattle.book_tables.specs.Fits.{Fits as BookFits}
+use Rattle.rules_tables.specs.declared.RulesCounts.{RulesCounts}
+use Rattle.rules_tables.specs.View.{rulesAt}
+use Rattle.rules_tables.specs.Fits.{Fits}
 use Rattle.rules.specs.declared.RulesLoad.{RulesLoad}
 use Rattle.rules.specs.declared.RulesLoad.the-variants as load
 use Rattle.rules.specs.Stored.{LineAt}

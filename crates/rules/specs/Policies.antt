@@ -12,11 +12,11 @@ use Rattle.model.specs.QueryText.{QueryText}
 use Rattle.model.specs.Grammar.{queryText}
 use Rattle.model.specs.Rules.{Rules}
 use Rattle.model.specs.ReadRules.{RulesLine, policy, rulesFault, addRule}
-use Rattle.ranks.specs.declared.RulesCounts.{RulesCounts}
-use Rattle.ranks.specs.View.{rulesAt}
-use Rattle.ranks.specs.Fits.{Fits}
+use Rattle.rules_tables.specs.declared.RulesCounts.{RulesCounts}
+use Rattle.rules_tables.specs.View.{rulesAt}
+use Rattle.rules_tables.specs.Fits.{Fits}
 use Rattle.items.specs.Places.{WordPlaces}
-use Rattle.faults.specs.TextFault.{numberOr}
+use Rattle.query_faults.specs.TextFault.{numberOr}
 use Rattle.rules.specs.Forms.{between}
 use Rattle.rules.specs.Stored.{LineAt}
 

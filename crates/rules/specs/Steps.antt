@@ -9,12 +9,12 @@ use Rattle.model.specs.Lines.{Step, fault, known, faultOr, formStep}
 use Rattle.model.specs.Book.{Book}
 use Rattle.model.specs.Rules.{Rules}
 use Rattle.model.specs.ReadRules.{RulesLine, category, rulesFault, addRule}
-use Rattle.ranks.specs.declared.RulesCounts.{RulesCounts}
-use Rattle.ranks.specs.View.{rulesAt}
-use Rattle.ranks.specs.Fits.{Fits}
+use Rattle.rules_tables.specs.declared.RulesCounts.{RulesCounts}
+use Rattle.rules_tables.specs.View.{rulesAt}
+use Rattle.rules_tables.specs.Fits.{Fits}
 use Rattle.items.specs.Places.{WordPlaces}
-use Rattle.lists.specs.Names.{NamesRead, namesBehind}
-use Rattle.faults.specs.TextFault.{textFault}
+use Rattle.name_lists.specs.Names.{NamesRead, namesBehind}
+use Rattle.query_faults.specs.TextFault.{textFault}
 use Rattle.rules.specs.declared.RulesStep.{RulesStep}
 use Rattle.rules.specs.declared.RulesStep.the-variants.{Fault, Known}
 use Rattle.rules.specs.Forms.{between}

@@ -8,13 +8,13 @@ use Rattle.model.specs.Choice.{nothing, just}
 use Rattle.model.specs.Book.{Book}
 use Rattle.model.specs.ReadRules.{category, rulesFault, addRule}
 use Rattle.model.specs.Answers.{partOf}
-use Rattle.tables.specs.View.{wordAt, namesAt}
-use Rattle.tables.specs.Fits.{Inside}
-use Rattle.ranks.specs.declared.RulesCounts.{RulesCounts}
-use Rattle.ranks.specs.View.{rulesAt}
-use Rattle.ranks.specs.Fits.{Fits}
+use Rattle.book_tables.specs.View.{wordAt, namesAt}
+use Rattle.book_tables.specs.Fits.{Inside}
+use Rattle.rules_tables.specs.declared.RulesCounts.{RulesCounts}
+use Rattle.rules_tables.specs.View.{rulesAt}
+use Rattle.rules_tables.specs.Fits.{Fits}
 use Rattle.items.specs.Places.{WordPlaces}
-use Rattle.lists.specs.Names.{NamesRead, namesBehind}
+use Rattle.name_lists.specs.Names.{NamesRead, namesBehind}
 use Rattle.rules.specs.Forms.{between}
 
 -- a line stands in a text from a place on

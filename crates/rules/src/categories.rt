@@ -3,19 +3,19 @@ ghost use mathlib.Core.Path.{_≡_};
 ghost use Prim.Native.Nat.{_+_, _≤_};
 ghost use lib.ListN.{length};
 ghost use Rattle.model.specs.Choice.{just};
-ghost use Rattle.lists.specs.Names.{NamesRead, namesBehind};
+ghost use Rattle.name_lists.specs.Names.{NamesRead, namesBehind};
 ghost use Rattle.rules.specs.Stored.{NamesRoom, NamesStored, CategoryClear, CategoryAdded};
 use items::Piece;
 use items::places;
-use lists::LIST_DEPTH;
-use ranks::ACTORS;
-use ranks::CATEGORIES;
-use ranks::CATEGORY_WORDS;
-use ranks::OVER;
-use ranks::RulesCounts;
-use ranks::lower;
-use ranks::stores;
-use tables::names::NAME_LENGTHS;
+use name_lists::LIST_DEPTH;
+use rules_tables::ACTORS;
+use rules_tables::CATEGORIES;
+use rules_tables::CATEGORY_WORDS;
+use rules_tables::OVER;
+use rules_tables::RulesCounts;
+use rules_tables::lower;
+use rules_tables::stores;
+use book_tables::names::NAME_LENGTHS;
 
 // Stores the names of a list one after another, the line beginning at the place `base` of the rules' text, and says how many they are.
 fn store_names(words: &mut [u32], at: usize, s: &[u8], from: usize, base: usize) -> usize

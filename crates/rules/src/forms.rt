@@ -9,8 +9,8 @@ use crate::RulesForm;
 use items::Piece;
 use items::forms;
 use items::places;
-use lists::LINE_DEPTH;
-use lists::scans;
+use name_lists::LINE_DEPTH;
+use name_lists::scans;
 use text::End;
 use text::compare;
 
@@ -18,7 +18,7 @@ use text::compare;
 fn names_list(s: &[u8], from: usize, head: &[u8]) -> Piece
     ensures { λ r. ⌜ NamesList (now (head .entry)) (now (s .entry)) from r ⌝ }
 {
-    let End::At(a) = lists::places::headed(s, from, head) else {
+    let End::At(a) = name_lists::places::headed(s, from, head) else {
         return Piece::None;
     };
     let End::At(e) = scans::names_end(s, a) else {

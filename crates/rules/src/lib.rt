@@ -7,7 +7,7 @@ pub mod steps;
 pub mod tests;
 
 use model::Refusal;
-use ranks::RulesCounts;
+use rules_tables::RulesCounts;
 
 // The form of a line, by places of the line. A category: its name's start and end, and the places behind the heads of its actors and of those it is over.
 // A policy: its category's start and end, and those of the text between the quotes.

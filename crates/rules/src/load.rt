@@ -8,10 +8,10 @@ ghost use Rattle.model.specs.Refusal.{onAccept};
 ghost use Rattle.model.specs.Book.{Book};
 ghost use Rattle.model.specs.ReadRules.{rulesLine, rulesStep, covered, readRules};
 ghost use Rattle.text.specs.Lines.{lineAt};
-ghost use Rattle.tables.specs.View.{bookAt};
-ghost use Rattle.tables.specs.Fits.{Fits as BookFits};
-ghost use Rattle.ranks.specs.View.{rulesAt};
-ghost use Rattle.ranks.specs.Fits.{Fits};
+ghost use Rattle.book_tables.specs.View.{bookAt};
+ghost use Rattle.book_tables.specs.Fits.{Fits as BookFits};
+ghost use Rattle.rules_tables.specs.View.{rulesAt};
+ghost use Rattle.rules_tables.specs.Fits.{Fits};
 ghost use Rattle.rules.specs.Steps.{stepOf, Stepped};
 ghost use Rattle.rules.specs.Loaded.{noRules, FormAsked, LineAsked, Loaded};
 use crate::RulesForm;
@@ -20,12 +20,12 @@ use crate::RulesStep;
 use crate::forms;
 use crate::policies::NO_FORM;
 use crate::steps;
-use faults::faulty;
+use query_faults::faulty;
 use model::Refusal;
 use model::limits::MAX_RULES_BYTES;
-use ranks::RulesCounts;
-use ranks::no_counts;
-use tables::BookCounts;
+use rules_tables::RulesCounts;
+use rules_tables::no_counts;
+use book_tables::BookCounts;
 use text::BytesRead;
 
 // The rules are text 2.
@@ -100,7 +100,7 @@ fn covered_rules(text: &[u8], rules_words: &[u32], known: RulesCounts) -> RulesL
     requires { ⌜ Fits (now text) (now «rules_words») known × (length (now text) ≤ 16384) ⌝ }
     ensures { λ r. ⌜ ((b : Book) → Loaded b (now (text .entry)) (now («rules_words» .entry)) r (covered (rulesAt (now (text .entry)) (now («rules_words» .entry)) known))) ⌝ }
 {
-    if ranks::policies::is_uncovered(rules_words, known) {
+    if rules_tables::policies::is_uncovered(rules_words, known) {
         return RulesLoad::Refused(Refusal {
             number: UNCOVERED,
             text: RULES,

@@ -3,21 +3,21 @@ ghost use mathlib.Core.Path.{_≡_};
 ghost use Prim.Native.Nat.{_+_, _-_, _≤_, _<_};
 ghost use lib.ListN.{length};
 ghost use Rattle.model.specs.Book.{Book};
-ghost use Rattle.ranks.specs.View.{rulesAt};
-ghost use Rattle.ranks.specs.Fits.{Within, Fits};
-ghost use Rattle.ranks.specs.Enforced.{hasOne};
+ghost use Rattle.rules_tables.specs.View.{rulesAt};
+ghost use Rattle.rules_tables.specs.Fits.{Within, Fits};
+ghost use Rattle.rules_tables.specs.Enforced.{hasOne};
 ghost use Rattle.items.specs.Places.{WordPlaces};
-ghost use Rattle.faults.specs.TextFault.{textFault};
+ghost use Rattle.query_faults.specs.TextFault.{textFault};
 ghost use Rattle.rules.specs.Forms.{between};
 ghost use Rattle.rules.specs.Policies.{lineNumber, policyOn, combined, PolicyClear, PolicyAdded};
 use crate::tests::LIMIT_PASSED;
 use crate::tests::NOT_DECLARED;
 use crate::tests::SECOND_TIME;
 use model::limits::MAX_POLICY_BYTES;
-use ranks::CATEGORY_NAMES;
-use ranks::RulesCounts;
-use ranks::policies;
-use ranks::stores;
+use rules_tables::CATEGORY_NAMES;
+use rules_tables::RulesCounts;
+use rules_tables::policies;
+use rules_tables::stores;
 
 // The faults of a text as a query, in the paper's numbers: no query, a value or relation of another type.
 pub const NO_FORM: u32 = 3;
@@ -77,7 +77,7 @@ pub fn policy_fault(
         → r ≡ lineNumber b (rulesAt (now (text .entry)) (now (words .entry)) counts) (policyOn (between (now (s .entry)) p q) (between (now (s .entry)) t u))) ⌝ }
 {
     let count = counts.categories;
-    let m = tables::names::find_name(text, words, CATEGORY_NAMES, count, &s[p..q]);
+    let m = book_tables::names::find_name(text, words, CATEGORY_NAMES, count, &s[p..q]);
     lowest_of(
         count <= m,
         has_policy(words, counts, m),
@@ -102,7 +102,7 @@ pub fn add_policy(
     ensures { λ r. ⌜ PolicyAdded (now (text .entry)) (now (words .entry)) (now (words .exit)) counts (now (s .entry)) p q t u r ⌝ }
 {
     let count = counts.categories;
-    let m = tables::names::find_name(text, words, CATEGORY_NAMES, count, &s[p..q]);
+    let m = book_tables::names::find_name(text, words, CATEGORY_NAMES, count, &s[p..q]);
     let i = counts.policies;
     stores::store_policy(words, i, m, base + t, u - t);
     RulesCounts {

@@ -4,7 +4,7 @@ use crate::RulesStep;
 use crate::categories;
 use crate::policies;
 use crate::tests;
-use ranks::RulesCounts;
+use rules_tables::RulesCounts;
 
 // A category's line.
 pub fn category_step(

@@ -10,26 +10,26 @@ ghost use Rattle.model.specs.Lists.{all};
 ghost use Rattle.model.specs.Names.{mem, twice};
 ghost use Rattle.model.specs.Book.{Book};
 ghost use Rattle.model.specs.ReadRules.{category, lacksActor, rulesFault};
-ghost use Rattle.tables.specs.View.{nameOf, namesAt};
-ghost use Rattle.tables.specs.Fits.{NamesFit};
-ghost use Rattle.ranks.specs.Layout.{names};
-ghost use Rattle.ranks.specs.View.{actorsAt, rulesAt};
-ghost use Rattle.ranks.specs.Fits.{CategoryFits, Fits};
+ghost use Rattle.book_tables.specs.View.{nameOf, namesAt};
+ghost use Rattle.book_tables.specs.Fits.{NamesFit};
+ghost use Rattle.rules_tables.specs.Layout.{names};
+ghost use Rattle.rules_tables.specs.View.{actorsAt, rulesAt};
+ghost use Rattle.rules_tables.specs.Fits.{CategoryFits, Fits};
 ghost use Rattle.items.specs.Places.{WordPlaces};
-ghost use Rattle.lists.specs.Names.{NamesRead, namesBehind};
+ghost use Rattle.name_lists.specs.Names.{NamesRead, namesBehind};
 ghost use Rattle.rules.specs.Forms.{between};
 ghost use Rattle.rules.specs.Faults.{faultOf};
 use items::Piece;
 use items::places;
-use lists::LIST_DEPTH;
-use lists::scans;
+use name_lists::LIST_DEPTH;
+use name_lists::scans;
 use model::limits::MAX_ACTORS;
 use model::limits::MAX_CATEGORIES;
-use ranks::ACTORS;
-use ranks::CATEGORIES;
-use ranks::CATEGORY_NAMES;
-use ranks::CATEGORY_WORDS;
-use ranks::RulesCounts;
+use rules_tables::ACTORS;
+use rules_tables::CATEGORIES;
+use rules_tables::CATEGORY_NAMES;
+use rules_tables::CATEGORY_WORDS;
+use rules_tables::RulesCounts;
 
 // The faults of a line, in the paper's numbers.
 pub const NOT_DECLARED: u32 = 4;
@@ -50,7 +50,7 @@ fn is_unknown(text: &[u8], words: &[u32], count: usize, s: &[u8], from: usize) -
         let Piece::At(p, q) = places::next_name(s, i, LIST_DEPTH) else {
             return false;
         };
-        if count <= tables::names::find_name(text, words, CATEGORY_NAMES, count, &s[p..q]) {
+        if count <= book_tables::names::find_name(text, words, CATEGORY_NAMES, count, &s[p..q]) {
             return true;
         }
         i = q;
@@ -73,7 +73,7 @@ fn is_second(
     ensures { λ r. ⌜ ((x y : NamesRead) → namesBehind (now (s .entry)) a ≡ just x → namesBehind (now (s .entry)) o ≡ just y
         → r ≡ (mem (between (now (s .entry)) p q) (namesAt (now (text .entry)) (now (words .entry)) names count) || twice (x .names) || twice (y .names))) ⌝ }
 {
-    if tables::names::find_name(text, words, CATEGORY_NAMES, count, &s[p..q]) < count {
+    if book_tables::names::find_name(text, words, CATEGORY_NAMES, count, &s[p..q]) < count {
         return true;
     }
     if scans::has_twice(s, a) {
@@ -100,7 +100,7 @@ fn lacks_one_of(text: &[u8], words: &[u32], k: usize, s: &[u8], a: usize) -> boo
     let count = words[CATEGORIES + CATEGORY_WORDS * k] as usize;
     let mut i = 0;
     while i < count {
-        let actor = ranks::names::name_at(
+        let actor = rules_tables::names::name_at(
             text,
             words,
             CATEGORIES + CATEGORY_WORDS * k + ACTORS + i,
@@ -119,7 +119,7 @@ fn lacks_of_lower(text: &[u8], words: &[u32], k: usize, s: &[u8], a: usize, o: u
     ensures { λ r. ⌜ ((x y : NamesRead) → namesBehind (now (s .entry)) a ≡ just x → namesBehind (now (s .entry)) o ≡ just y
         → r ≡ (mem (nameOf (now (text .entry)) (now (words .entry)) names k) (y .names) && not (all (λ w. mem w (x .names)) (actorsAt (now (text .entry)) (now (words .entry)) k)))) ⌝ }
 {
-    if scans::has_name(s, o, ranks::names::name_at(text, words, CATEGORY_NAMES + k)) {
+    if scans::has_name(s, o, rules_tables::names::name_at(text, words, CATEGORY_NAMES + k)) {
         return lacks_one_of(text, words, k, s, a);
     }
     false

@@ -10,9 +10,9 @@ use Rattle.model.specs.ReadBook.{readBook}
 use Rattle.model.specs.Service.{withWork}
 use Rattle.model.specs.Answers.{refusalOf}
 use Rattle.model.specs.declared.Refusal.{Refusal as RefusalData}
-use Rattle.tables.specs.declared.BookCounts.{BookCounts}
-use Rattle.tables.specs.View.{bookAt}
-use Rattle.tables.specs.Fits.{Fits}
+use Rattle.book_tables.specs.declared.BookCounts.{BookCounts}
+use Rattle.book_tables.specs.View.{bookAt}
+use Rattle.book_tables.specs.Fits.{Fits}
 use Rattle.book.specs.declared.BookLoad.{BookLoad}
 use Rattle.book.specs.declared.BookLoad.the-variants as load
 use Rattle.book.specs.Loaded.{Loaded}

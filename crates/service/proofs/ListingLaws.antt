@@ -21,16 +21,16 @@ use Rattle.model.specs.Demands.{ListCalled}
 use Rattle.model.specs.declared.Refusal.{Refusal as RefusalData}
 use Rattle.model.specs.declared.RowsListed.{RowsListed}
 use Rattle.model.specs.declared.RowsListed.the-variants as answer
-use Rattle.words.specs.Filled.{filled}
-use Rattle.words.specs.FilledLaws.{filled-whole}
+use Rattle.fill.specs.Filled.{filled}
+use Rattle.fill.specs.FilledLaws.{filled-whole}
 use Rattle.rows.specs.Order.{Row}
 use Rattle.rows.specs.SortedLaws.{same-list}
 use Rattle.rows.specs.Buffer.{rowsIn, flat}
 use Rattle.rows.specs.BufferLaws.{length-rowsIn, flat-rowsIn}
 use Rattle.backjump.specs.Problem.{AllRows}
-use Rattle.search.specs.ProblemOf.{problemOf}
+use Rattle.problem.specs.ProblemOf.{problemOf}
 use Rattle.weave.specs.Given.{Identified}
-use Rattle.search.specs.Rows.{RowsFound}
+use Rattle.problem.specs.Rows.{RowsFound}
 use Rattle.service.specs.Behind.{rowsFrom, rowsOfRules, rowsOfQuery, rowsOfTexts, Lists}
 use Rattle.service.proofs.BookLaws.{little, enough}
 use Rattle.model.specs.Weave.{WovenPattern}

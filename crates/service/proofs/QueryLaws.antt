@@ -19,8 +19,8 @@ use Rattle.model.specs.declared.Verdict.the-variants.{Accepted, Refused}
 use Rattle.model.specs.declared.Pattern.{Pattern as PatternData}
 use Rattle.model.specs.declared.QueryRead.{QueryRead}
 use Rattle.model.proofs.AcceptedQuery.{query-accepted}
-use Rattle.tables.specs.declared.BookCounts.{BookCounts}
-use Rattle.tables.specs.View.{bookAt}
+use Rattle.book_tables.specs.declared.BookCounts.{BookCounts}
+use Rattle.book_tables.specs.View.{bookAt}
 use Rattle.book.specs.declared.BookLoad.{BookLoad}
 use Rattle.book.specs.declared.BookLoad.the-variants as load
 use Rattle.book.specs.Loaded.{Loaded}

@@ -21,15 +21,15 @@ use Rattle.model.specs.declared.Refusal.{Refusal as RefusalData}
 use Rattle.model.specs.declared.Verdict.{Verdict}
 use Rattle.model.specs.declared.Verdict.the-variants.{Accepted, Refused}
 use Rattle.model.specs.declared.RequestRead.{RequestRead}
-use Rattle.tables.specs.declared.BookCounts.{BookCounts}
-use Rattle.tables.specs.View.{nameOf, namesAt, bookAt}
-use Rattle.tables.specs.Fits.{Fits}
-use Rattle.tables.proofs.NameLaws.{mem-place, length-names, name-mem, place-named}
-use Rattle.ranks.specs.declared.RulesCounts.{RulesCounts}
-use Rattle.ranks.specs.Layout.{names}
-use Rattle.ranks.specs.View.{rulesAt}
-use Rattle.ranks.specs.Fits.{Fits as RulesFit}
-use Rattle.ranks.proofs.Lowers.{category-names}
+use Rattle.book_tables.specs.declared.BookCounts.{BookCounts}
+use Rattle.book_tables.specs.View.{nameOf, namesAt, bookAt}
+use Rattle.book_tables.specs.Fits.{Fits}
+use Rattle.book_tables.proofs.NameLaws.{mem-place, length-names, name-mem, place-named}
+use Rattle.rules_tables.specs.declared.RulesCounts.{RulesCounts}
+use Rattle.rules_tables.specs.Layout.{names}
+use Rattle.rules_tables.specs.View.{rulesAt}
+use Rattle.rules_tables.specs.Fits.{Fits as RulesFit}
+use Rattle.rules_tables.proofs.Lowers.{category-names}
 use Rattle.request.specs.RequestReads.{Accepts, ByVerdict, RequestReads}
 use Rattle.service.specs.Behind.{requestOfRules, requestFrom}
 use Rattle.service.specs.Beside.{refusedRequest, RequestSays}

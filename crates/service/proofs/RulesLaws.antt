@@ -14,10 +14,10 @@ use Rattle.model.specs.Answers.{refusalOf, rulesAnswer}
 use Rattle.model.specs.declared.Refusal.{Refusal as RefusalData}
 use Rattle.model.specs.declared.RulesRead.{RulesRead}
 use Rattle.model.specs.declared.RulesRead.the-variants as answer
-use Rattle.tables.proofs.ListedLaws.{length-listed}
-use Rattle.ranks.specs.declared.RulesCounts.{RulesCounts}
-use Rattle.ranks.specs.View.{categoryOf, policyOf, rulesAt}
-use Rattle.ranks.specs.Fits.{Fits}
+use Rattle.book_tables.proofs.ListedLaws.{length-listed}
+use Rattle.rules_tables.specs.declared.RulesCounts.{RulesCounts}
+use Rattle.rules_tables.specs.View.{categoryOf, policyOf, rulesAt}
+use Rattle.rules_tables.specs.Fits.{Fits}
 use Rattle.rules.specs.declared.RulesLoad.{RulesLoad}
 use Rattle.rules.specs.declared.RulesLoad.the-variants as load
 use Rattle.rules.specs.Loaded.{Loaded}

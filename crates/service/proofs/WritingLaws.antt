@@ -19,10 +19,10 @@ use Rattle.model.specs.declared.QueryRead.{QueryRead}
 use Rattle.model.specs.declared.QueryWritten.{QueryWritten}
 use Rattle.model.specs.declared.QueryWritten.the-variants as answer
 use Rattle.model.proofs.AcceptedQuery.{query-accepted}
-use Rattle.tables.specs.declared.BookCounts.{BookCounts}
-use Rattle.writer.specs.declared.Written.{Written}
-use Rattle.writer.specs.declared.Written.the-variants.{Length, TooLong}
-use Rattle.writer.specs.Writable.{tooLong, Writes}
+use Rattle.book_tables.specs.declared.BookCounts.{BookCounts}
+use Rattle.query_writer.specs.declared.Written.{Written}
+use Rattle.query_writer.specs.declared.Written.the-variants.{Length, TooLong}
+use Rattle.query_writer.specs.Writable.{tooLong, Writes}
 use Rattle.query.specs.QueryReads.{QueryReads}
 use Rattle.service.specs.Behind.{textFrom, textOfRules, Wrote}
 use Rattle.service.proofs.BookLaws.{tooLittle, little, enough}

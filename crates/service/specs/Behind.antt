@@ -25,7 +25,7 @@ use Rattle.model.specs.declared.QueryWritten.{QueryWritten}
 use Rattle.model.specs.declared.RowsListed.{RowsListed}
 use Rattle.rows.specs.Order.{Row}
 use Rattle.backjump.specs.Problem.{AllRows}
-use Rattle.search.specs.ProblemOf.{problemOf}
+use Rattle.problem.specs.ProblemOf.{problemOf}
 use Rattle.weave.specs.Given.{Identified}
 
 -- the rules reader: the counts

@@ -13,12 +13,12 @@ use Rattle.model.specs.Request.{Identity, Request, readRequest}
 use Rattle.model.specs.declared.Pattern.{Pattern}
 use Rattle.model.specs.declared.RequestRead.{RequestRead}
 use Rattle.model.specs.declared.RowsListed.{RowsListed}
-use Rattle.tables.specs.declared.BookCounts.{BookCounts}
-use Rattle.tables.specs.View.{bookAt}
-use Rattle.tables.specs.Fits.{Fits}
-use Rattle.ranks.specs.declared.RulesCounts.{RulesCounts}
-use Rattle.ranks.specs.View.{rulesAt}
-use Rattle.ranks.specs.Fits.{Fits as RulesFit}
+use Rattle.book_tables.specs.declared.BookCounts.{BookCounts}
+use Rattle.book_tables.specs.View.{bookAt}
+use Rattle.book_tables.specs.Fits.{Fits}
+use Rattle.rules_tables.specs.declared.RulesCounts.{RulesCounts}
+use Rattle.rules_tables.specs.View.{rulesAt}
+use Rattle.rules_tables.specs.Fits.{Fits as RulesFit}
 use Rattle.weave.specs.Identities.{IdentitiesReady}
 use Rattle.query.specs.PatternRead.{PatternRead}
 use Rattle.service.specs.Behind.{rowsOfQuery, rowsOfTexts, Lists}

@@ -18,7 +18,7 @@ ghost use Rattle.model.specs.WholeAnswers.{queryRead};
 
 mod listing; // listing.rt: the rows that may be had, text by text
 mod query_reader; // query_reader.rt: a query behind its book
-mod query_writer; // query_writer.rt: a written query behind its texts
+mod writing; // writing.rt: a written query behind its texts
 mod request_reader; // request_reader.rt: a request behind its book and its rules
 mod rules_reader; // rules_reader.rt: rules behind their book
 
@@ -31,7 +31,7 @@ pub fn read_rules(book: &[u8], rules: &[u8], work: &mut [u32]) -> RulesRead
     ensures cleared { λ _. ⌜ now (work .exit) ≡ ones (length (now (work .entry))) ⌝ }
 {
     if work.len() < WORK_WORDS {
-        words::fill(work, 0);
+        fill::fill(work, 0);
         return RulesRead::Refused(Refusal {
             number: TOO_LITTLE,
             text: 0,
@@ -39,7 +39,7 @@ pub fn read_rules(book: &[u8], rules: &[u8], work: &mut [u32]) -> RulesRead
         });
     }
     let read = rules_reader::from_texts(book, rules, work);
-    words::fill(work, 0);
+    fill::fill(work, 0);
     read
 }
 
@@ -50,7 +50,7 @@ pub fn read_query(book: &[u8], query: &[u8], work: &mut [u32]) -> QueryRead
     ensures cleared { λ _. ⌜ now (work .exit) ≡ ones (length (now (work .entry))) ⌝ }
 {
     if work.len() < WORK_WORDS {
-        words::fill(work, 0);
+        fill::fill(work, 0);
         return query_reader::refused(Refusal {
             number: TOO_LITTLE,
             text: 0,
@@ -58,7 +58,7 @@ pub fn read_query(book: &[u8], query: &[u8], work: &mut [u32]) -> QueryRead
         });
     }
     let read = query_reader::from_texts(book, query, work);
-    words::fill(work, 0);
+    fill::fill(work, 0);
     read
 }
 
@@ -69,7 +69,7 @@ pub fn read_request(book: &[u8], rules: &[u8], request: &[u8], work: &mut [u32])
     ensures cleared { λ _. ⌜ now (work .exit) ≡ ones (length (now (work .entry))) ⌝ }
 {
     if work.len() < WORK_WORDS {
-        words::fill(work, 0);
+        fill::fill(work, 0);
         return request_reader::refused(Refusal {
             number: TOO_LITTLE,
             text: 0,
@@ -77,7 +77,7 @@ pub fn read_request(book: &[u8], rules: &[u8], request: &[u8], work: &mut [u32])
         });
     }
     let read = request_reader::from_texts(book, rules, request, work);
-    words::fill(work, 0);
+    fill::fill(work, 0);
     read
 }
 
@@ -95,15 +95,15 @@ pub fn write_query(
     ensures cleared { λ _. ⌜ now (work .exit) ≡ ones (length (now (work .entry))) ⌝ }
 {
     if work.len() < WORK_WORDS {
-        words::fill(work, 0);
+        fill::fill(work, 0);
         return QueryWritten::Refused(Refusal {
             number: TOO_LITTLE,
             text: 0,
             line: 0,
         });
     }
-    let written = query_writer::from_texts(book, rules, query, text, work);
-    words::fill(work, 0);
+    let written = writing::from_texts(book, rules, query, text, work);
+    fill::fill(work, 0);
     written
 }
 
@@ -120,10 +120,10 @@ pub fn list(
     ensures { λ r. ⌜ ListCalled (now (book .entry)) (now (rules .entry)) (now (query .entry)) (now (request .entry)) (now (rows .entry)) (now (work .entry)) (now (rows .exit)) (now (work .exit)) r ⌝ }
 {
     if work.len() < WORK_WORDS {
-        words::fill(work, 0);
+        fill::fill(work, 0);
         return listing::refuse(TOO_LITTLE, 0, 0, rows);
     }
     let listed = listing::from_texts(book, rules, query, request, rows, work);
-    words::fill(work, 0);
+    fill::fill(work, 0);
     listed
 }

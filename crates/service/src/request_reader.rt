@@ -4,8 +4,8 @@ ghost use Prim.Native.Nat.{_≤_};
 ghost use lib.ListN.{length};
 ghost use Rattle.model.specs.Refusal.{onAccept};
 ghost use Rattle.model.specs.ReadBook.{readBook};
-ghost use Rattle.tables.specs.View.{bookAt};
-ghost use Rattle.tables.specs.Fits.{Fits};
+ghost use Rattle.book_tables.specs.View.{bookAt};
+ghost use Rattle.book_tables.specs.Fits.{Fits};
 ghost use Rattle.service.specs.Behind.{requestFrom};
 ghost use Rattle.service.specs.Beside.{refusedRequest, RequestSays};
 use book::BookLoad;
@@ -15,9 +15,9 @@ use model::Refusal;
 use model::RequestRead;
 use model::Verdict;
 use model::limits::MAX_IDENTITIES;
-use ranks::RULES_WORDS;
+use rules_tables::RULES_WORDS;
 use rules::RulesLoad;
-use tables::BookCounts;
+use book_tables::BookCounts;
 
 // Reads the book, then the rules and the request.
 pub fn from_texts(book: &[u8], rules: &[u8], request: &[u8], work: &mut [u32]) -> RequestRead

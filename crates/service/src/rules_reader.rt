@@ -5,14 +5,14 @@ ghost use lib.ListN.{length};
 ghost use Rattle.model.specs.Refusal.{onAccept};
 ghost use Rattle.model.specs.ReadBook.{readBook};
 ghost use Rattle.model.specs.Answers.{rulesAnswer};
-ghost use Rattle.tables.specs.View.{bookAt};
-ghost use Rattle.tables.specs.Fits.{Fits};
+ghost use Rattle.book_tables.specs.View.{bookAt};
+ghost use Rattle.book_tables.specs.Fits.{Fits};
 ghost use Rattle.service.specs.Behind.{rulesFrom};
 use book::BookLoad;
 use model::RulesRead;
-use ranks::RULES_WORDS;
+use rules_tables::RULES_WORDS;
 use rules::RulesLoad;
-use tables::BookCounts;
+use book_tables::BookCounts;
 
 // Reads the book, then the rules.
 pub fn from_texts(book: &[u8], rules: &[u8], work: &mut [u32]) -> RulesRead

@@ -13,15 +13,15 @@ use Rattle.model.specs.Answers.{edgeIn}
 use Rattle.model.specs.declared.Condition.{Condition}
 use Rattle.model.specs.declared.Condition.the-variants.{Excluded, OfVertex, OfEdge}
 use Rattle.model.specs.declared.Pattern.{Pattern as PatternData}
-use Rattle.woven.specs.declared.WovenCounts.{WovenCounts}
-use Rattle.woven.specs.Tables.{textOf, edgesAt, clausesAt, returnsAt}
+use Rattle.woven_tables.specs.declared.WovenCounts.{WovenCounts}
+use Rattle.woven_tables.specs.Tables.{textOf, edgesAt, clausesAt, returnsAt}
 use Rattle.model.specs.PlainData.{noEdge, noClause, ConditionFits}
-use Rattle.woven.specs.Steps.{renumberedEdge, EdgesReady, EdgesAdded, ReturnsReady, ReturnsAdded}
-use Rattle.woven.specs.ClauseSteps.{renumberedClause, namedClause, ConditionReady, ClausesReady, ClausesAdded}
+use Rattle.woven_tables.specs.Steps.{renumberedEdge, EdgesReady, EdgesAdded, ReturnsReady, ReturnsAdded}
+use Rattle.woven_tables.specs.ClauseSteps.{renumberedClause, namedClause, ConditionReady, ClausesReady, ClausesAdded}
 use Rattle.weave.specs.Adding.{RestReady, RestAdded}
-use Rattle.woven.proofs.EdgeLaws.{edges-same}
-use Rattle.woven.proofs.ClauseTable.{clauses-same}
-use Rattle.woven.proofs.ReturnLaws.{returns-same}
+use Rattle.woven_tables.proofs.EdgeLaws.{edges-same}
+use Rattle.woven_tables.proofs.ClauseTable.{clauses-same}
+use Rattle.woven_tables.proofs.ReturnLaws.{returns-same}
 
 -- what a text's edges, clauses and Return vertices are asked for
 module _ (k base : ℕ) (p : PatternData) (numbers : List ℕ) (c : WovenCounts) (ready : RestReady k base p numbers c) where

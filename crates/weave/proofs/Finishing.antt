@@ -17,17 +17,17 @@ use Rattle.model.specs.Weave.{noVertex, identifiedBy, isExcluded, wovenTooMany,
 use Rattle.model.proofs.Members.{below-e, each-e}
 use Rattle.model.proofs.Places.{getD-in}
 use Rattle.bits.specs.Word.{bit}
-use Rattle.tables.proofs.ListedLaws.{getD-listed}
-use Rattle.woven.specs.declared.WovenCounts.{WovenCounts}
-use Rattle.woven.specs.Tables.{vertexOfWord, edgeAt, verticesAt, edgesAt, clausesAt, wovenAt}
+use Rattle.book_tables.proofs.ListedLaws.{getD-listed}
+use Rattle.woven_tables.specs.declared.WovenCounts.{WovenCounts}
+use Rattle.woven_tables.specs.Tables.{vertexOfWord, edgeAt, verticesAt, edgesAt, clausesAt, wovenAt}
 use Rattle.weave.specs.OneMore.{Ranged}
 use Rattle.weave.specs.Adding.{Kept}
 use Rattle.weave.specs.Identities.{identityOf, IdentitiesGiven, markedBelow, fromOf, toOf, EdgesLow, TiedBy, Finished}
 use Rattle.weave.proofs.Limits.{exclusions, requirements, within-limits}
-use Rattle.woven.proofs.VertexLaws.{length-vertices, vertices-same}
-use Rattle.woven.proofs.EdgeLaws.{edges-same}
-use Rattle.woven.proofs.ClauseTable.{clauses-same}
-use Rattle.woven.proofs.ReturnLaws.{returns-same}
+use Rattle.woven_tables.proofs.VertexLaws.{length-vertices, vertices-same}
+use Rattle.woven_tables.proofs.EdgeLaws.{edges-same}
+use Rattle.woven_tables.proofs.ClauseTable.{clauses-same}
+use Rattle.woven_tables.proofs.ReturnLaws.{returns-same}
 use Rattle.weave.proofs.OneText.{length-edges, length-clauses, keep-both}
 use Rattle.weave.proofs.TieLaws.{keep-same, all-same, marked-mem}
 

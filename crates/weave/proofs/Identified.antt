@@ -7,7 +7,7 @@ use mathlib.Core.Bool.{Bool, true, false, not, _||_}
 use native.Mathlib.Omega.{arith}
 use lib.Dec.{T, eqb, eqb→eq}
 use lib.ListN.{length, getD}
-use Rattle.facts.specs.Tests.{either, passes-or-not, same-test, eq→eqb, not-both, or-left, or-either}
+use Rattle.logic.specs.Tests.{either, passes-or-not, same-test, eq→eqb, not-both, or-left, or-either}
 use Rattle.model.specs.Choice.{pick, nothing, just}
 use Rattle.model.specs.Lists.{any, all}
 use Rattle.model.specs.Names.{twice}
@@ -15,7 +15,7 @@ use Rattle.model.specs.Request.{Identity}
 use Rattle.model.specs.Weave.{WovenPattern, noVertex, identifiedBy}
 use Rattle.model.proofs.Members.{all-e, all-i, any-e, any-i}
 use Rattle.model.proofs.WovenVertices.{identified-exactly}
-use Rattle.woven.specs.Tables.{noNode, nodeIn, identityAt}
+use Rattle.woven_tables.specs.Tables.{noNode, nodeIn, identityAt}
 use Rattle.weave.specs.Identities.{identityOf}
 use Rattle.weave.specs.Given.{vertexOf, keepsIdentity, identityLets, hasIdentity, Identified}
 use Rattle.weave.proofs.Whole.{Identifies, identified-by}

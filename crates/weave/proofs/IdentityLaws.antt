@@ -9,7 +9,7 @@ use lib.ListN.{length, getD, set, take, length-set}
 use lib.Seq.{getD-set-same, getD-set-other, getD-take, length-take-le}
 use lib.Dec.{eqb}
 use borrow.Author.Tests.{eq-eqb, ne-eqb}
-use Rattle.facts.specs.Tests.{either, equal-or-not}
+use Rattle.logic.specs.Tests.{either, equal-or-not}
 use Rattle.model.specs.Bytes.{Bytes, same}
 use Rattle.model.specs.Choice.{pick, nothing, just}
 use Rattle.model.specs.Lists.{any}
@@ -20,9 +20,9 @@ use Rattle.model.specs.declared.Identity.{Identity as IdentityData}
 use Rattle.model.proofs.Places.{getD-map, length-map}
 use Rattle.bits.specs.Word.{bit, with}
 use Rattle.bits.specs.WordLaws.{bit-zero}
-use Rattle.woven.specs.Tables.{vertexOfWord, nameOf, noNode, nodeIn, identityAt}
+use Rattle.woven_tables.specs.Tables.{vertexOfWord, nameOf, noNode, nodeIn, identityAt}
 use Rattle.weave.specs.Identities.{identityOf, identitiesIn, noIdentity, IdentitiesGiven}
-use Rattle.woven.proofs.NameLaws.{of-actor, of-own}
+use Rattle.woven_tables.proofs.NameLaws.{of-actor, of-own}
 use Rattle.weave.proofs.TieLaws.{bit-mark-if}
 
 -- an identity of nobody

@@ -8,16 +8,16 @@ use native.Mathlib.Omega.{arith}
 use lib.ListN.{length, length-append}
 use lib.Dec.{T, ltb, ltb→lt, lt→ltb}
 use borrow.Author.Tests.{le-ltb}
-use Rattle.facts.specs.Tests.{either, or-either, or-left, or-right}
+use Rattle.logic.specs.Tests.{either, or-either, or-left, or-right}
 use Rattle.model.specs.Bytes.{Bytes}
 use Rattle.model.specs.Lists.{keep}
 use Rattle.model.specs.Pattern.{Pattern, Clause}
 use Rattle.model.specs.Graph.{Each}
 use Rattle.model.specs.Weave.{Asked, movedEdge, movedClause, isExcluded, wovenTooMany, weave, WovenPattern, firstVertices}
 use Rattle.weave.specs.OneMore.{underNames, moreVertices, oneMore}
-use Rattle.woven.proofs.Kept.{keep-append}
+use Rattle.woven_tables.proofs.Kept.{keep-append}
 use Rattle.weave.proofs.OneMore.{Sound, weave-keeps}
-use Rattle.woven.proofs.Places.{vertices-grow}
+use Rattle.woven_tables.proofs.Places.{vertices-grow}
 
 -- the exclusions and the requirements among clauses
 abbrev pub exclusions : List Clause → List Clause

@@ -16,7 +16,7 @@ use Rattle.model.proofs.FirstNames.{firstsBy-append}
 use Rattle.model.proofs.WovenVertices.{first-vertices-i}
 use Rattle.model.proofs.Places.{getD-in, length-map, joined-append}
 use Rattle.weave.specs.OneMore.{underNames, moreVertices, oneMore, ClauseWithin, Ranged}
-use Rattle.woven.proofs.Places.{place-firsts}
+use Rattle.woven_tables.proofs.Places.{place-firsts}
 
 -- two functions that agree on each element
 pub map-each : {A B : Type 0} (P : A → Type 0) (f g : A → B) (l : List A) → Each P l → ((x : A) → P x → f x ≡ g x) → map f l ≡ map g l

@@ -22,24 +22,24 @@ use Rattle.model.specs.declared.Edge.{Edge as EdgeData}
 use Rattle.model.specs.declared.Clause.{Clause as ClauseData}
 use Rattle.model.specs.declared.Pattern.{Pattern as PatternData}
 use Rattle.model.proofs.Places.{getD-in, length-map}
-use Rattle.tables.proofs.ListedLaws.{length-listed}
-use Rattle.woven.specs.declared.WovenCounts.{WovenCounts}
-use Rattle.woven.specs.declared.vertices.Numbers.{Numbers}
+use Rattle.book_tables.proofs.ListedLaws.{length-listed}
+use Rattle.woven_tables.specs.declared.WovenCounts.{WovenCounts}
+use Rattle.woven_tables.specs.declared.vertices.Numbers.{Numbers}
 use Rattle.weave.specs.declared.Added.the-variants.{Woven}
-use Rattle.woven.specs.Tables.{textOf, verticesAt, edgesAt, clausesAt, wovenAt}
+use Rattle.woven_tables.specs.Tables.{textOf, verticesAt, edgesAt, clausesAt, wovenAt}
 use Rattle.weave.specs.OneMore.{underNames, moreVertices, oneMore, ClauseWithin}
 use Rattle.model.specs.PlainData.{noEdge, noClause, ConditionFits, PatternFits}
-use Rattle.woven.specs.Steps.{renumberedEdge, VerticesAdded, textVertices}
-use Rattle.woven.specs.ClauseSteps.{renumberedClause, namedClause, ExclusionsCounted}
+use Rattle.woven_tables.specs.Steps.{renumberedEdge, VerticesAdded, textVertices}
+use Rattle.woven_tables.specs.ClauseSteps.{renumberedClause, namedClause, ExclusionsCounted}
 use Rattle.weave.specs.Adding.{Kept, TextAdded, RestAdded}
 use Rattle.weave.proofs.OneMore.{map-each}
 use Rattle.weave.proofs.Ranges.{each-map}
 use Rattle.weave.proofs.Limits.{exclusions, requirements, passed-is-too-many}
-use Rattle.woven.proofs.Kept.{keep-append}
-use Rattle.woven.proofs.VertexLaws.{length-vertices, vertices-same}
-use Rattle.woven.proofs.EdgeLaws.{edges-same}
-use Rattle.woven.proofs.ClauseTable.{clauses-same}
-use Rattle.woven.proofs.ReturnLaws.{returns-same}
+use Rattle.woven_tables.proofs.Kept.{keep-append}
+use Rattle.woven_tables.proofs.VertexLaws.{length-vertices, vertices-same}
+use Rattle.woven_tables.proofs.EdgeLaws.{edges-same}
+use Rattle.woven_tables.proofs.ClauseTable.{clauses-same}
+use Rattle.woven_tables.proofs.ReturnLaws.{returns-same}
 use Rattle.model.proofs.WovenVertices.{at-vertex, first-vertices-i}
 
 -- what holds at each number holds of each element taken

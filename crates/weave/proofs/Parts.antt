@@ -23,7 +23,7 @@ use Rattle.weave.proofs.OneMore.{map-each}
 use Rattle.weave.proofs.OneText.{each-take}
 use mathlib.Core.Logic.{_≢_}
 use borrow.Author.Tests.{eq-eqb, ne-eqb}
-use Rattle.woven.specs.Tables.{textOf}
+use Rattle.woven_tables.specs.Tables.{textOf}
 
 -- the text that a name or value stands in: the query, or the rules for a policy
 pub text-query : (query rules : Bytes) (k : ℕ) → k ≡ 0 → textOf query rules k ≡ query

@@ -24,7 +24,7 @@ use Rattle.model.proofs.Places.{at-place, getD-in, length-map}
 use Rattle.weave.specs.OneMore.{underNames, moreVertices, oneMore, ClauseWithin, Ranged}
 use Rattle.weave.proofs.OneMore.{Sound, ranged-under, weave-keeps}
 use Rattle.model.proofs.WovenVertices.{at-vertex, first-vertices-i}
-use Rattle.woven.proofs.Places.{vertices-grow}
+use Rattle.woven_tables.proofs.Places.{vertices-grow}
 
 -- what holds of each element holds of each that is made of it
 pub each-map : {A B : Type 0} (P : A → Type 0) (Q : B → Type 0) (f : A → B) (l : List A) → ((x : A) → P x → Q (f x)) → Each P l → Each Q (map f l)

@@ -6,7 +6,7 @@ use mathlib.Core.Bool.{Bool, true, false, _&&_, _||_}
 use native.Mathlib.Omega.{arith}
 use lib.ListN.{getD}
 use lib.Dec.{T, eqb, eqb→eq, eqb-refl}
-use Rattle.facts.specs.Tests.{same-test}
+use Rattle.logic.specs.Tests.{same-test}
 use Rattle.model.specs.Bytes.{Bytes}
 use Rattle.model.specs.Choice.{pick}
 use Rattle.model.specs.Lists.{any, all, keep, memℕ, below}
@@ -16,12 +16,12 @@ use Rattle.model.specs.Weave.{WovenPattern, stepAlong, stepsAlong}
 use Rattle.model.proofs.Members.{_∈_, any-e, any-i, keep-e, keep-i, below-i, below-e}
 use Rattle.bits.specs.Word.{bit, with}
 use Rattle.bits.specs.WordLaws.{bit-with}
-use Rattle.tables.specs.Listed.{listed}
-use Rattle.tables.proofs.ListedLaws.{listed-more, any-end}
-use Rattle.woven.specs.declared.WovenCounts.{WovenCounts}
-use Rattle.woven.specs.Tables.{edgeAt, edgesAt, wovenAt}
+use Rattle.book_tables.specs.Listed.{listed}
+use Rattle.book_tables.proofs.ListedLaws.{listed-more, any-end}
+use Rattle.woven_tables.specs.declared.WovenCounts.{WovenCounts}
+use Rattle.woven_tables.specs.Tables.{edgeAt, edgesAt, wovenAt}
 use Rattle.weave.specs.Identities.{markedBelow, fromOf, toOf, joins, EdgesLow, Stepped, TiedBy}
-use Rattle.woven.proofs.VertexLaws.{length-vertices}
+use Rattle.woven_tables.proofs.VertexLaws.{length-vertices}
 
 -- a vertex below n is one of those marked exactly if it is marked
 pub marked-mem : (n mask v : ℕ) → v < n → memℕ v (markedBelow n mask) ≡ bit mask v

@@ -7,7 +7,7 @@ use mathlib.Core.Bool.{Bool, true, false}
 use native.Mathlib.Omega.{arith}
 use lib.ListN.{length, drop}
 use lib.Dec.{T}
-use Rattle.facts.specs.Tests.{passes→true}
+use Rattle.logic.specs.Tests.{passes→true}
 use Rattle.model.specs.Bytes.{Bytes}
 use Rattle.model.specs.Choice.{pick, Maybe, nothing, just}
 use Rattle.model.specs.Lists.{keep, joined, firstsBy}
@@ -22,10 +22,10 @@ use Rattle.model.specs.Answers.{patternIn}
 use Rattle.model.specs.declared.Pattern.{Pattern as PatternData}
 use Rattle.model.proofs.Members.{_∈_, map-i}
 use Rattle.model.proofs.Places.{twice-i, twice-tail}
-use Rattle.tables.specs.Listed.{listed}
-use Rattle.woven.specs.declared.WovenCounts.{WovenCounts}
+use Rattle.book_tables.specs.Listed.{listed}
+use Rattle.woven_tables.specs.declared.WovenCounts.{WovenCounts}
 use Rattle.weave.specs.declared.Added.the-variants.{Woven, Passed}
-use Rattle.woven.specs.Tables.{textOf, verticesAt, edgesAt, clausesAt, returnsAt, wovenAt}
+use Rattle.woven_tables.specs.Tables.{textOf, verticesAt, edgesAt, clausesAt, returnsAt, wovenAt}
 use Rattle.weave.specs.OneMore.{oneMore, Ranged}
 use Rattle.weave.specs.Adding.{noCounts, Kept, TextAdded}
 use Rattle.weave.specs.Identities.{identityOf, EdgesLow, Finished}

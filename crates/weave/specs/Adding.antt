@@ -11,14 +11,14 @@ use Rattle.model.specs.Book.{Book}
 use Rattle.model.specs.Weave.{isExcluded, wovenTooMany}
 use Rattle.model.specs.Answers.{edgeIn, patternIn}
 use Rattle.model.specs.declared.Pattern.{Pattern}
-use Rattle.woven.specs.declared.WovenCounts.{WovenCounts}
+use Rattle.woven_tables.specs.declared.WovenCounts.{WovenCounts}
 use Rattle.weave.specs.declared.Added.{Added}
 use Rattle.weave.specs.declared.Added.the-variants.{Woven, Passed}
-use Rattle.woven.specs.Tables.{textOf, edgesAt, clausesAt, returnsAt, wovenAt}
+use Rattle.woven_tables.specs.Tables.{textOf, edgesAt, clausesAt, returnsAt, wovenAt}
 use Rattle.weave.specs.OneMore.{oneMore}
 use Rattle.model.specs.PlainData.{PatternFits}
-use Rattle.woven.specs.Steps.{renumberedEdge}
-use Rattle.woven.specs.ClauseSteps.{renumberedClause, namedClause}
+use Rattle.woven_tables.specs.Steps.{renumberedEdge}
+use Rattle.woven_tables.specs.ClauseSteps.{renumberedClause, namedClause}
 
 -- the counts are those of a woven pattern in the words, and within the limits
 pub record Kept (query rules : Bytes) (words : List ℕ) (c : WovenCounts) : Type 0 where

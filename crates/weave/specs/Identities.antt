@@ -14,11 +14,11 @@ use Rattle.model.specs.Weave.{stepsAlong, wovenFault, WovenVertex, noVertex, id
 use Rattle.model.specs.Answers.{identityIn}
 use Rattle.model.specs.declared.Identity.{Identity as IdentityData}
 use Rattle.bits.specs.Word.{bit}
-use Rattle.tables.specs.Listed.{listed}
-use Rattle.woven.specs.declared.WovenCounts.{WovenCounts}
-use Rattle.woven.specs.Tables.{wovenAt, identityAt, vertexOfWord}
+use Rattle.book_tables.specs.Listed.{listed}
+use Rattle.woven_tables.specs.declared.WovenCounts.{WovenCounts}
+use Rattle.woven_tables.specs.Tables.{wovenAt, identityAt, vertexOfWord}
 use Rattle.model.specs.PlainData.{noPart}
-use Rattle.woven.specs.Steps.{KeptOutside}
+use Rattle.woven_tables.specs.Steps.{KeptOutside}
 use Rattle.weave.specs.Adding.{Kept}
 
 -- the node that identities give to a woven vertex

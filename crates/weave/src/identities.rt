@@ -2,14 +2,14 @@
 ghost use mathlib.Core.Path.{_≡_};
 ghost use Prim.Native.Nat.{_≤_};
 ghost use lib.ListN.{length};
-ghost use Rattle.woven.specs.Tables.{vertexOfWord, nodeIn};
+ghost use Rattle.woven_tables.specs.Tables.{vertexOfWord, nodeIn};
 ghost use Rattle.weave.specs.Identities.{identityOf, identitiesIn, IdentitiesReady, IdentitiesGiven};
 use crate::marks;
 use model::Identity;
 use model::limits::MAX_IDENTITIES;
-use woven::IDENTITIES;
-use woven::NO_NODE;
-use woven::names;
+use woven_tables::IDENTITIES;
+use woven_tables::NO_NODE;
+use woven_tables::names;
 
 // A vertex word is twice the word of its name, and one more for an actor vertex.
 const VERTEX_KINDS: u32 = 2;

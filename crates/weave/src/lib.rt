@@ -1,5 +1,5 @@
 // Weaving: one text's pattern after another into the woven pattern, identities, and what is tied to one.
-ghost use Rattle.woven.specs.Tables.{actorsAt};
+ghost use Rattle.woven_tables.specs.Tables.{actorsAt};
 ghost use Rattle.weave.specs.Adding.{noCounts, TextReady, TextAdded, RestReady, RestAdded};
 ghost use Rattle.weave.specs.Identities.{identitiesIn, FinishReady, Finished};
 ghost use mathlib.Core.Path.{_≡_};
@@ -13,7 +13,7 @@ use model::limits::MAX_WOVEN_EDGES;
 use model::limits::MAX_WOVEN_EXCLUSIONS;
 use model::limits::MAX_WOVEN_REQUIREMENTS;
 use model::limits::MAX_WOVEN_VERTICES;
-use woven::WovenCounts;
+use woven_tables::WovenCounts;
 
 mod identities;
 mod marks;
@@ -43,7 +43,7 @@ pub fn add_pattern(
 {
     let own = pattern.counts;
     let parts = pattern.vertices;
-    let numbered = woven::vertices::add_vertices(
+    let numbered = woven_tables::vertices::add_vertices(
         query,
         rules,
         actors,
@@ -59,7 +59,7 @@ pub fn add_pattern(
         return Added::Passed;
     }
     let clauses = pattern.clauses;
-    let exclusions = woven::clauses::count_exclusions(clauses, own.clauses);
+    let exclusions = woven_tables::clauses::count_exclusions(clauses, own.clauses);
     let edge_sum = counts.edges + own.edges;
     let exclusion_sum = counts.exclusions + exclusions;
     let requirement_sum = counts.requirements + (own.clauses - exclusions);
@@ -99,8 +99,8 @@ fn add_rest(
     let edges = pattern.edges;
     let clauses = pattern.clauses;
     let before = counts.exclusions + counts.requirements;
-    woven::edges::add_edges(k, base, edges, own.edges, numbers, words, counts.edges);
-    woven::clauses::add_clauses(
+    woven_tables::edges::add_edges(k, base, edges, own.edges, numbers, words, counts.edges);
+    woven_tables::clauses::add_clauses(
         k,
         base,
         clauses,
@@ -112,7 +112,7 @@ fn add_rest(
     );
     if k == 0 {
         let returns = pattern.returns;
-        woven::returns::add_returns(returns, own.returns, numbers, words);
+        woven_tables::returns::add_returns(returns, own.returns, numbers, words);
         return own.returns;
     }
     counts.returns

@@ -3,7 +3,7 @@ ghost use Prim.Native.Nat.{_≤_};
 ghost use lib.ListN.{length};
 ghost use Rattle.weave.specs.Identities.{EdgesLow, Stepped, TiedBy};
 use crate::marks;
-use woven::EDGES;
+use woven_tables::EDGES;
 
 // An edge word is label * LABEL_UNIT + from * VERTEX_UNIT + to.
 const VERTEX_UNIT: usize = 256;

@@ -7,7 +7,7 @@ use Rattle.book.proofs.read_book.Tie as tie
 use Rattle.book.proofs.read_book.Reads as reads
 use Rattle.book.proofs.read_book.Lts as lts
 use Rattle.book.proofs.load.load.Reads as load-reads
-use Rattle.words.proofs.fill.Reads as fill-reads
+use Rattle.fill.proofs.fill.Reads as fill-reads
 
 fill-requires : tie.Need-fill-requires
 fill-requires c κs = search needs

@@ -2,7 +2,7 @@
 use mathlib.Core.Path.{_≡_}
 use native.Mathlib.Omega.{arith}
 use lib.ListN.{length}
-use Rattle.printing.proofs.AnswerLaws.{list-shown}
+use Rattle.list_lines.proofs.AnswerLaws.{list-shown}
 use Rattle.printed.proofs.PrintsLaws.{list-refusal-printed, rows-printed}
 use borrow.Author.Needs.{needs}
 use Rattle.printed.proofs.from_book.Statement.{statement}

@@ -1,6 +1,6 @@
 -- `add_pattern` meets its contract: vertices first, then each limit, then the rest. Assumes nothing.
 use Rattle.weave.proofs.OneText.{passed-by-vertices, passed-by-edges, passed-by-exclusions, passed-by-requirements, number-low, text-woven}
-use Rattle.woven.specs.Tables.{actorsAt}
+use Rattle.woven_tables.specs.Tables.{actorsAt}
 use Rattle.model.proofs.Places.{length-map}
 use native.Mathlib.Omega.{arith}
 use mathlib.Core.Path.{sym, _∙_}

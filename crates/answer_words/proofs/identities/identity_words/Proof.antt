@@ -3,7 +3,7 @@ use Prim.Native.Nat.{_-_}
 use mathlib.Core.Path.{refl}
 use native.Mathlib.Omega.{arith}
 use borrow.Author.Needs.{needs}
-use Rattle.tables.proofs.PutLaws.{PutSoFar, put-start, put-step, put-end}
+use Rattle.book_tables.proofs.PutLaws.{PutSoFar, put-start, put-step, put-end}
 use Rattle.answer_words.specs.Words.{rowWord, identityWord, identityWords}
 use Rattle.answer_words.proofs.identities.identity_words.Statement.{statement}
 use Rattle.answer_words.proofs.identities.identity_words.Tie as tie

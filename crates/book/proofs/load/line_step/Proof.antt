@@ -5,7 +5,7 @@ use Rattle.book.proofs.load.line_step.Statement.{statement}
 use Rattle.book.proofs.load.line_step.Tie as tie
 use Rattle.book.proofs.load.line_step.Reads as reads
 use Rattle.book.proofs.load.line_step.Lts as lts
-use Rattle.lines.proofs.forms.read_line.Reads as read-line-reads
+use Rattle.book_lines.proofs.forms.read_line.Reads as read-line-reads
 
 returns : tie.Need-returns
 returns c = line-open (c .before .before .before .args .text .now) (c .before .before .before .args .from) (c .before .before .before .args .to) _ (c .if1 .taken)

@@ -11,7 +11,7 @@ use Rattle.book.proofs.load.load.Reads as reads
 use Rattle.book.proofs.load.load.Lts as lts
 use Rattle.book.proofs.load.load_lines.Reads as load-lines-reads
 use Rattle.text.proofs.lines.bytes_read.Reads as bytes-read-reads
-use Rattle.words.proofs.fill.Reads as fill-reads
+use Rattle.fill.proofs.fill.Reads as fill-reads
 
 bytes-read-requires : tie.Need-bytes-read-requires
 bytes-read-requires c κs = search needs

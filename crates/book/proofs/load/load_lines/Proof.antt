@@ -2,8 +2,8 @@ use Rattle.model.specs.Answers.{refusalOf}
 use Rattle.model.specs.Refusal.{refusal}
 use Rattle.book.proofs.LoadLaws.{empty-is, empty-fits, step-refuses, step-adds, filled-ones}
 use Rattle.text.proofs.LineReads.{line-forward, line-inside, lines-fault, lines-known, lines-over}
-use Rattle.tables.specs.Fits.{Fits}
-use Rattle.tables.specs.View.{bookAt}
+use Rattle.book_tables.specs.Fits.{Fits}
+use Rattle.book_tables.specs.View.{bookAt}
 use Rattle.model.specs.ReadBook.{bookStep}
 use Rattle.model.specs.Book.{Book, emptyBook}
 use Rattle.model.specs.Lines.{readLines, linesOf}
@@ -17,9 +17,9 @@ use Rattle.book.proofs.load.load_lines.Tie as tie
 use Rattle.book.proofs.load.load_lines.Reads as reads
 use Rattle.book.proofs.load.load_lines.Lts as lts
 use Rattle.book.proofs.load.line_step.Reads as line-step-reads
-use Rattle.tables.proofs.no_counts.Reads as no-counts-reads
+use Rattle.book_tables.proofs.no_counts.Reads as no-counts-reads
 use Rattle.text.proofs.lines.line_end.Reads as line-end-reads
-use Rattle.words.proofs.fill.Reads as fill-reads
+use Rattle.fill.proofs.fill.Reads as fill-reads
 
 abbrev Inv-loop : tie.InvT-loop
 Inv-loop text words₀ at₀ line₀ counts₀ words at line counts = (length words ≡ length words₀) × Fits text words counts × (at ≤ length text + 1) × (line ≤ at + 1) × (readLines 1 bookStep line (bookAt text words counts) (linesOf (drop at text)) ≡ readLines 1 bookStep 1 emptyBook (linesOf text))

@@ -3,7 +3,7 @@ use mathlib.Core.Path.{ap, _∙_}
 use Rattle.model.specs.Answers.{nameAt}
 use Rattle.model.specs.Book.{attrNames}
 use Rattle.model.specs.Names.{place}
-use Rattle.tables.specs.View.{bookAt}
+use Rattle.book_tables.specs.View.{bookAt}
 use borrow.Author.Needs.{needs}
 use Rattle.query.proofs.clauses.edge_requirement.Statement.{statement}
 use Rattle.query.proofs.clauses.edge_requirement.Tie as tie

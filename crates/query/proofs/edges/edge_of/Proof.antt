@@ -2,7 +2,7 @@
 use mathlib.Core.Path.{ap, _∙_}
 use Rattle.model.specs.Names.{place}
 use Rattle.model.specs.Answers.{nameAt}
-use Rattle.tables.specs.View.{bookAt}
+use Rattle.book_tables.specs.View.{bookAt}
 use borrow.Author.Needs.{needs}
 use Rattle.query.proofs.edges.edge_of.Statement.{statement}
 use Rattle.query.proofs.edges.edge_of.Tie as tie

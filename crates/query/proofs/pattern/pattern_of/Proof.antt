@@ -2,8 +2,8 @@
 use native.Mathlib.Omega.{arith}
 use lib.ListN.{length}
 use mathlib.Core.Path.{subst, sym}
-use Rattle.tables.specs.View.{bookAt}
-use Rattle.faults.specs.Names.{foundAt}
+use Rattle.book_tables.specs.View.{bookAt}
+use Rattle.query_faults.specs.Names.{foundAt}
 use Rattle.query.specs.PatternRead.{PatternRead}
 use Rattle.query.proofs.ArrayLaws.{fewer-pieces}
 use Rattle.query.proofs.WalkLaws.{

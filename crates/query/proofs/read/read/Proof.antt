@@ -1,6 +1,6 @@
 -- `read` meets its contract. Assumes nothing.
 use mathlib.Core.Path.{sym, _∙_}
-use Rattle.tables.specs.View.{bookAt}
+use Rattle.book_tables.specs.View.{bookAt}
 use Rattle.query.proofs.ReadLaws.{too-long, bad-byte}
 use borrow.Author.Needs.{needs}
 use Rattle.query.proofs.read.read.Statement.{statement}

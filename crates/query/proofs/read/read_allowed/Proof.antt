@@ -1,5 +1,5 @@
 -- `read_allowed` meets its contract. Assumes nothing.
-use Rattle.tables.specs.View.{bookAt}
+use Rattle.book_tables.specs.View.{bookAt}
 use Rattle.query.proofs.ReadLaws.{all-allowed, query-clear, query-accepted, query-refused}
 use borrow.Author.Needs.{needs}
 use Rattle.query.proofs.read.read_allowed.Statement.{statement}

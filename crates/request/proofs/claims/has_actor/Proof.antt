@@ -8,7 +8,7 @@ use borrow.Author.Needs.{needs}
 use Rattle.model.specs.Request.{Claim}
 use Rattle.model.specs.Names.{mem}
 use Rattle.model.specs.Answers.{partOf}
-use Rattle.lists.proofs.Heads.{mem-found, mem-other, mem-none}
+use Rattle.name_lists.proofs.Heads.{mem-found, mem-other, mem-none}
 use Rattle.request.specs.Claims.{actorsIn, Left}
 use Rattle.request.proofs.ClaimLaws.{placed-at, left-start, left-next, left-found, left-done, left-over}
 use Rattle.request.proofs.claims.has_actor.Statement.{statement}

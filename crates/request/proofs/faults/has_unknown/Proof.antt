@@ -8,8 +8,8 @@ use borrow.Author.Needs.{needs}
 use Rattle.model.specs.Book.{nodeNames}
 use Rattle.model.specs.Lists.{any}
 use Rattle.model.specs.Answers.{partOf}
-use Rattle.tables.specs.View.{bookAt}
-use Rattle.ranks.specs.View.{actorsAt}
+use Rattle.book_tables.specs.View.{bookAt}
+use Rattle.rules_tables.specs.View.{actorsAt}
 use Rattle.request.specs.Claims.{isUnknown, Left}
 use Rattle.request.proofs.ClaimLaws.{placed-at, left-start, left-next, left-found, left-done, left-over}
 use Rattle.request.proofs.FaultLaws.{any-none, any-found, any-other, no-actor, no-node, both-known}

@@ -1,8 +1,8 @@
 -- `request::faults::is_actor` meets its contract. Assumes nothing.
 use native.Mathlib.Omega.{arith}
-use Rattle.tables.specs.View.{wordAt}
-use Rattle.ranks.specs.Layout.{actorsFrom, actorCountAt}
-use Rattle.ranks.specs.View.{actorsAt}
+use Rattle.book_tables.specs.View.{wordAt}
+use Rattle.rules_tables.specs.Layout.{actorsFrom, actorCountAt}
+use Rattle.rules_tables.specs.View.{actorsAt}
 use Rattle.request.proofs.FaultLaws.{named-test}
 use Rattle.request.proofs.faults.is_actor.Statement.{statement}
 use Rattle.request.proofs.faults.is_actor.Tie as tie

@@ -1,7 +1,7 @@
 -- `request::faults::is_node` meets its contract. Assumes nothing.
 use borrow.Author.Needs.{needs}
-use Rattle.tables.proofs.NameLaws.{node-names}
-use Rattle.tables.specs.Layout.{nodeNames}
+use Rattle.book_tables.proofs.NameLaws.{node-names}
+use Rattle.book_tables.specs.Layout.{nodeNames}
 use Rattle.request.proofs.FaultLaws.{named-test}
 use Rattle.request.proofs.faults.is_node.Statement.{statement}
 use Rattle.request.proofs.faults.is_node.Tie as tie

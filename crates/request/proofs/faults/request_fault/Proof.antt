@@ -1,7 +1,7 @@
 -- `request::faults::request_fault` meets its contract. Assumes nothing.
 use mathlib.Core.Path.{sym, _∙_}
 use borrow.Author.Needs.{needs}
-use Rattle.tables.specs.View.{bookAt}
+use Rattle.book_tables.specs.View.{bookAt}
 use Rattle.request.proofs.FaultLaws.{is-undeclared, is-4, is-5, is-11, is-none}
 use Rattle.request.proofs.faults.request_fault.Statement.{statement}
 use Rattle.request.proofs.faults.request_fault.Tie as tie

@@ -1,8 +1,8 @@
 -- `request::read::read` meets its contract. Assumes nothing.
 use native.Mathlib.Omega.{arith}
 use borrow.Author.Needs.{needs}
-use Rattle.tables.specs.View.{bookAt}
-use Rattle.ranks.specs.View.{rulesAt}
+use Rattle.book_tables.specs.View.{bookAt}
+use Rattle.rules_tables.specs.View.{rulesAt}
 use Rattle.request.proofs.ReadLaws.{too-long, bad-line, allowed, bad-small, reads-refused, reads-as}
 use Rattle.request.proofs.read.read.Statement.{statement}
 use Rattle.request.proofs.read.read.Tie as tie

@@ -7,8 +7,8 @@ use Rattle.model.specs.Request.{requestLine}
 use Rattle.model.specs.Items.{lineItems}
 use Rattle.model.specs.Choice.{andThen}
 use Rattle.model.specs.Answers.{partOf}
-use Rattle.tables.specs.View.{bookAt}
-use Rattle.ranks.specs.View.{rulesAt}
+use Rattle.book_tables.specs.View.{bookAt}
+use Rattle.rules_tables.specs.View.{rulesAt}
 use Rattle.request.specs.Forms.{lineOf}
 use Rattle.request.specs.RequestReads.{fed}
 use Rattle.request.proofs.ReadLaws.{line-broken, line-faulty, no-fault, accepts-line, reads-refused}

@@ -3,8 +3,8 @@ use Prim.Native.Nat.{_-_}
 use mathlib.Core.Path.{_∙_}
 use borrow.Author.Needs.{needs}
 use Rattle.model.specs.Answers.{partOf}
-use Rattle.tables.specs.View.{bookAt}
-use Rattle.ranks.specs.View.{rulesAt}
+use Rattle.book_tables.specs.View.{bookAt}
+use Rattle.rules_tables.specs.View.{rulesAt}
 use Rattle.request.specs.RequestReads.{fed}
 use Rattle.request.proofs.ReadLaws.{no-feed, alone, followed, whole-text, first-of, reads-refused, reads-as, reads-in, still-refused, second-line}
 use Rattle.request.proofs.read.read_one.Statement.{statement}

@@ -5,9 +5,9 @@ use native.Mathlib.Omega.{arith}
 use lib.ListN.{length}
 use borrow.Author.Needs.{needs}
 use Rattle.model.specs.Answers.{partOf}
-use Rattle.tables.proofs.NameLaws.{node-names, length-names}
-use Rattle.tables.specs.Layout.{nodeNames}
-use Rattle.tables.specs.View.{bookAt}
+use Rattle.book_tables.proofs.NameLaws.{node-names, length-names}
+use Rattle.book_tables.specs.Layout.{nodeNames}
+use Rattle.book_tables.specs.View.{bookAt}
 use Rattle.request.proofs.StoreLaws.{Storing, storing-start, has-room, storing-given, stored, stored-over}
 use Rattle.request.proofs.ClaimLaws.{placed-at}
 use Rattle.request.proofs.stores.identities.Statement.{statement}

@@ -6,9 +6,9 @@ use native.Mathlib.Omega.{arith}
 use lib.Dec.{eqb}
 use borrow.Author.Needs.{needs}
 use Rattle.rules.proofs.CategoryLaws.{lower-asked, category-done, clear-of, added-of}
-use Rattle.ranks.specs.Fits.{belowSome, LowerAsked}
-use Rattle.ranks.specs.Layout.{overFrom}
-use Rattle.tables.specs.View.{namesAt}
+use Rattle.rules_tables.specs.Fits.{belowSome, LowerAsked}
+use Rattle.rules_tables.specs.Layout.{overFrom}
+use Rattle.book_tables.specs.View.{namesAt}
 use Rattle.rules.proofs.categories.add_category.Statement.{statement}
 use Rattle.rules.proofs.categories.add_category.Tie as tie
 

@@ -8,9 +8,9 @@ use borrow.Author.Needs.{needs}
 use Rattle.model.specs.Choice.{just}
 use Rattle.rules.proofs.StoreLaws.{stored-none, storing-next, storing-done, storing-room}
 use Rattle.rules.specs.Stored.{Storing}
-use Rattle.lists.proofs.Behind.{names-over}
+use Rattle.name_lists.proofs.Behind.{names-over}
 use Rattle.items.proofs.PlacedLaws.{placed-at}
-use Rattle.lists.specs.Names.{NamesRead, namesBehind}
+use Rattle.name_lists.specs.Names.{NamesRead, namesBehind}
 use Rattle.rules.proofs.categories.store_names.Statement.{statement}
 use Rattle.rules.proofs.categories.store_names.Tie as tie
 

@@ -5,7 +5,7 @@ use native.Mathlib.Omega.{arith}
 use borrow.Author.Needs.{needs}
 use Rattle.model.specs.Answers.{refusalOf}
 use Rattle.model.specs.Refusal.{refusal}
-use Rattle.tables.specs.View.{bookAt}
+use Rattle.book_tables.specs.View.{bookAt}
 use Rattle.rules.specs.Loaded.{Reading}
 use Rattle.text.proofs.LineReads.{line-forward, line-inside}
 use Rattle.rules.proofs.LoadLaws.{reading-start, reading-fault, reading-on, reading-done}

@@ -4,7 +4,7 @@ use native.Mathlib.Omega.{arith}
 use borrow.Author.Needs.{needs}
 use Rattle.model.specs.Answers.{partOf}
 use Rattle.rules.proofs.PolicyStores.{is-declared, policy-room, policy-stored}
-use Rattle.ranks.specs.Stores.{morePolicies}
+use Rattle.rules_tables.specs.Stores.{morePolicies}
 use Rattle.rules.specs.Policies.{PolicyAdded}
 use Rattle.rules.proofs.policies.add_policy.Statement.{statement}
 use Rattle.rules.proofs.policies.add_policy.Tie as tie

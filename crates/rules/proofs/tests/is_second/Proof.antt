@@ -3,8 +3,8 @@ use native.Mathlib.Omega.{arith}
 use borrow.Author.Needs.{needs}
 use Rattle.model.specs.Answers.{partOf}
 use Rattle.rules.specs.Forms.{between}
-use Rattle.ranks.specs.Layout.{names}
-use Rattle.tables.proofs.NameLaws.{place-mem, place-out}
+use Rattle.rules_tables.specs.Layout.{names}
+use Rattle.book_tables.proofs.NameLaws.{place-mem, place-out}
 use Rattle.rules.proofs.tests.is_second.Statement.{statement}
 use Rattle.rules.proofs.tests.is_second.Tie as tie
 

@@ -12,11 +12,11 @@ use Rattle.model.specs.Lists.{all}
 use Rattle.model.specs.Bytes.{Bytes}
 use Rattle.rules.proofs.TestLaws.{miss-none, miss-found, miss-other}
 use Rattle.items.proofs.PlacedLaws.{placed-at}
-use Rattle.lists.proofs.Behind.{left-start, left-next, left-found, left-done, left-over}
-use Rattle.lists.specs.Names.{Left}
-use Rattle.ranks.specs.Layout.{names}
-use Rattle.tables.proofs.NameLaws.{place-mem, place-out}
-use Rattle.tables.specs.View.{namesAt}
+use Rattle.name_lists.proofs.Behind.{left-start, left-next, left-found, left-done, left-over}
+use Rattle.name_lists.specs.Names.{Left}
+use Rattle.rules_tables.specs.Layout.{names}
+use Rattle.book_tables.proofs.NameLaws.{place-mem, place-out}
+use Rattle.book_tables.specs.View.{namesAt}
 use Rattle.rules.proofs.tests.is_unknown.Statement.{statement}
 use Rattle.rules.proofs.tests.is_unknown.Tie as tie
 

@@ -7,10 +7,10 @@ use borrow.Author.Needs.{needs}
 use Rattle.model.specs.Lists.{any}
 use Rattle.model.specs.Choice.{just}
 use Rattle.rules.proofs.TestLaws.{names-fit-fewer, lacksOf, lacks-by-number}
-use Rattle.lists.specs.Names.{NamesRead, namesBehind}
-use Rattle.ranks.specs.Layout.{names}
-use Rattle.tables.proofs.ListedLaws.{scan-none, scan-on, scan-found}
-use Rattle.tables.specs.Listed.{listed}
+use Rattle.name_lists.specs.Names.{NamesRead, namesBehind}
+use Rattle.rules_tables.specs.Layout.{names}
+use Rattle.book_tables.proofs.ListedLaws.{scan-none, scan-on, scan-found}
+use Rattle.book_tables.specs.Listed.{listed}
 use Rattle.rules.proofs.tests.lacks_lower.Statement.{statement}
 use Rattle.rules.proofs.tests.lacks_lower.Tie as tie
 

@@ -5,8 +5,8 @@ use native.Mathlib.Omega.{arith}
 use borrow.Author.Needs.{needs}
 use Rattle.model.specs.Names.{mem}
 use Rattle.model.specs.Bytes.{Bytes}
-use Rattle.ranks.specs.Layout.{names}
-use Rattle.tables.specs.View.{nameOf}
+use Rattle.rules_tables.specs.Layout.{names}
+use Rattle.book_tables.specs.View.{nameOf}
 use Rattle.rules.proofs.tests.lacks_of_lower.Statement.{statement}
 use Rattle.rules.proofs.tests.lacks_of_lower.Tie as tie
 

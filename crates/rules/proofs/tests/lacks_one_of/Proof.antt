@@ -10,11 +10,11 @@ use Rattle.model.specs.Lists.{all}
 use Rattle.model.specs.Choice.{just}
 use Rattle.model.specs.Bytes.{Bytes}
 use Rattle.rules.proofs.TestLaws.{pass-none, pass-on, pass-missed}
-use Rattle.lists.specs.Names.{NamesRead, namesBehind}
-use Rattle.ranks.specs.View.{actorsAt}
-use Rattle.ranks.specs.Layout.{actorCountAt, actorsFrom}
-use Rattle.tables.specs.View.{wordAt, nameOf, namesAt}
-use Rattle.tables.specs.Listed.{listed}
+use Rattle.name_lists.specs.Names.{NamesRead, namesBehind}
+use Rattle.rules_tables.specs.View.{actorsAt}
+use Rattle.rules_tables.specs.Layout.{actorCountAt, actorsFrom}
+use Rattle.book_tables.specs.View.{wordAt, nameOf, namesAt}
+use Rattle.book_tables.specs.Listed.{listed}
 use Rattle.rules.proofs.tests.lacks_one_of.Statement.{statement}
 use Rattle.rules.proofs.tests.lacks_one_of.Tie as tie
 

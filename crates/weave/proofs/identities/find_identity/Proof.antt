@@ -1,8 +1,8 @@
 -- `find_identity` meets its contract. The loop's invariant: none of the first i identities is the vertex's. Assumes nothing.
 use Rattle.weave.proofs.IdentityLaws.{compared, found-in, none-in, own-has-none, node-said}
 use Rattle.weave.specs.Identities.{noIdentity}
-use Rattle.woven.specs.Tables.{vertexOfWord, nodeIn}
-use Rattle.facts.specs.Tests.{either, equal-or-not}
+use Rattle.woven_tables.specs.Tables.{vertexOfWord, nodeIn}
+use Rattle.logic.specs.Tests.{either, equal-or-not}
 use Rattle.model.specs.Answers.{identityIn}
 use Rattle.model.specs.Weave.{identifiedBy}
 use lib.ListN.{length, getD}

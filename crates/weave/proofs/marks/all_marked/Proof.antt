@@ -1,6 +1,6 @@
 -- `all_marked` meets its contract. The loop's invariant: all below v are marked. Assumes nothing.
 use Rattle.weave.proofs.TieLaws.{all-marks, not-all-marks}
-use Rattle.facts.specs.Tests.{either, equal-or-not}
+use Rattle.logic.specs.Tests.{either, equal-or-not}
 use Rattle.bits.specs.Word.{bit}
 use native.Mathlib.Omega.{arith}
 use mathlib.Core.Bool.{true}

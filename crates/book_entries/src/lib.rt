@@ -1,0 +1,112 @@
+// The attribute entries of one line of a book: their faults, and their words.
+ghost use mathlib.Core.Path.{_≡_};
+ghost use mathlib.Core.Bool.{true};
+ghost use Prim.Native.Nat.{_<_};
+ghost use lib.ListN.{length};
+ghost use Rattle.book_entries.specs.Faults.{entryFault, lower};
+ghost use Rattle.book_entries.specs.Known.{EntryAsked, EntryAdded, EntryPutAsked, EntryPut};
+use model::Part;
+use model::Value;
+use model::limits::MAX_DECLARED;
+use model::limits::MAX_ENTRIES;
+use book_tables::BookCounts;
+
+// The faults of an entry, in the paper's numbers: "a name is not declared", "given a second time", "value not of the declared type".
+pub const NOT_DECLARED: u32 = 4;
+
+pub const SECOND_TIME: u32 = 5;
+
+pub const OTHER_TYPE: u32 = 6;
+
+// An entry's first word is its attribute's number times 4 and its type.
+pub const TYPES: usize = 4;
+
+// What is known after some entries of a line: their lowest fault or 0, a bit for each attribute that stands among them, and how many they are.
+pub struct EntriesRead {
+    pub fault: u32,
+    pub seen: u32,
+    pub count: usize,
+}
+
+// The fault of an entry whose attribute is declared, or 0.
+fn entry_fault(seen: bool, suited: bool) -> u32
+    ensures { λ r. ⌜ r ≡ entryFault true seen suited ⌝ }
+{
+    if seen {
+        return SECOND_TIME;
+    }
+    if suited {
+        return 0;
+    }
+    OTHER_TYPE
+}
+
+// The lower of two faults, where 0 is none.
+fn lower_fault(fault: u32, other: u32) -> u32
+    ensures { λ r. ⌜ r ≡ lower fault other ⌝ }
+{
+    if other == 0 {
+        return fault;
+    }
+    if fault == 0 {
+        return other;
+    }
+    if other < fault {
+        return other;
+    }
+    fault
+}
+
+// Stores entry k of an attribute, if there is room for it.
+fn put_entry(words: &mut [u32], k: usize, attribute: usize, value: Value)
+    requires { ⌜ EntryPutAsked (now words) attribute value ⌝ }
+    ensures { λ _. ⌜ EntryPut (now (words .entry)) k attribute value (now (words .exit)) ⌝ }
+{
+    let said = book_tables::values::value_words(value);
+    if k < MAX_ENTRIES {
+        book_tables::stores::store_entry(
+            words,
+            k,
+            (attribute * TYPES) as u32 + said.kind,
+            said.first,
+            said.second,
+        );
+    }
+}
+
+// What is known with one entry more, which is stored behind those before it.
+pub fn add_entry(
+    text: &[u8],
+    words: &mut [u32],
+    counts: BookCounts,
+    offset: usize,
+    declared: usize,
+    name: Part,
+    value: Value,
+    known: EntriesRead,
+) -> EntriesRead
+    requires { ⌜ EntryAsked (now text) (now words) counts offset declared name value known ⌝ }
+    ensures { λ r. ⌜ EntryAdded (now (text .entry)) (now (words .entry)) (now (words .exit)) counts offset declared name value known r ⌝ }
+{
+    let start = name.start;
+    let end = start + name.length;
+    let attribute = book_tables::names::find_name(text, words, offset, declared, &text[start..end]);
+    if declared <= attribute {
+        return EntriesRead {
+            fault: NOT_DECLARED,
+            seen: known.seen,
+            count: known.count + 1,
+        };
+    }
+    let kind = words[offset + MAX_DECLARED + attribute];
+    let own = entry_fault(
+        bits::has(known.seen, attribute),
+        book_tables::values::of_kind(kind, value),
+    );
+    put_entry(words, counts.entries + known.count, attribute, value);
+    EntriesRead {
+        fault: lower_fault(known.fault, own),
+        seen: bits::with(known.seen, attribute),
+        count: known.count + 1,
+    }
+}

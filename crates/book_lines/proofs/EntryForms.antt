@@ -1,0 +1,134 @@
+-- The entries at the end of a line, one after another.
+use Prim.Native.Nat.{ℕ, _+_, _-_, _≤_}
+use mathlib.Core.Path.{_≡_, refl, sym, ap, _∙_, subst}
+use mathlib.Core.List.{List, [], _∷_, _++_, append-assoc, append-nil}
+use mathlib.Core.Bool.{Bool, true, false}
+use native.Mathlib.Omega.{arith}
+use lib.ListN.{length}
+use Rattle.logic.specs.Tests.{either}
+use Rattle.bits.specs.WordLaws.{bit-zero}
+use Rattle.model.specs.Bytes.{Bytes}
+use Rattle.model.specs.Choice.{pick, Maybe, nothing, andThen}
+use Rattle.model.specs.Lists.{any, all, each}
+use Rattle.model.specs.Names.{mem, twice}
+use Rattle.model.specs.Values.{Entry}
+use Rattle.model.specs.Forms.{entryOf}
+use Rattle.model.specs.BookLines.{BookLine}
+use Rattle.model.specs.ReadBook.{undeclared}
+use Rattle.model.specs.Answers.{partOf, nameAt, valueOf}
+use Rattle.model.specs.declared.Value.{Value}
+use Rattle.items.specs.declared.EntryRead.{EntryRead}
+use Rattle.items.specs.declared.EntryRead.the-variants as entry
+use Rattle.items.specs.Rest.{spacesFrom, formAt}
+use Rattle.items.specs.Forms.{onEntry}
+use Rattle.items.specs.Places.{EntryPlaces, EntryPlaced, NextEntry}
+use Rattle.items.proofs.ListLaws.{form-entries}
+use Rattle.book_tables.specs.declared.BookCounts.{BookCounts}
+use Rattle.book_tables.specs.Listed.{listed}
+use Rattle.book_tables.specs.View.{entriesFrom}
+use Rattle.book_tables.specs.Fits.{Fits}
+use Rattle.book_tables.specs.Agree.{Agree}
+use Rattle.book_tables.proofs.AgreeLaws.{agree-same, agree-trans}
+use Rattle.book_entries.specs.declared.EntriesRead.{EntriesRead}
+use Rattle.book_entries.specs.Faults.{entriesFault}
+use Rattle.book_entries.specs.Known.{AttrTable, EntriesKnown, EntryAdded, entryRead}
+use Rattle.book_lines.specs.Forms.{FormAsked}
+use Rattle.book_lines.specs.Entries.{shift, Declares, entriesForm, EntriesGot}
+use Rattle.book_lines.proofs.PieceLaws.{part-moved, value-moved}
+
+-- the attributes that entries may have
+pub table-of : (text : Bytes) (words : List ℕ) (c : BookCounts) (offset declared : ℕ) → Fits text words c → Declares c offset declared → AttrTable text words offset declared
+table-of text words c offset declared f d = either d
+    (λ e. rw (e .0, e .1) (record { low = omega arith; few = f .within .vattrs; names = f .vattrs }))
+    (λ e. rw (e .0, e .1) (record { low = omega arith; few = f .within .eattrs; names = f .eattrs }))
+
+-- the rest of a line, by the next entry
+abbrev restForm : Bytes → ℕ → (List Entry → Maybe BookLine) → Maybe BookLine
+restForm line at k = formAt true at line (λ is. andThen (each entryOf is) k)
+
+module _ (line : Bytes) (at : ℕ) (r : EntryRead) (e : NextEntry 2 line at r) where
+  entry-on : (k : List Entry → Maybe BookLine) (a b : ℕ) (v : Value) (q : ℕ) → r ≡ entry.Entry a b v q
+      → restForm line at k ≡ restForm line q (λ es. k (record { attr = partOf line a (b - a); value = valueOf line v } ∷ es))
+  unfolding onEntry
+  entry-on k a b v q h = form-entries line true at k ∙ rw (sym (e .is) ∙ h)
+
+  entry-close : (k : List Entry → Maybe BookLine) (z : ℕ) → r ≡ entry.Close z → restForm line at k ≡ pick (spacesFrom line z) (k []) nothing
+  unfolding onEntry
+  entry-close k z h = form-entries line true at k ∙ rw (sym (e .is) ∙ h)
+
+  entry-none : (k : List Entry → Maybe BookLine) → r ≡ entry.None → restForm line at k ≡ nothing
+  unfolding onEntry
+  entry-none k h = form-entries line true at k ∙ rw (sym (e .is) ∙ h)
+
+  pub entry-stands : (a b : ℕ) (v : Value) (q : ℕ) → r ≡ entry.Entry a b v q → EntryPlaces line at a b v q
+  entry-stands a b v q h = subst (EntryPlaced line at) h (e .placed)
+
+-- where reading the entries stands: those read, and that the line goes on behind them
+pub record Reading (text line : Bytes) (words words′ : List ℕ) (c : BookCounts) (offset declared from at : ℕ) (known : EntriesRead) : Type 0 where
+  pub got : List Entry
+  pub form : (k : List Entry → Maybe BookLine) → entriesForm line from k ≡ restForm line at (λ es. k (got ++ es))
+  pub after : EntriesKnown text words′ c offset declared got known
+  pub agrees : Agree c words words′
+  pub few : known .count ≤ at
+  pub inside : at ≤ length line
+
+module _ (text line : Bytes) (words : List ℕ) (c : BookCounts) (offset declared from : ℕ) where
+  -- before the first entry
+  none-known : EntriesKnown text words c offset declared [] (record { fault = 0; seen = 0; count = 0 })
+  unfolding entriesFault undeclared any all twice mem entriesFrom listed
+  none-known = record {
+    count = refl;
+    fault = refl;
+    seen = λ a l. bit-zero a;
+    stored = λ z room. record { are = refl; each = λ i l. absurd (omega arith) };
+  }
+
+  pub reading-starts : from ≤ length line → Reading text line words words c offset declared from from (record { fault = 0; seen = 0; count = 0 })
+  reading-starts l = record {
+    got = [];
+    form = λ k. form-entries line false from k ∙ sym (form-entries line true from k);
+    after = none-known;
+    agrees = agree-same c words;
+    few = omega arith;
+    inside = l;
+  }
+
+  module _ (words′ : List ℕ) (at : ℕ) (known : EntriesRead) (reading : Reading text line words words′ c offset declared from at known)
+      (r : EntryRead) (e : NextEntry 2 line at r) where
+    -- with one entry more
+    pub reading-on : (base : ℕ) → FormAsked text line words c base → (words″ : List ℕ) (known′ : EntriesRead) (a b : ℕ) (v : Value) (q : ℕ) → r ≡ entry.Entry a b v q
+        → EntryAdded text words′ words″ c offset declared (record { start = base + a; length = b - a }) (shift base v) known known′
+        → Reading text line words words″ c offset declared from q known′
+    unfolding nameAt
+    reading-on base f words″ known′ a b v q h added =
+        let s = entry-stands line at r e a b v q h in
+        let x : Entry = entryRead text (record { start = base + a; length = b - a }) (shift base v) in
+        let y : Entry = record { attr = partOf line a (b - a); value = valueOf line v } in
+        let named : nameAt text (record { start = base + a; length = b - a }) ≡ partOf line a (b - a) = part-moved text line base (f .is) (f .inside) a (b - a) (omega (arith, s .inside, s .name)) in
+        let same : x ≡ y = λ t. record { attr = named t; value = value-moved text line base (f .is) (f .inside) v (s .ends) t } in
+        record {
+          got = reading .got ++ (x ∷ []);
+          form = λ k. reading .form k
+              ∙ entry-on line at r e (λ es. k (reading .got ++ es)) a b v q h
+              ∙ (λ t. restForm line q (λ es. k (reading .got ++ (sym same t ∷ es))))
+              ∙ (λ t. restForm line q (λ es. k (sym (append-assoc (reading .got) (x ∷ []) es) t)));
+          after = added .after (reading .got) (reading .after);
+          agrees = agree-trans c words words′ words″ (reading .agrees) (added .agrees);
+          few = omega (arith, added .counted, reading .few, s .behind);
+          inside = s .next;
+        }
+
+    -- at the closing bracket
+    pub reading-ends : length line ≤ 65536 → (z : ℕ) → r ≡ entry.Close z → (t : Bool) → t ≡ spacesFrom line z → t ≡ true → EntriesGot text line words′ c offset declared from known
+    reading-ends l z h t te th = record {
+      got = reading .got;
+      form = λ k. reading .form k ∙ entry-close line at r e (λ es. k (reading .got ++ es)) z h ∙ rw (sym te ∙ th) (ap k (append-nil (reading .got)));
+      after = reading .after;
+      few = omega (arith, reading .few, reading .inside);
+    }
+
+    pub reading-spoilt : (z : ℕ) → r ≡ entry.Close z → (t : Bool) → t ≡ spacesFrom line z → t ≡ false → (k : List Entry → Maybe BookLine) → entriesForm line from k ≡ nothing
+    reading-spoilt z h t te th k = reading .form k ∙ entry-close line at r e (λ es. k (reading .got ++ es)) z h ∙ rw (sym te ∙ th)
+
+    pub reading-broken : r ≡ entry.None → (k : List Entry → Maybe BookLine) → entriesForm line from k ≡ nothing
+    reading-broken h k = reading .form k ∙ entry-none line at r e (λ es. k (reading .got ++ es)) h

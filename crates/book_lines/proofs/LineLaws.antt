@@ -1,0 +1,156 @@
+-- Lines by their forms: what was read makes the line, or breaks the grammar.
+use Prim.Native.Nat.{ℕ, _-_}
+use mathlib.Core.Path.{_≡_, refl, sym, ap, _∙_, fun-ext}
+use mathlib.Core.List.{List, [], _∷_}
+use mathlib.Core.Bool.{Bool, true, false}
+use Rattle.model.specs.Bytes.{Bytes}
+use Rattle.model.specs.Choice.{pick, Maybe, nothing, just, andThen}
+use Rattle.model.specs.Items.{Item, lineItems}
+use Rattle.model.specs.Lines.{fault, formStep}
+use Rattle.model.specs.Values.{Kind}
+use Rattle.model.specs.Forms.{asWord, kindOf, first, atEnd}
+use Rattle.model.specs.Book.{Book}
+use Rattle.model.specs.BookLines.{BookLine, label, attrLine, labelLine, bookLine}
+use Rattle.model.specs.Answers.{partOf}
+use Rattle.text.specs.declared.End.{End}
+use Rattle.text.specs.declared.End.the-variants as end
+use Rattle.items.specs.declared.Piece.{Piece}
+use Rattle.items.specs.declared.Piece.the-variants as piece
+use Rattle.items.specs.Rest.{spacesFrom, formAt}
+use Rattle.items.specs.Places.{NextWord, NextName}
+use Rattle.items.specs.Pieces.{wordNext, onPiece, onPlace}
+use Rattle.items.specs.Forms.{formOpens, formCloses}
+use Rattle.items.proofs.RestLaws.{rest-same, rest-nothing}
+use Rattle.items.proofs.FormLaws.{line-form, form-word, form-end}
+use Rattle.book_tables.specs.View.{kindIn}
+use Rattle.book_lines.specs.declared.Head.{Head}
+use Rattle.book_lines.specs.declared.Head.the-variants as head
+use Rattle.book_lines.specs.declared.AttrRead.{AttrRead}
+use Rattle.book_lines.specs.declared.AttrRead.the-variants as attr
+use Rattle.book_lines.specs.declared.KindRead.{KindRead}
+use Rattle.book_lines.specs.declared.KindRead.the-variants as kind
+use Rattle.book_lines.specs.Steps.{stepOf}
+use Rattle.book_lines.specs.Forms.{formStepOf, headOf, lineOf, kindPiece, onKind, onAttr}
+use Rattle.book_lines.proofs.PieceLaws.{name-form, kind-word, line-head}
+
+-- a form, or none
+pub step-form : (b : Book) (m : Maybe BookLine) (x : BookLine) → m ≡ just x → formStepOf b m ≡ stepOf b x
+unfolding formStepOf formStep
+step-form b m x e = rw e
+
+pub step-broken : (b : Book) (m : Maybe BookLine) → m ≡ nothing → formStepOf b m ≡ fault 3
+unfolding formStepOf formStep
+step-broken b m e = rw e
+
+-- the form of a line opens, or does not
+pub opens-at : (line : Bytes) (r : End) (i : ℕ) → r ≡ formOpens line → r ≡ end.At i → andThen (lineItems line) bookLine ≡ formAt true i line bookLine
+unfolding onPlace
+opens-at line r i e h = line-form bookLine line ∙ rw (sym e ∙ h)
+
+pub opens-none : (line : Bytes) (r : End) → r ≡ formOpens line → r ≡ end.None → andThen (lineItems line) bookLine ≡ nothing
+unfolding onPlace
+opens-none line r e h = line-form bookLine line ∙ rw (sym e ∙ h)
+
+-- the first word, or none
+module _ (line : Bytes) (from : ℕ) (r : Piece) (e : NextWord 3 true line from r) where
+  pub headed : (p q : ℕ) → r ≡ piece.At p q → formAt true from line bookLine ≡ formAt false q line (lineOf (headOf (partOf line p (q - p))))
+  unfolding bookLine onPiece
+  headed p q h =
+      form-word true from line _ ∙ rw (sym (e .is) ∙ h)
+      (ap (λ (f : List Item → Maybe BookLine). formAt false q line f) (fun-ext (line-head (partOf line p (q - p)))))
+
+  pub headless : r ≡ piece.None → formAt true from line bookLine ≡ nothing
+  unfolding bookLine onPiece
+  headless h = form-word true from line _ ∙ rw (sym (e .is) ∙ h)
+
+-- a reading after a word, which the rest of the line goes on with
+pick-none : {B : Type 0} (x : Bool) → pick {A = Maybe B} x nothing nothing ≡ nothing
+pick-none true = refl
+pick-none false = refl
+
+form-nothing : {B : Type 0} (free : Bool) (i : ℕ) (s : Bytes) → formAt {B = B} free i s (λ is. nothing) ≡ nothing
+unfolding formAt
+form-nothing free i s = rest-same 3 free i s _ _ (λ e is. pick-none (spacesFrom s e)) ∙ rest-nothing 3 free i s
+
+form-then : {A B : Type 0} (free : Bool) (i : ℕ) (s : Bytes) (o : Maybe A) (k : A → List Item → Maybe B)
+    → formAt free i s (λ is. andThen o (λ a. k a is)) ≡ andThen o (λ a. formAt free i s (k a))
+unfolding andThen
+form-then free i s nothing k = form-nothing free i s
+form-then free i s (just a) k = refl
+
+first-then : {A B : Type 0} (g : Bytes → Maybe A) (is : List Item) (k : A → List Item → Maybe B)
+    → first (λ x. andThen (asWord x) g) is k ≡ first asWord is (λ w is. andThen (g w) (λ a. k a is))
+unfolding first andThen
+first-then g [] k = refl
+first-then g (i ∷ is) k = go (asWord i)
+  where
+    go : (o : Maybe Bytes) → andThen (andThen o g) (λ a. k a is) ≡ andThen o (λ w. andThen (g w) (λ a. k a is))
+    go nothing = refl
+    go (just w) = refl
+
+-- a type, and the rest behind it
+kind-form : {B : Type 0} (line : Bytes) (i : ℕ) (k : Kind → List Item → Maybe B)
+    → formAt false i line (λ is. first (λ x. andThen (asWord x) kindOf) is k) ≡ onKind (kindPiece line (wordNext 3 false line i)) (λ t q. formAt false q line (k t))
+unfolding onPiece kindPiece onKind
+kind-form line i k =
+    ap (λ (f : List Item → Maybe _). formAt false i line f) (fun-ext (λ is. first-then kindOf is k))
+    ∙ form-word false i line (λ w is. andThen (kindOf w) (λ t. k t is))
+    ∙ go (wordNext 3 false line i)
+  where
+    go : (r : Piece) → onPiece r (λ p q. formAt false q line (λ is. andThen (kindOf (partOf line p (q - p))) (λ t. k t is))) ≡ onKind (kindPiece line r) (λ t q. formAt false q line (k t))
+    go (piece.At p q) = form-then false q line (kindOf (partOf line p (q - p))) k ∙ kind-word line i (partOf line p (q - p)) q (λ t q. formAt false q line (k t))
+    go piece.None = refl
+
+-- NAME TYPE
+module _ (line : Bytes) (from : ℕ) (make : Bytes → Kind → BookLine) (r : Piece) (e : NextName 3 line from r) where
+  pub attr-nameless : r ≡ piece.None → formAt false from line (attrLine make) ≡ nothing
+  unfolding attrLine onPiece
+  attr-nameless h = name-form line from _ ∙ rw (sym (e .is) ∙ h)
+
+  module _ (p q : ℕ) (h : r ≡ piece.At p q) (t : KindRead) (te : t ≡ kindPiece line (wordNext 3 false line q)) where
+    attr-typed : formAt false from line (attrLine make) ≡ onKind t (λ k z. formAt false z line (λ is. atEnd is (make (partOf line p (q - p)) k)))
+    unfolding attrLine onPiece
+    attr-typed =
+        let named : formAt false from line (attrLine make)
+        ≡ formAt false q line (λ is. first (λ x. andThen (asWord x) kindOf) is (λ k is. atEnd is (make (partOf line p (q - p)) k))) = name-form line from _ ∙ rw (sym (e .is) ∙ h) in
+        named ∙ kind-form line q (λ k is. atEnd is (make (partOf line p (q - p)) k))
+        ∙ ap (λ (x : KindRead). onKind x (λ k z. formAt false z line (λ is. atEnd is (make (partOf line p (q - p)) k)))) (sym te)
+
+    pub attr-kindless : t ≡ kind.None → formAt false from line (attrLine make) ≡ nothing
+    unfolding onKind
+    attr-kindless k = attr-typed ∙ rw k
+
+    pub attr-ends : (k z : ℕ) → t ≡ kind.Kind k z → (c : Bool) → c ≡ formCloses line z
+        → formAt false from line (attrLine make) ≡ pick c (just (make (partOf line p (q - p)) (kindIn k))) nothing
+    unfolding onKind
+    attr-ends k z th c ce =
+        let typed : formAt false from line (attrLine make) ≡ formAt false z line (λ is. atEnd is (make (partOf line p (q - p)) (kindIn k))) = attr-typed ∙ rw th in
+        typed ∙ form-end false z line (make (partOf line p (q - p)) (kindIn k)) ∙ ap (λ (x : Bool). pick {A = Maybe BookLine} x (just (make (partOf line p (q - p)) (kindIn k))) nothing) (sym ce)
+
+-- what was read of an attribute's line
+module _ (line : Bytes) (from : ℕ) (r : AttrRead)
+    (form : (make : Bytes → Kind → BookLine) → formAt false from line (attrLine make) ≡ onAttr line r (λ n k. just (make n k))) (make : Bytes → Kind → BookLine) where
+  pub attr-got : (p q k : ℕ) → r ≡ attr.Attr p q k → formAt false from line (attrLine make) ≡ just (make (partOf line p (q - p)) (kindIn k))
+  unfolding onAttr
+  attr-got p q k e = form make ∙ rw e
+
+  pub attr-none : r ≡ attr.None → formAt false from line (attrLine make) ≡ nothing
+  unfolding onAttr
+  attr-none e = form make ∙ rw e
+
+-- NAME
+module _ (line : Bytes) (from : ℕ) (r : Piece) (e : NextName 3 line from r) where
+  pub label-nameless : r ≡ piece.None → formAt false from line labelLine ≡ nothing
+  unfolding labelLine onPiece
+  label-nameless h = name-form line from _ ∙ rw (sym (e .is) ∙ h)
+
+  pub label-ends : (p q : ℕ) → r ≡ piece.At p q → (c : Bool) → c ≡ formCloses line q → formAt false from line labelLine ≡ pick c (just (label (partOf line p (q - p)))) nothing
+  unfolding labelLine onPiece
+  label-ends p q h c ce =
+      let named : formAt false from line labelLine ≡ formAt false q line (λ is. atEnd is (label (partOf line p (q - p)))) = name-form line from _ ∙ rw (sym (e .is) ∙ h) in
+      named ∙ form-end false q line (label (partOf line p (q - p))) ∙ ap (λ (x : Bool). pick {A = Maybe BookLine} x (just (label (partOf line p (q - p)))) nothing) (sym ce)
+
+-- a first word that is none of the five
+pub form-other : (line : Bytes) (i : ℕ) (h : Head) → h ≡ head.Other → formAt false i line (lineOf h) ≡ nothing
+unfolding lineOf
+form-other line i h e = rw e (form-nothing false i line)

@@ -1,0 +1,169 @@
+-- What each kind of line gives after the book: the step of the line that was read, in the whole text's parts.
+use Prim.Native.Nat.{ℕ, _+_, _-_}
+use mathlib.Core.Path.{_≡_, sym, ap, _∙_, subst}
+use mathlib.Core.List.{List}
+use mathlib.Core.Bool.{Bool, true, false}
+use native.Mathlib.Omega.{arith}
+use lib.ListN.{length}
+use Rattle.model.specs.Bytes.{Bytes}
+use Rattle.model.specs.Choice.{just, andThen}
+use Rattle.model.specs.Lists.{each}
+use Rattle.model.specs.Lines.{fault}
+use Rattle.model.specs.Values.{Kind}
+use Rattle.model.specs.Forms.{entryOf}
+use Rattle.model.specs.Book.{Book}
+use Rattle.model.specs.BookLines.{BookLine, label, node, rel, attrLine, labelLine, nodeLine, relLine}
+use Rattle.model.specs.Answers.{partOf, nameAt}
+use Rattle.model.specs.declared.Part.{Part}
+use Rattle.items.specs.declared.Piece.{Piece}
+use Rattle.items.specs.declared.Piece.the-variants as piece
+use Rattle.items.specs.Rest.{formAt}
+use Rattle.items.specs.Places.{WordPlaces, NextName}
+use Rattle.items.specs.Pieces.{onPiece}
+use Rattle.items.proofs.PlacedLaws.{placed-at}
+use Rattle.items.specs.Forms.{formCloses}
+use Rattle.book_tables.specs.declared.BookCounts.{BookCounts}
+use Rattle.book_tables.specs.View.{kindIn, bookAt}
+use Rattle.book_tables.proofs.AgreeLaws.{book-kept}
+use Rattle.book_entries.specs.declared.EntriesRead.{EntriesRead}
+use Rattle.book_lines.specs.declared.AttrRead.{AttrRead}
+use Rattle.book_lines.specs.declared.AttrRead.the-variants as attr
+use Rattle.book_lines.specs.declared.EntriesAnswer.{EntriesAnswer}
+use Rattle.book_lines.specs.declared.EntriesAnswer.the-variants as answer
+use Rattle.book_lines.specs.declared.RelNames.{RelNames}
+use Rattle.book_lines.specs.declared.RelNames.the-variants as names
+use Rattle.book_lines.specs.Steps.{stepOf, NameAsked}
+use Rattle.book_lines.specs.Forms.{formStepOf, FormAsked, onAttr}
+use Rattle.book_lines.specs.Names.{AttrFits, movedPart, PartFits, NamesGot, NamesTold}
+use Rattle.book_lines.specs.Entries.{entriesForm, EntriesGot, EntriesTold, EntriesDone}
+use Rattle.book_lines.proofs.PieceLaws.{name-form, name-moved, piece-named}
+use Rattle.book_lines.proofs.LineLaws.{step-form, step-broken, attr-got, attr-none, label-nameless, label-ends}
+
+-- the places of an attribute's name
+pub attr-stands : (line : Bytes) (from : ℕ) (r : AttrRead) (p q k : ℕ) → AttrFits line from r → r ≡ attr.Attr p q k → WordPlaces line from p q
+attr-stands line from r p q k h e = subst (AttrFits line from) e h
+
+module _ (text line : Bytes) (words : List ℕ) (c : BookCounts) (base from : ℕ) (f : FormAsked text line words c base) where
+  abbrev book : Book
+  book = bookAt text words c
+
+  -- (vattr NAME TYPE), (eattr NAME TYPE)
+  module _ (r : AttrRead) (form : (make : Bytes → Kind → BookLine) → formAt false from line (attrLine make) ≡ onAttr line r (λ n k. just (make n k)))
+      (fits : AttrFits line from r) (make : Bytes → Kind → BookLine) where
+    pub attr-step : (p q k : ℕ) → r ≡ attr.Attr p q k
+        → formStepOf book (formAt false from line (attrLine make)) ≡ stepOf book (make (nameAt text (record { start = base + p; length = q - p })) (kindIn k))
+    attr-step p q k e =
+        step-form book _ _ (attr-got line from r form make p q k e)
+        ∙ ap (λ (n : Bytes). stepOf book (make n (kindIn k))) (sym (piece-named text line words c base from p q f (attr-stands line from r p q k fits e)))
+
+    pub attr-broken : r ≡ attr.None → formStepOf book (formAt false from line (attrLine make)) ≡ fault 3
+    attr-broken e = step-broken book _ (attr-none line from r form make e)
+
+  -- (label NAME)
+  module _ (r : Piece) (e : NextName 3 line from r) where
+    pub label-broken : r ≡ piece.None → formStepOf book (formAt false from line labelLine) ≡ fault 3
+    label-broken h = step-broken book _ (label-nameless line from r e h)
+
+    pub label-open : (p q : ℕ) → r ≡ piece.At p q → (t : Bool) → t ≡ formCloses line q → t ≡ false → formStepOf book (formAt false from line labelLine) ≡ fault 3
+    label-open p q h t te th = step-broken book _ (label-ends line from r e p q h t te ∙ rw th)
+
+    pub label-step : (p q : ℕ) → r ≡ piece.At p q → (t : Bool) → t ≡ formCloses line q → t ≡ true
+        → formStepOf book (formAt false from line labelLine) ≡ stepOf book (label (nameAt text (record { start = base + p; length = q - p })))
+    label-step p q h t te th =
+        step-form book _ _ (label-ends line from r e p q h t te ∙ rw th)
+        ∙ ap (λ (n : Bytes). stepOf book (label n)) (sym (piece-named text line words c base from p q f (placed-at line from r h (e .placed))))
+
+  -- (node NAME (ATTR VALUE)...)
+  module _ (r : Piece) (e : NextName 3 line from r) where
+    pub node-broken : r ≡ piece.None → formStepOf book (formAt false from line nodeLine) ≡ fault 3
+    unfolding nodeLine onPiece
+    node-broken h = step-broken book _ (name-form line from _ ∙ rw (sym (e .is) ∙ h))
+
+    module _ (p q : ℕ) (h : r ≡ piece.At p q) (words′ : List ℕ) (offset declared : ℕ) (a : EntriesAnswer)
+        (done : EntriesDone text line words words′ c offset declared q a) where
+      node-named : formAt false from line nodeLine ≡ entriesForm line q (λ es. just (node (partOf line p (q - p)) es))
+      unfolding nodeLine onPiece
+      node-named = name-form line from _ ∙ rw (sym (e .is) ∙ h)
+
+      pub node-spoilt : a ≡ answer.None → formStepOf book (formAt false from line nodeLine) ≡ fault 3
+      node-spoilt n =
+          let told = subst (EntriesTold text line words′ c offset declared q) n (done .told) in
+          step-broken book _ (node-named ∙ told (λ es. just (node (partOf line p (q - p)) es)))
+
+      pub node-step : (known : EntriesRead) → a ≡ answer.Read known → (got : EntriesGot text line words′ c offset declared q known)
+          → formStepOf book (formAt false from line nodeLine) ≡ stepOf (bookAt text words′ c) (node (nameAt text (record { start = base + p; length = q - p })) (got .got))
+      node-step known n got =
+          step-form book _ _ (node-named ∙ got .form (λ es. just (node (partOf line p (q - p)) es)))
+          ∙ ap (λ (x : Bytes). stepOf book (node x (got .got))) (sym (piece-named text line words c base from p q f (placed-at line from r h (e .placed))))
+          ∙ ap (λ (b : Book). stepOf b (node (nameAt text (record { start = base + p; length = q - p })) (got .got))) (sym (book-kept text words words′ c (done .agrees .tables) (f .fits)))
+
+  -- (rel LABEL FROM TO (ATTR VALUE)...)
+  module _ (r : RelNames) (told : NamesTold line from r) where
+    pub rel-broken : r ≡ names.None → formStepOf book (formAt false from line relLine) ≡ fault 3
+    unfolding relLine
+    rel-broken h = step-broken book _ (subst (NamesTold line from) h told (λ l x y is. andThen (each entryOf is) (λ es. just (rel l x y es))))
+
+    module _ (l x y : Part) (q : ℕ) (h : r ≡ names.Read l x y q) where
+      pub rel-got : NamesGot line from l x y q
+      rel-got = subst (NamesTold line from) h told
+
+      module _ (words′ : List ℕ) (offset declared : ℕ) (a : EntriesAnswer) (done : EntriesDone text line words words′ c offset declared q a) where
+        rel-named : formAt false from line relLine ≡ entriesForm line q (λ es. just (rel (nameAt line l) (nameAt line x) (nameAt line y) es))
+        unfolding relLine
+        rel-named = rel-got .form (λ l x y is. andThen (each entryOf is) (λ es. just (rel l x y es)))
+
+        pub rel-spoilt : a ≡ answer.None → formStepOf book (formAt false from line relLine) ≡ fault 3
+        rel-spoilt n =
+            let broken = subst (EntriesTold text line words′ c offset declared q) n (done .told) in
+            step-broken book _ (rel-named ∙ broken (λ es. just (rel (nameAt line l) (nameAt line x) (nameAt line y) es)))
+
+        pub rel-step : (known : EntriesRead) → a ≡ answer.Read known → (got : EntriesGot text line words′ c offset declared q known)
+            → formStepOf book (formAt false from line relLine)
+            ≡ stepOf (bookAt text words′ c) (rel (nameAt text (movedPart base l)) (nameAt text (movedPart base x)) (nameAt text (movedPart base y)) (got .got))
+        rel-step known n got =
+            step-form book _ _ (rel-named ∙ got .form (λ es. just (rel (nameAt line l) (nameAt line x) (nameAt line y) es)))
+            ∙ (λ t. stepOf book (rel (sym (name-moved text line base (f .is) (f .inside) l (rel-got .label .inside)) t)
+            (sym (name-moved text line base (f .is) (f .inside) x (rel-got .start .inside)) t)
+            (sym (name-moved text line base (f .is) (f .inside) y (rel-got .end .inside)) t) (got .got)))
+            ∙ ap (λ (b : Book). stepOf b (rel (nameAt text (movedPart base l)) (nameAt text (movedPart base x)) (nameAt text (movedPart base y)) (got .got)))
+            (sym (book-kept text words words′ c (done .agrees .tables) (f .fits)))
+
+-- the entries that were read
+pub entries-got : (text line : Bytes) (words words′ : List ℕ) (c : BookCounts) (offset declared from : ℕ) (a : EntriesAnswer) (known : EntriesRead)
+    → EntriesDone text line words words′ c offset declared from a → a ≡ answer.Read known → EntriesGot text line words′ c offset declared from known
+entries-got text line words words′ c offset declared from a known done e = subst (EntriesTold text line words′ c offset declared from) e (done .told)
+
+-- what was asked before the entries, after them
+pub moved-asked : (text line : Bytes) (words : List ℕ) (c : BookCounts) (base : ℕ) (p : Part) → FormAsked text line words c base → PartFits line p → NameAsked text (movedPart base p)
+moved-asked text line words c base p f s = record { inside = omega (arith, f .inside, s .inside); short = s .short; limit = f .limit }
+
+-- LABEL FROM TO
+module _ (line : Bytes) (from : ℕ) (r : Piece) (e : NextName 3 line from r) where
+  pub names-first : r ≡ piece.None → NamesTold line from names.None
+  unfolding onPiece
+  names-first h k = name-form line from _ ∙ rw (sym (e .is) ∙ h)
+
+  module _ (a b : ℕ) (h : r ≡ piece.At a b) (r₂ : Piece) (e₂ : NextName 3 line b r₂) where
+    pub names-second : r₂ ≡ piece.None → NamesTold line from names.None
+    unfolding onPiece
+    names-second h₂ k = name-form line from _ ∙ rw (sym (e .is) ∙ h) (name-form line b _ ∙ rw (sym (e₂ .is) ∙ h₂))
+
+    module _ (c d : ℕ) (h₂ : r₂ ≡ piece.At c d) (r₃ : Piece) (e₃ : NextName 3 line d r₃) where
+      pub names-third : r₃ ≡ piece.None → NamesTold line from names.None
+      unfolding onPiece
+      names-third h₃ k = name-form line from _ ∙ rw (sym (e .is) ∙ h) (name-form line b _ ∙ rw (sym (e₂ .is) ∙ h₂) (name-form line d _ ∙ rw (sym (e₃ .is) ∙ h₃)))
+
+      pub names-all : (x y : ℕ) → r₃ ≡ piece.At x y
+          → NamesGot line from (record { start = a; length = b - a }) (record { start = c; length = d - c }) (record { start = x; length = y - x }) y
+      unfolding onPiece nameAt
+      names-all x y h₃ =
+          let s = placed-at line from r h (e .placed) in
+          let t = placed-at line b r₂ h₂ (e₂ .placed) in
+          let u = placed-at line d r₃ h₃ (e₃ .placed) in
+          record {
+            form = λ k. name-form line from _ ∙ rw (sym (e .is) ∙ h) (name-form line b _ ∙ rw (sym (e₂ .is) ∙ h₂) (name-form line d _ ∙ rw (sym (e₃ .is) ∙ h₃)));
+            label = record { inside = omega (arith, s .some, s .inside); short = omega (arith, s .short) };
+            start = record { inside = omega (arith, t .some, t .inside); short = omega (arith, t .short) };
+            end = record { inside = omega (arith, u .some, u .inside); short = omega (arith, u .short) };
+            inside = u .inside;
+          }

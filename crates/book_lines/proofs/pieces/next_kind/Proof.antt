@@ -1,0 +1,54 @@
+use Rattle.items.proofs.PlacedLaws.{placed-at}
+use Rattle.model.specs.Answers.{partOf}
+use Rattle.book_lines.specs.Forms.{kindPiece}
+use mathlib.Core.Path.{sym, ap, _∙_}
+use native.Mathlib.Omega.{arith}
+use borrow.Author.Needs.{needs}
+use Rattle.book_lines.proofs.pieces.next_kind.Statement.{statement}
+use Rattle.book_lines.proofs.pieces.next_kind.Tie as tie
+use Rattle.book_lines.proofs.pieces.next_kind.Reads as reads
+use Rattle.book_lines.proofs.pieces.next_kind.Lts as lts
+use Rattle.book_lines.proofs.pieces.kind_of.Reads as kind-of-reads
+
+next-word-requires : tie.Need-next-word-requires
+next-word-requires c κs = search needs
+
+enum-known-p : tie.Need-enum-known-p
+enum-known-p c = search needs
+
+sub-kind-of : tie.Need-sub-kind-of
+sub-kind-of c = omega (arith, placed-at (c .before .before .before .before .before .args .line .now) (c .before .before .before .before .before .args .from) _ (c .before .p .given .1) (c .before .before .before .next-word .ensures .placed))
+
+part-kind-of-start : tie.Need-part-kind-of-start
+part-kind-of-start c = omega (arith, placed-at (c .before .before .before .before .before .args .line .now) (c .before .before .before .before .before .args .from) _ (c .before .p .given .1) (c .before .before .before .next-word .ensures .placed))
+
+part-kind-of-end : tie.Need-part-kind-of-end
+part-kind-of-end c = omega (arith, placed-at (c .before .before .before .before .before .args .line .now) (c .before .before .before .before .before .args .from) _ (c .before .p .given .1) (c .before .before .before .next-word .ensures .placed))
+
+kind-of-requires : tie.Need-kind-of-requires
+kind-of-requires c κs = search needs
+
+enum-told : tie.Need-enum-told
+enum-told c = search needs
+
+returns : tie.Need-returns
+unfolding kindPiece partOf
+returns c = c .kind-of .ensures ∙ sym (ap (kindPiece (c .before .before .before .before .before .before .before .args .line .now)) (sym (c .before .before .before .before .before .next-word .ensures .is) ∙ c .before .before .before .p .given .1))
+
+returns-2 : tie.Need-returns-2
+unfolding kindPiece
+returns-2 c = sym (ap (kindPiece (c .before .before .before .before .args .line .now)) (sym (c .before .before .next-word .ensures .is) ∙ c .enum-told .given .1))
+
+pub next-kind-spec : {M : Type 1} → statement M
+next-kind-spec =
+    tie.close
+    (tie.spec
+    next-word-requires
+    enum-known-p
+    sub-kind-of
+    part-kind-of-start
+    part-kind-of-end
+    kind-of-requires
+    enum-told
+    returns
+    returns-2)

@@ -1,0 +1,52 @@
+-- The entries at the end of a line, read by places of the line and stored behind those counted.
+use Prim.Native.Nat.{ℕ, _+_, _≤_}
+use mathlib.Core.Path.{_≡_}
+use mathlib.Core.Logic.{_⊎_}
+use mathlib.Core.List.{List}
+use mathlib.Core.Bool.{false}
+use Rattle.model.specs.Bytes.{Bytes}
+use Rattle.model.specs.Choice.{Maybe, nothing, andThen}
+use Rattle.model.specs.Lists.{each}
+use Rattle.model.specs.Values.{Entry}
+use Rattle.model.specs.Forms.{entryOf}
+use Rattle.model.specs.BookLines.{BookLine}
+use Rattle.model.specs.declared.Value.{Value}
+use Rattle.model.specs.declared.Value.the-variants.{Number, Text, Truth}
+use Rattle.items.specs.Rest.{formAt}
+use Rattle.book_tables.specs.declared.BookCounts.{BookCounts}
+use Rattle.book_tables.specs.Layout.{vattrNames, eattrNames}
+use Rattle.book_tables.specs.Agree.{Agree}
+use Rattle.book_entries.specs.declared.EntriesRead.{EntriesRead}
+use Rattle.book_entries.specs.Known.{EntriesKnown}
+use Rattle.book_lines.specs.declared.EntriesAnswer.{EntriesAnswer}
+use Rattle.book_lines.specs.declared.EntriesAnswer.the-variants as answer
+
+-- a value whose text stands in a part that begins at the base
+abbrev pub shift : ℕ → Value → Value
+shift base (Number n) = Number n
+shift base (Text start size) = Text (base + start) size
+shift base (Truth t) = Truth t
+
+-- the attributes of nodes, or those of relationships
+abbrev pub Declares : BookCounts → ℕ → ℕ → Type 0
+Declares c offset declared = ((offset ≡ vattrNames) × (declared ≡ c .vattrs)) ⊎ ((offset ≡ eattrNames) × (declared ≡ c .eattrs))
+
+-- the rest of a line as entries
+abbrev pub entriesForm : Bytes → ℕ → (List Entry → Maybe BookLine) → Maybe BookLine
+entriesForm line from k = formAt false from line (λ is. andThen (each entryOf is) k)
+
+-- the entries were read
+pub record EntriesGot (text line : Bytes) (words : List ℕ) (c : BookCounts) (offset declared from : ℕ) (known : EntriesRead) : Type 0 where
+  pub got : List Entry
+  pub form : (k : List Entry → Maybe BookLine) → entriesForm line from k ≡ k got
+  pub after : EntriesKnown text words c offset declared got known
+  pub few : known .count ≤ 65536
+
+abbrev pub EntriesTold : Bytes → Bytes → List ℕ → BookCounts → ℕ → ℕ → ℕ → EntriesAnswer → Type 0
+EntriesTold text line words c offset declared from (answer.Read known) = EntriesGot text line words c offset declared from known
+EntriesTold text line words c offset declared from answer.None = (k : List Entry → Maybe BookLine) → entriesForm line from k ≡ nothing
+
+-- what reading the entries gives
+pub record EntriesDone (text line : Bytes) (words words′ : List ℕ) (c : BookCounts) (offset declared from : ℕ) (r : EntriesAnswer) : Type 0 where
+  pub agrees : Agree c words words′
+  pub told : EntriesTold text line words′ c offset declared from r

@@ -1,0 +1,50 @@
+-- The names of a line by their places in the line.
+use Prim.Native.Nat.{ℕ, _+_, _≤_, _<_}
+use mathlib.Core.Path.{_≡_}
+use mathlib.Core.List.{List}
+use mathlib.Core.Bool.{false}
+use lib.ListN.{length}
+use Rattle.model.specs.Bytes.{Bytes}
+use Rattle.model.specs.Choice.{Maybe, nothing}
+use Rattle.model.specs.Items.{Item}
+use Rattle.model.specs.Forms.{asName, first}
+use Rattle.model.specs.BookLines.{BookLine}
+use Rattle.model.specs.Answers.{nameAt}
+use Rattle.model.specs.declared.Part.{Part}
+use Rattle.items.specs.Rest.{formAt}
+use Rattle.items.specs.Places.{WordPlaces}
+use Rattle.book_tables.specs.Fits.{Inside}
+use Rattle.book_lines.specs.declared.AttrRead.{AttrRead}
+use Rattle.book_lines.specs.declared.AttrRead.the-variants as attr
+use Rattle.book_lines.specs.declared.RelNames.{RelNames}
+use Rattle.book_lines.specs.declared.RelNames.the-variants as names
+
+-- a part of the line that begins at the base, as a part of the whole text
+abbrev pub movedPart : ℕ → Part → Part
+movedPart base p = record { start = base + p .start; length = p .length }
+
+-- the name of an attribute that was read stands in the line
+abbrev pub AttrFits : Bytes → ℕ → AttrRead → Type 0
+AttrFits line from (attr.Attr p q k) = WordPlaces line from p q
+AttrFits line from attr.None = Unit {0}
+
+-- a name's part stands in the line, and is short
+pub record PartFits (line : Bytes) (p : Part) : Type 0 where
+  pub inside : Inside line (p .start) (p .length)
+  pub short : p .length < 32
+
+-- three names, and then the rest of the line
+abbrev pub namesForm : Bytes → ℕ → (Bytes → Bytes → Bytes → List Item → Maybe BookLine) → Maybe BookLine
+namesForm line from k = formAt false from line (λ is. first asName is (λ l is. first asName is (λ x is. first asName is (λ y is. k l x y is))))
+
+-- three names were read
+pub record NamesGot (line : Bytes) (from : ℕ) (l x y : Part) (q : ℕ) : Type 0 where
+  pub form : (k : Bytes → Bytes → Bytes → List Item → Maybe BookLine) → namesForm line from k ≡ formAt false q line (k (nameAt line l) (nameAt line x) (nameAt line y))
+  pub label : PartFits line l
+  pub start : PartFits line x
+  pub end : PartFits line y
+  pub inside : q ≤ length line
+
+abbrev pub NamesTold : Bytes → ℕ → RelNames → Type 0
+NamesTold line from (names.Read l x y q) = NamesGot line from l x y q
+NamesTold line from names.None = (k : Bytes → Bytes → Bytes → List Item → Maybe BookLine) → namesForm line from k ≡ nothing

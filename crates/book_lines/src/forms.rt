@@ -1,0 +1,198 @@
+// The line of a book by its form.
+ghost use mathlib.Core.Path.{_≡_};
+ghost use mathlib.Core.Bool.{true, false};
+ghost use Rattle.model.specs.Bytes.{Bytes};
+ghost use Rattle.model.specs.Choice.{just, andThen};
+ghost use Rattle.model.specs.Items.{lineItems};
+ghost use Rattle.model.specs.Values.{Kind};
+ghost use Rattle.model.specs.BookLines.{BookLine, vattr, eattr, attrLine, labelLine, bookLine};
+ghost use Rattle.items.specs.Rest.{formAt};
+ghost use Rattle.book_tables.specs.View.{bookAt};
+ghost use Rattle.book_lines.specs.Steps.{Stepped};
+ghost use Rattle.book_lines.specs.Forms.{formStepOf, FormAsked, lineOf, onAttr};
+ghost use Rattle.book_lines.specs.Names.{AttrFits};
+use crate::AttrRead;
+use crate::Head;
+use crate::KindRead;
+use crate::LineStep;
+use crate::owners;
+use crate::pieces;
+use crate::steps;
+use items::Piece;
+use items::places;
+use model::Part;
+use book_tables::BookCounts;
+use text::End;
+
+// "grammar broken".
+pub const BROKEN: u32 = 3;
+
+// Reads a line, which begins at the base in the text, and adds it.
+pub fn read_line(
+    text: &[u8],
+    line: &[u8],
+    base: usize,
+    words: &mut [u32],
+    counts: BookCounts,
+) -> LineStep
+    requires { ⌜ FormAsked (now text) (now line) (now words) counts base ⌝ }
+    ensures { λ r. ⌜ Stepped (now (text .entry)) (now (words .exit)) r (formStepOf (bookAt (now (text .entry)) (now (words .entry)) counts) (andThen (lineItems (now (line .entry))) bookLine)) ⌝ }
+{
+    match items::forms::open_form(line) {
+        End::At(from) => read_head(text, line, base, from, words, counts),
+        End::None => LineStep::Fault(BROKEN),
+    }
+}
+
+// Reads a line from its first word on.
+fn read_head(
+    text: &[u8],
+    line: &[u8],
+    base: usize,
+    from: usize,
+    words: &mut [u32],
+    counts: BookCounts,
+) -> LineStep
+    requires { ⌜ FormAsked (now text) (now line) (now words) counts base ⌝ }
+    ensures { λ r. ⌜ Stepped (now (text .entry)) (now (words .exit)) r (formStepOf (bookAt (now (text .entry)) (now (words .entry)) counts) (formAt true from (now (line .entry)) bookLine)) ⌝ }
+{
+    match places::next_word(line, from, true, pieces::FORM_DEPTH) {
+        Piece::At(p, q) => read_rest(
+            text,
+            line,
+            base,
+            q,
+            pieces::head(&line[p..q]),
+            words,
+            counts,
+        ),
+        Piece::None => LineStep::Fault(BROKEN),
+    }
+}
+
+// Reads the rest of a line, by its first word.
+fn read_rest(
+    text: &[u8],
+    line: &[u8],
+    base: usize,
+    from: usize,
+    head: Head,
+    words: &mut [u32],
+    counts: BookCounts,
+) -> LineStep
+    requires { ⌜ FormAsked (now text) (now line) (now words) counts base ⌝ }
+    ensures { λ r. ⌜ Stepped (now (text .entry)) (now (words .exit)) r (formStepOf (bookAt (now (text .entry)) (now (words .entry)) counts) (formAt false from (now (line .entry)) (lineOf head))) ⌝ }
+{
+    match head {
+        Head::Vattr => vattr_line(text, line, base, from, words, counts),
+        Head::Eattr => eattr_line(text, line, base, from, words, counts),
+        Head::Label => label_line(text, line, base, from, words, counts),
+        Head::Node => owners::node_line(text, line, base, from, words, counts),
+        Head::Rel => owners::rel_line(text, line, base, from, words, counts),
+        Head::Other => LineStep::Fault(BROKEN),
+    }
+}
+
+// NAME TYPE, and nothing more.
+fn read_attr(line: &[u8], from: usize) -> AttrRead
+    ensures form { λ r. ⌜ ((make : Bytes → Kind → BookLine) → formAt false from (now (line .entry)) (attrLine make) ≡ onAttr (now (line .entry)) r (λ n k. just (make n k))) ⌝ }
+    ensures fits { λ r. ⌜ AttrFits (now (line .entry)) from r ⌝ }
+{
+    match places::next_name(line, from, pieces::FORM_DEPTH) {
+        Piece::At(p, q) => match pieces::next_kind(line, q) {
+            KindRead::Kind(kind, end) => {
+                if items::forms::form_closes(line, end) {
+                    return AttrRead::Attr(p, q, kind);
+                }
+                AttrRead::None
+            }
+            KindRead::None => AttrRead::None,
+        },
+        Piece::None => AttrRead::None,
+    }
+}
+
+// (vattr NAME TYPE)
+fn vattr_line(
+    text: &[u8],
+    line: &[u8],
+    base: usize,
+    from: usize,
+    words: &mut [u32],
+    counts: BookCounts,
+) -> LineStep
+    requires { ⌜ FormAsked (now text) (now line) (now words) counts base ⌝ }
+    ensures { λ r. ⌜ Stepped (now (text .entry)) (now (words .exit)) r (formStepOf (bookAt (now (text .entry)) (now (words .entry)) counts) (formAt false from (now (line .entry)) (attrLine vattr))) ⌝ }
+{
+    match read_attr(line, from) {
+        AttrRead::Attr(p, q, kind) => steps::add_vattr(
+            text,
+            words,
+            counts,
+            Part {
+                start: base + p,
+                length: q - p,
+            },
+            kind,
+        ),
+        AttrRead::None => LineStep::Fault(BROKEN),
+    }
+}
+
+// (eattr NAME TYPE)
+fn eattr_line(
+    text: &[u8],
+    line: &[u8],
+    base: usize,
+    from: usize,
+    words: &mut [u32],
+    counts: BookCounts,
+) -> LineStep
+    requires { ⌜ FormAsked (now text) (now line) (now words) counts base ⌝ }
+    ensures { λ r. ⌜ Stepped (now (text .entry)) (now (words .exit)) r (formStepOf (bookAt (now (text .entry)) (now (words .entry)) counts) (formAt false from (now (line .entry)) (attrLine eattr))) ⌝ }
+{
+    match read_attr(line, from) {
+        AttrRead::Attr(p, q, kind) => steps::add_eattr(
+            text,
+            words,
+            counts,
+            Part {
+                start: base + p,
+                length: q - p,
+            },
+            kind,
+        ),
+        AttrRead::None => LineStep::Fault(BROKEN),
+    }
+}
+
+// (label NAME)
+fn label_line(
+    text: &[u8],
+    line: &[u8],
+    base: usize,
+    from: usize,
+    words: &mut [u32],
+    counts: BookCounts,
+) -> LineStep
+    requires { ⌜ FormAsked (now text) (now line) (now words) counts base ⌝ }
+    ensures { λ r. ⌜ Stepped (now (text .entry)) (now (words .exit)) r (formStepOf (bookAt (now (text .entry)) (now (words .entry)) counts) (formAt false from (now (line .entry)) labelLine)) ⌝ }
+{
+    match places::next_name(line, from, pieces::FORM_DEPTH) {
+        Piece::At(p, q) => {
+            if items::forms::form_closes(line, q) {
+                return steps::add_label(
+                    text,
+                    words,
+                    counts,
+                    Part {
+                        start: base + p,
+                        length: q - p,
+                    },
+                );
+            }
+            LineStep::Fault(BROKEN)
+        }
+        Piece::None => LineStep::Fault(BROKEN),
+    }
+}

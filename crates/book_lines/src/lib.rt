@@ -1,0 +1,49 @@
+// One line of a book: its form is read, its faults are tested, and it is added to the tables.
+pub mod forms;
+pub mod owners;
+pub mod pieces;
+pub mod steps;
+
+use book_entries::EntriesRead;
+use model::Part;
+use book_tables::BookCounts;
+
+// What one line gives: its fault, in the paper's numbers, or the counts with it.
+pub enum LineStep {
+    Fault(u32),
+    Known(BookCounts),
+}
+
+// The first word of a line.
+pub enum Head {
+    Vattr,
+    Eattr,
+    Label,
+    Node,
+    Rel,
+    Other,
+}
+
+// The rest of a line that declares an attribute: its name's start and end, and its type; or that the grammar is broken.
+pub enum AttrRead {
+    Attr(usize, usize, u32),
+    None,
+}
+
+// A type and the place behind it; or that none can be read there.
+pub enum KindRead {
+    Kind(u32, usize),
+    None,
+}
+
+// The three names of a relationship's line by their places in the line, and the place behind them; or that the grammar is broken.
+pub enum RelNames {
+    Read(Part, Part, Part, usize),
+    None,
+}
+
+// The entries at the end of a line: what is known after them; or that the grammar is broken.
+pub enum EntriesAnswer {
+    Read(EntriesRead),
+    None,
+}

@@ -1,0 +1,205 @@
+// The lines of nodes and of relationships: their names, and their entries to the end of the line.
+ghost use mathlib.Core.Path.{_≡_};
+ghost use mathlib.Core.Bool.{false};
+ghost use Prim.Native.Nat.{_+_, _≤_};
+ghost use lib.ListN.{length};
+ghost use Rattle.model.specs.BookLines.{nodeLine, relLine};
+ghost use Rattle.items.specs.Rest.{formAt};
+ghost use Rattle.book_tables.specs.View.{bookAt};
+ghost use Rattle.book_lines.specs.Steps.{Stepped};
+ghost use Rattle.book_tables.specs.ValueWords.{EndsBefore};
+ghost use Rattle.book_lines.specs.Forms.{formStepOf, FormAsked};
+ghost use Rattle.book_lines.specs.Names.{movedPart, NamesTold};
+ghost use Rattle.book_lines.specs.Entries.{shift, Declares, EntriesDone};
+use crate::EntriesAnswer;
+use crate::LineStep;
+use crate::RelNames;
+use crate::forms::BROKEN;
+use crate::pieces::FORM_DEPTH;
+use crate::steps;
+use book_entries::EntriesRead;
+use items::EntryRead;
+use items::Piece;
+use items::places;
+use model::Part;
+use model::Value;
+use book_tables::BookCounts;
+use book_tables::EATTR_NAMES;
+use book_tables::VATTR_NAMES;
+
+// In a list of a line's form two may still be opened.
+pub const ENTRY_DEPTH: usize = 2;
+
+// A value with its text's place in the whole text.
+fn shifted(value: Value, base: usize) -> Value
+    requires { ⌜ EndsBefore 65536 (shift base value) ⌝ }
+    ensures { λ r. ⌜ r ≡ shift base value ⌝ }
+{
+    match value {
+        Value::Number(n) => Value::Number(n),
+        Value::Text(start, size) => Value::Text(base + start, size),
+        Value::Truth(truth) => Value::Truth(truth),
+    }
+}
+
+// (ATTR VALUE)... to the end of the line, of attributes declared at an offset; each is stored behind those before it.
+fn read_entries(
+    text: &[u8],
+    line: &[u8],
+    base: usize,
+    from: usize,
+    words: &mut [u32],
+    counts: BookCounts,
+    offset: usize,
+    declared: usize,
+) -> EntriesAnswer
+    requires { ⌜ FormAsked (now text) (now line) (now words) counts base × Declares counts offset declared × (from ≤ length (now line)) ⌝ }
+    ensures { λ r. ⌜ EntriesDone (now (text .entry)) (now (line .entry)) (now (words .entry)) (now (words .exit)) counts offset declared from r ⌝ }
+{
+    let mut at = from;
+    let mut known = EntriesRead {
+        fault: 0,
+        seen: 0,
+        count: 0,
+    };
+    loop {
+        match items::forms::entry(line, at, ENTRY_DEPTH) {
+            EntryRead::Entry {
+                start,
+                end,
+                value,
+                next,
+            } => {
+                known = book_entries::add_entry(
+                    text,
+                    words,
+                    counts,
+                    offset,
+                    declared,
+                    Part {
+                        start: base + start,
+                        length: end - start,
+                    },
+                    shifted(value, base),
+                    known,
+                );
+                at = next;
+            }
+            EntryRead::Close(e) => {
+                if items::forms::only_spaces(line, e) {
+                    return EntriesAnswer::Read(known);
+                }
+                return EntriesAnswer::None;
+            }
+            EntryRead::None => {
+                return EntriesAnswer::None;
+            }
+        }
+    }
+}
+
+// A part of the line as a part of the whole text.
+fn moved(part: Part, base: usize) -> Part
+    requires { ⌜ base + part .start ≤ 65536 ⌝ }
+    ensures { λ r. ⌜ r ≡ movedPart base part ⌝ }
+{
+    Part {
+        start: base + part.start,
+        length: part.length,
+    }
+}
+
+// (node NAME (ATTR VALUE)...)
+pub fn node_line(
+    text: &[u8],
+    line: &[u8],
+    base: usize,
+    from: usize,
+    words: &mut [u32],
+    counts: BookCounts,
+) -> LineStep
+    requires { ⌜ FormAsked (now text) (now line) (now words) counts base ⌝ }
+    ensures { λ r. ⌜ Stepped (now (text .entry)) (now (words .exit)) r (formStepOf (bookAt (now (text .entry)) (now (words .entry)) counts) (formAt false from (now (line .entry)) nodeLine)) ⌝ }
+{
+    match places::next_name(line, from, FORM_DEPTH) {
+        Piece::At(p, q) => {
+            let declared = counts.vattrs;
+            match read_entries(text, line, base, q, words, counts, VATTR_NAMES, declared) {
+                EntriesAnswer::Read(read) => steps::add_node(
+                    text,
+                    words,
+                    counts,
+                    Part {
+                        start: base + p,
+                        length: q - p,
+                    },
+                    read,
+                ),
+                EntriesAnswer::None => LineStep::Fault(BROKEN),
+            }
+        }
+        Piece::None => LineStep::Fault(BROKEN),
+    }
+}
+
+// LABEL FROM TO
+fn read_names(line: &[u8], from: usize) -> RelNames
+    ensures { λ r. ⌜ NamesTold (now (line .entry)) from r ⌝ }
+{
+    match places::next_name(line, from, FORM_DEPTH) {
+        Piece::At(a, b) => match places::next_name(line, b, FORM_DEPTH) {
+            Piece::At(c, d) => match places::next_name(line, d, FORM_DEPTH) {
+                Piece::At(e, f) => RelNames::Read(
+                    Part {
+                        start: a,
+                        length: b - a,
+                    },
+                    Part {
+                        start: c,
+                        length: d - c,
+                    },
+                    Part {
+                        start: e,
+                        length: f - e,
+                    },
+                    f,
+                ),
+                Piece::None => RelNames::None,
+            },
+            Piece::None => RelNames::None,
+        },
+        Piece::None => RelNames::None,
+    }
+}
+
+// (rel LABEL FROM TO (ATTR VALUE)...)
+pub fn rel_line(
+    text: &[u8],
+    line: &[u8],
+    base: usize,
+    from: usize,
+    words: &mut [u32],
+    counts: BookCounts,
+) -> LineStep
+    requires { ⌜ FormAsked (now text) (now line) (now words) counts base ⌝ }
+    ensures { λ r. ⌜ Stepped (now (text .entry)) (now (words .exit)) r (formStepOf (bookAt (now (text .entry)) (now (words .entry)) counts) (formAt false from (now (line .entry)) relLine)) ⌝ }
+{
+    match read_names(line, from) {
+        RelNames::Read(label, x, y, q) => {
+            let declared = counts.eattrs;
+            match read_entries(text, line, base, q, words, counts, EATTR_NAMES, declared) {
+                EntriesAnswer::Read(read) => steps::add_relationship(
+                    text,
+                    words,
+                    counts,
+                    moved(label, base),
+                    moved(x, base),
+                    moved(y, base),
+                    read,
+                ),
+                EntriesAnswer::None => LineStep::Fault(BROKEN),
+            }
+        }
+        RelNames::None => LineStep::Fault(BROKEN),
+    }
+}

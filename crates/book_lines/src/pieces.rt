@@ -1,0 +1,64 @@
+// The pieces of a book's lines: first words, types.
+ghost use mathlib.Core.Path.{_≡_};
+ghost use mathlib.Core.Bool.{false};
+ghost use Rattle.items.specs.Pieces.{wordNext};
+ghost use Rattle.book_lines.specs.Forms.{headOf, kindRead, kindPiece};
+use crate::Head;
+use crate::KindRead;
+use items::Piece;
+use items::places;
+use book_tables::values::BOOL;
+use book_tables::values::INT;
+use book_tables::values::STR;
+use text::compare::same_bytes;
+
+// "lists nest to depth 4": in the one list of a line three may still be opened.
+pub const FORM_DEPTH: usize = 3;
+
+// Which of the five first words a word is.
+pub fn head(word: &[u8]) -> Head
+    ensures { λ r. ⌜ r ≡ headOf (now (word .entry)) ⌝ }
+{
+    if same_bytes(word, b"vattr") {
+        return Head::Vattr;
+    }
+    if same_bytes(word, b"eattr") {
+        return Head::Eattr;
+    }
+    if same_bytes(word, b"label") {
+        return Head::Label;
+    }
+    if same_bytes(word, b"node") {
+        return Head::Node;
+    }
+    if same_bytes(word, b"rel") {
+        return Head::Rel;
+    }
+    Head::Other
+}
+
+// Which type a word is, and the place behind it.
+fn kind_of(word: &[u8], end: usize) -> KindRead
+    ensures { λ r. ⌜ r ≡ kindRead (now (word .entry)) end ⌝ }
+{
+    if same_bytes(word, b"int") {
+        return KindRead::Kind(INT, end);
+    }
+    if same_bytes(word, b"str") {
+        return KindRead::Kind(STR, end);
+    }
+    if same_bytes(word, b"bool") {
+        return KindRead::Kind(BOOL, end);
+    }
+    KindRead::None
+}
+
+// The type that follows a name.
+pub fn next_kind(line: &[u8], from: usize) -> KindRead
+    ensures { λ r. ⌜ r ≡ kindPiece (now (line .entry)) (wordNext 3 false (now (line .entry)) from) ⌝ }
+{
+    match places::next_word(line, from, false, FORM_DEPTH) {
+        Piece::At(p, q) => kind_of(&line[p..q], q),
+        Piece::None => KindRead::None,
+    }
+}

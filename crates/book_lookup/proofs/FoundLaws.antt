@@ -1,0 +1,133 @@
+-- What a look-up finds by number is what the book's definitions find by name.
+use Prim.Native.Nat.{ℕ, zero, suc, _+_, _/_, _≤_, _<_}
+use mathlib.Core.Path.{_≡_, refl, sym, ap, _∙_}
+use mathlib.Core.Bool.{Bool, true, false}
+use mathlib.Core.List.{List, [], _∷_, _++_}
+use native.Mathlib.Omega.{arith}
+use lib.ListN.{length, getD}
+use lib.Dec.{eqb}
+use borrow.Author.Tests.{eq-eqb, ne-eqb}
+use Rattle.logic.specs.Tests.{either, equal-or-not}
+use Rattle.model.specs.Bytes.{Bytes, same}
+use Rattle.model.specs.Choice.{pick, Maybe, just}
+use Rattle.model.specs.Values.{Entry}
+use Rattle.model.specs.Book.{attrNames, nodeNames}
+use Rattle.model.specs.Graph as graph
+use Rattle.model.specs.Graph.{valueIn, relEntries}
+use Rattle.book_tables.specs.declared.BookCounts.{BookCounts}
+use Rattle.book_tables.specs.Listed.{listed}
+use Rattle.book_tables.specs.Layout as layout
+use Rattle.book_tables.specs.View.{wordAt, nameOf, namesAt, attrsAt, entryHead, entryOf, entriesFrom, entriesIn, startPart, countPart, nodeOf, relOf, bookAt}
+use Rattle.book_tables.specs.Fits.{NamesFit, EntriesFit, Fits}
+use Rattle.book_tables.proofs.ListedLaws.{listed-same, map-listed, getD-listed}
+use Rattle.book_tables.proofs.NameLaws.{equal-same, attr-names, node-names}
+use Rattle.book_lookup.specs.declared.Found.{Found}
+use Rattle.book_lookup.specs.declared.Found.the-variants.{At, Nothing}
+use Rattle.book_lookup.specs.Entries.{seek, found, entryValue, maybeValue, valueAt, nodeValue, relationshipValue}
+use Rattle.book_lookup.specs.Ready.{FoundReady, Entered}
+use Rattle.book_lookup.proofs.SeekLaws.{seek-step, seek-within}
+use Rattle.book_lookup.proofs.ValueLaws.{not-same}
+
+-- a list of a sequence is its first element and those from 1 on
+listed-front : {A : Type 0} (f : ℕ → A) (n : ℕ) → listed f (suc n) ≡ f 0 ∷ listed (λ i. f (suc i)) n
+unfolding listed
+listed-front f zero = refl
+listed-front f (suc n) = ap (λ l. l ++ (f (suc n) ∷ [])) (listed-front f n)
+
+-- entries, the first apart
+entries-front : (text : Bytes) (words : List ℕ) (offset start n : ℕ) → entriesFrom text words offset start (suc n) ≡ entryOf text words offset start ∷ entriesFrom text words offset (start + 1) n
+unfolding entriesFrom
+entries-front text words offset start n =
+    let entry : ℕ → Entry = entryOf text words offset in
+    let first : start + 0 ≡ start = omega arith in
+    listed-front (λ i. entry (start + i)) n ∙ ap (λ z. entry z ∷ listed (λ i. entry (start + suc i)) n) first
+    ∙ ap (λ l. entry start ∷ l) (listed-same (λ i. entry (start + suc i)) (λ i. entry (start + 1 + i)) n (λ i l. ap entry (omega arith)))
+
+-- the value of what a test picks is picked by the test
+value-picked : (text : Bytes) (words : List ℕ) (k : ℕ) (m : Maybe ℕ) (t : Bool) → maybeValue text words (pick t (just k) m) ≡ pick t (just (entryValue text words k)) (maybeValue text words m)
+unfolding maybeValue
+value-picked text words k m true = refl
+value-picked text words k m false = refl
+
+-- an attribute's value is the first entry's where that is of the attribute, or else among the others
+value-first : (text : Bytes) (words : List ℕ) (offset k : ℕ) (es : List Entry) (name : Bytes)
+    → valueIn (entryOf text words offset k ∷ es) name ≡ pick (same (nameOf text words offset (entryHead words k / 4)) name) (just (entryValue text words k)) (valueIn es name)
+unfolding valueIn entryOf entryValue
+value-first text words offset k es name = refl
+
+module _ (text : Bytes) (words : List ℕ) (offset declared : ℕ) (names : NamesFit text words offset declared) where
+  -- two declared names are the same bytes exactly if their numbers are equal
+  same-name : (i j : ℕ) → i < declared → j < declared → same (nameOf text words offset i) (nameOf text words offset j) ≡ eqb i j
+  same-name i j l m = either (equal-or-not i j)
+      (λ e. equal-same (nameOf text words offset i) (nameOf text words offset j) (ap (nameOf text words offset) e) ∙ sym (eq-eqb i j e))
+      (λ d. not-same (nameOf text words offset i) (nameOf text words offset j) (λ e. d .1 (names .differ i j l m e)) ∙ sym (ne-eqb i j (d .1)))
+
+  module _ (attribute : ℕ) (counted : attribute < declared) where
+    -- what is sought by number among entries is the value of the name
+    seek-value : (n start : ℕ) → ((i : ℕ) → i < n → entryHead words (start + i) / 4 < declared)
+        → maybeValue text words (seek words attribute start n) ≡ valueIn (entriesFrom text words offset start n) (nameOf text words offset attribute)
+    seek-value zero start h = unfold maybeValue seek valueIn entriesFrom listed in refl
+    seek-value (suc n) start h =
+        let front : start + 0 ≡ start = omega arith in
+        let first : entryHead words start / 4 < declared = rw front at (h 0 (omega arith)) in
+        let rest = seek-value n (start + 1) (λ i l. let next : start + suc i ≡ start + 1 + i = omega arith in rw next at (h (suc i) (omega arith))) in
+        ap (maybeValue text words) (seek-step words attribute start n)
+        ∙ value-picked text words start (seek words attribute (start + 1) n) (eqb (entryHead words start / 4) attribute)
+        ∙ ap (pick (eqb (entryHead words start / 4) attribute) (just (entryValue text words start))) rest
+        ∙ sym (
+        ap (λ es. valueIn es (nameOf text words offset attribute)) (entries-front text words offset start n)
+        ∙ value-first text words offset start (entriesFrom text words offset (start + 1) n) (nameOf text words offset attribute)
+        ∙ ap (λ t. pick t (just (entryValue text words start)) (valueIn (entriesFrom text words offset (start + 1) n) (nameOf text words offset attribute))) (same-name (entryHead words start / 4) attribute first counted))
+
+    -- what is found among an owner's entries may be read, and is the value of the name
+    owner-entered : (all w : ℕ) → EntriesFit text words declared all w → all ≤ 2048 → layout.bookWords ≤ length words
+        → (r : Found) → found r ≡ seek words attribute (startPart w) (countPart w) → Entered text words r (valueIn (entriesIn text words offset w) (nameOf text words offset attribute))
+    unfolding entriesIn valueAt found
+    owner-entered all w fit limit room r e = record {
+      ready = ready r e;
+      value = ap (maybeValue text words) e ∙ seek-value (countPart w) (startPart w) (λ i l. fit .each i l .attribute);
+    }
+      where
+        ready : (r : Found) → found r ≡ seek words attribute (startPart w) (countPart w) → FoundReady text words r
+        ready Nothing e = tt
+        ready (At k) e =
+            let within = seek-within words attribute (countPart w) (startPart w) k (sym e) in
+            let place : startPart w + within .0 ≡ k = within .2 in
+            let counted = fit .counted in
+            record {
+              room = omega arith;
+              inside = rw place at (fit .each (within .0) (within .1) .inside);
+            }
+
+-- the entries of a node and of a relationship, and the names of attributes and nodes, by their numbers
+module _ (text : Bytes) (words : List ℕ) (c : BookCounts) where
+  node-entries : (i : ℕ) → i < c .nodes → graph.nodeEntries (bookAt text words c) i ≡ entriesIn text words layout.vattrNames (wordAt words (layout.nodeEntries + i))
+  unfolding graph.nodeEntries bookAt nodeOf
+  node-entries i l = ap (λ es. getD es i []) (map-listed (λ x. x .entries) (nodeOf text words) (c .nodes)) ∙ getD-listed (λ i. nodeOf text words i .entries) (c .nodes) i [] l
+
+  relationship-entries : (i : ℕ) → i < c .relationships → relEntries (bookAt text words c) i ≡ entriesIn text words layout.eattrNames (wordAt words (layout.relationshipEntries + i))
+  unfolding relEntries graph.relOf bookAt relOf
+  relationship-entries i l = ap (λ r. r .entries) (getD-listed (relOf text words) (c .relationships) i _ l)
+
+  attribute-name : (offset count i : ℕ) → i < count → getD (attrNames (attrsAt text words offset count)) i [] ≡ nameOf text words offset i
+  unfolding namesAt
+  attribute-name offset count i l = ap (λ ns. getD ns i []) (attr-names text words offset count) ∙ getD-listed (nameOf text words offset) count i [] l
+
+  pub node-named : (i : ℕ) → i < c .nodes → getD (nodeNames (bookAt text words c)) i [] ≡ nameOf text words layout.nodeNames i
+  unfolding namesAt
+  node-named i l = ap (λ ns. getD ns i []) (node-names text words c) ∙ getD-listed (nameOf text words layout.nodeNames) (c .nodes) i [] l
+
+  module _ (fits : Fits text words c) (attribute : ℕ) (r : Found) where
+    pub node-entered : (i : ℕ) → i < c .nodes → attribute < c .vattrs
+        → found r ≡ seek words attribute (startPart (wordAt words (layout.nodeEntries + i))) (countPart (wordAt words (layout.nodeEntries + i)))
+        → Entered text words r (nodeValue (bookAt text words c) i attribute)
+    unfolding nodeValue bookAt
+    node-entered i l m e = rw (node-entries i l, attribute-name layout.vattrNames (c .vattrs) attribute m)
+        (owner-entered text words layout.vattrNames (c .vattrs) (fits .vattrs) attribute m (c .entries) (wordAt words (layout.nodeEntries + i)) (fits .of-nodes i l) (fits .within .entries) (fits .room) r e)
+
+    pub relationship-entered : (i : ℕ) → i < c .relationships → attribute < c .eattrs
+        → found r ≡ seek words attribute (startPart (wordAt words (layout.relationshipEntries + i))) (countPart (wordAt words (layout.relationshipEntries + i)))
+        → Entered text words r (relationshipValue (bookAt text words c) i attribute)
+    unfolding relationshipValue bookAt
+    relationship-entered i l m e = rw (relationship-entries i l, attribute-name layout.eattrNames (c .eattrs) attribute m)
+        (owner-entered text words layout.eattrNames (c .eattrs) (fits .eattrs) attribute m (c .entries) (wordAt words (layout.relationshipEntries + i)) (fits .of-rels i l) (fits .within .entries) (fits .room) r e)

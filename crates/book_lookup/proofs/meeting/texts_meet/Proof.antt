@@ -1,0 +1,55 @@
+-- `lookup::meeting::texts_meet` meets its contract. Assumes nothing.
+use mathlib.Core.Path.{sym, ap, _∙_}
+use borrow.Author.Needs.{needs}
+use Rattle.model.specs.Answers.{relationOf}
+use Rattle.model.specs.Graph.{sameOrNot}
+use Rattle.text.proofs.CompareLaws.{compare-equal}
+use Rattle.book_tables.proofs.NameLaws.{equal-same}
+use Rattle.book_lookup.proofs.ValueLaws.{less-not-same, greater-not-same}
+use Rattle.book_lookup.proofs.meeting.texts_meet.Statement.{statement}
+use Rattle.book_lookup.proofs.meeting.texts_meet.Tie as tie
+
+compare-requires : tie.Need-compare-requires
+compare-requires c κs = search needs
+
+enum-told : tie.Need-enum-told
+enum-told c = search needs
+
+same-meets-requires : tie.Need-same-meets-requires
+same-meets-requires c κs = search needs
+
+enum-told-2 : tie.Need-enum-told-2
+enum-told-2 c = search needs
+
+same-meets-requires-2 : tie.Need-same-meets-requires-2
+same-meets-requires-2 c κs = search needs
+
+enum-told-3 : tie.Need-enum-told-3
+enum-told-3 c = search needs
+
+same-meets-requires-3 : tie.Need-same-meets-requires-3
+same-meets-requires-3 c κs = search needs
+
+returns : tie.Need-returns
+returns c = let a = c .before .before .before .before .before .before .args in c .same-meets .ensures ∙ ap (sameOrNot (relationOf (a .relation))) (sym (less-not-same (a .x .now) (a .y .now) (sym (c .before .before .before .compare .ensures) ∙ c .before .enum-told .given .1)))
+
+returns-2 : tie.Need-returns-2
+returns-2 c = let a = c .before .before .before .before .before .before .args in c .same-meets2 .ensures ∙ ap (sameOrNot (relationOf (a .relation))) (sym (equal-same (a .x .now) (a .y .now) (compare-equal (a .x .now) (a .y .now) (sym (c .before .before .before .compare .ensures) ∙ c .before .enum-told2 .given .1))))
+
+returns-3 : tie.Need-returns-3
+returns-3 c = let a = c .before .before .before .before .before .before .args in c .same-meets3 .ensures ∙ ap (sameOrNot (relationOf (a .relation))) (sym (greater-not-same (a .x .now) (a .y .now) (sym (c .before .before .before .compare .ensures) ∙ c .before .enum-told3 .given .1)))
+
+pub texts-meet-spec : {M : Type 1} → statement M
+texts-meet-spec =
+    tie.close
+    (tie.spec
+    compare-requires
+    enum-told
+    same-meets-requires
+    enum-told-2
+    same-meets-requires-2
+    enum-told-3
+    same-meets-requires-3
+    returns
+    returns-2
+    returns-3)

@@ -1,0 +1,55 @@
+-- Entries of a loaded book by their numbers, their values, and the values of attributes by number.
+use Prim.Native.Nat.{ℕ, zero, suc, _+_, _*_, _/_, _%_}
+use mathlib.Core.List.{List, []}
+use lib.Dec.{eqb}
+use lib.ListN.{getD}
+use Rattle.model.specs.Bytes.{Bytes}
+use Rattle.model.specs.Choice.{pick, Maybe, nothing, just}
+use Rattle.model.specs.Values.{Value}
+use Rattle.model.specs.Book.{Book, attrNames}
+use Rattle.model.specs.Graph.{valueIn, nodeEntries, relEntries}
+use Rattle.book_tables.specs.Layout.{entries}
+use Rattle.book_tables.specs.View.{wordAt, entryHead, valueIn as valueOfWords}
+use Rattle.book_lookup.specs.declared.Found.{Found}
+use Rattle.book_lookup.specs.declared.Found.the-variants.{At, Nothing}
+
+-- the first of n entries, from the kth on, that is of an attribute
+unfoldable pub seek : List ℕ → ℕ → ℕ → ℕ → Maybe ℕ
+seek words attribute k zero = nothing
+seek words attribute k (suc n) = let rest = seek words attribute (k + 1) n in pick (eqb (entryHead words k / 4) attribute) (just k) rest
+
+-- where a look-up found it
+unfoldable pub found : Found → Maybe ℕ
+found (At k) = just k
+found Nothing = nothing
+
+-- the type of an entry, and its two further words
+abbrev pub kindAt : List ℕ → ℕ → ℕ
+kindAt words k = entryHead words k % 4
+
+abbrev pub firstAt : List ℕ → ℕ → ℕ
+firstAt words k = wordAt words (entries + 3 * k + 1)
+
+abbrev pub secondAt : List ℕ → ℕ → ℕ
+secondAt words k = wordAt words (entries + 3 * k + 2)
+
+-- the value of an entry
+unfoldable pub entryValue : Bytes → List ℕ → ℕ → Value
+entryValue text words k = valueOfWords text (kindAt words k) (firstAt words k) (secondAt words k)
+
+-- the value of an entry that may be missing
+unfoldable pub maybeValue : Bytes → List ℕ → Maybe ℕ → Maybe Value
+maybeValue text words nothing = nothing
+maybeValue text words (just k) = just (entryValue text words k)
+
+-- the value of what a look-up found
+unfoldable pub valueAt : Bytes → List ℕ → Found → Maybe Value
+valueAt text words r = maybeValue text words (found r)
+
+-- the value of a node's attribute, both by their numbers
+unfoldable pub nodeValue : Book → ℕ → ℕ → Maybe Value
+nodeValue b node attribute = valueIn (nodeEntries b node) (getD (attrNames (b .vattrs)) attribute [])
+
+-- the value of a relationship's attribute, both by their numbers
+unfoldable pub relationshipValue : Book → ℕ → ℕ → Maybe Value
+relationshipValue b relationship attribute = valueIn (relEntries b relationship) (getD (attrNames (b .eattrs)) attribute [])

@@ -1,0 +1,26 @@
+-- `tables::stores::clear_chains` meets its contract. Assumes nothing.
+use Rattle.chains.specs.Chains.{cleared}
+use Rattle.book_tables.specs.Layout.{fromHeads, keys}
+use Rattle.book_tables.specs.Stores.{withoutChains}
+use Prim.Native.Nat.{ℕ}
+use mathlib.Core.List.{List}
+use mathlib.Core.Path.{ap, _∙_}
+use borrow.Author.Needs.{needs}
+use Rattle.book_tables.proofs.stores.clear_chains.Statement.{statement}
+use Rattle.book_tables.proofs.stores.clear_chains.Tie as tie
+
+clear-requires : tie.Need-clear-requires
+clear-requires c κs = search needs
+
+clear-requires-2 : tie.Need-clear-requires-2
+clear-requires-2 c κs = search needs
+
+same-length : tie.Need-same-length
+same-length c = search needs
+
+returns : tie.Need-returns
+unfolding withoutChains
+returns c = c .before .before .clear2 .ensures ∙ ap (λ (w : List ℕ). cleared w fromHeads keys) (c .before .before .before .before .before .before .clear .ensures)
+
+pub clear-chains-spec : {M : Type 1} → statement M
+clear-chains-spec = tie.close (tie.spec clear-requires clear-requires-2 same-length returns)

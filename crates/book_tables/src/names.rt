@@ -1,0 +1,97 @@
+// Looking names up in the tables: the number of a name, or how many there are where it is none of them.
+ghost use mathlib.Core.Path.{_≡_};
+ghost use Prim.Native.Nat.{_+_, _/_, _%_, _≤_, _<_};
+ghost use lib.ListN.{length};
+ghost use Rattle.model.specs.Bytes.{same};
+ghost use Rattle.model.specs.Names.{place};
+ghost use Rattle.model.specs.Book.{attrNames, nodeNames};
+ghost use Rattle.chains.specs.Slots.{slotOf};
+ghost use Rattle.book_tables.specs.View.{wordAt, nameIn, namesAt, bookAt};
+ghost use Rattle.book_tables.specs.Fits.{Inside, NamesFit, Fits};
+use crate::BookCounts;
+use crate::EATTR_NAMES;
+use crate::LABEL_NAMES;
+use crate::NODE_HEADS;
+use crate::NODE_LINKS;
+use crate::NODE_NAMES;
+use crate::VATTR_NAMES;
+
+// A name's word is its start times 32 and its length.
+pub const NAME_LENGTHS: usize = 32;
+
+// The number of a name among those counted at an offset.
+pub fn find_name(text: &[u8], words: &[u32], offset: usize, count: usize, name: &[u8]) -> usize
+    requires { ⌜ NamesFit (now text) (now words) offset count × (offset + count ≤ length (now words)) ⌝ }
+    ensures { λ r. ⌜ r ≡ place (now (name .entry)) (namesAt (now (text .entry)) (now (words .entry)) offset count) ⌝ }
+{
+    let mut i = 0;
+    while i < count {
+        if is_named(text, words, offset + i, name) {
+            return i;
+        }
+        i += 1;
+    }
+    count
+}
+
+// The number of a node's attribute.
+pub fn find_vattr(text: &[u8], words: &[u32], counts: BookCounts, name: &[u8]) -> usize
+    requires { ⌜ Fits (now text) (now words) counts ⌝ }
+    ensures { λ r. ⌜ r ≡ place (now (name .entry)) (attrNames (bookAt (now (text .entry)) (now (words .entry)) counts .vattrs)) ⌝ }
+{
+    find_name(text, words, VATTR_NAMES, counts.vattrs, name)
+}
+
+// The number of a relationship's attribute.
+pub fn find_eattr(text: &[u8], words: &[u32], counts: BookCounts, name: &[u8]) -> usize
+    requires { ⌜ Fits (now text) (now words) counts ⌝ }
+    ensures { λ r. ⌜ r ≡ place (now (name .entry)) (attrNames (bookAt (now (text .entry)) (now (words .entry)) counts .eattrs)) ⌝ }
+{
+    find_name(text, words, EATTR_NAMES, counts.eattrs, name)
+}
+
+// The number of a label.
+pub fn find_label(text: &[u8], words: &[u32], counts: BookCounts, name: &[u8]) -> usize
+    requires { ⌜ Fits (now text) (now words) counts ⌝ }
+    ensures { λ r. ⌜ r ≡ place (now (name .entry)) (bookAt (now (text .entry)) (now (words .entry)) counts .labels) ⌝ }
+{
+    find_name(text, words, LABEL_NAMES, counts.labels, name)
+}
+
+// The number of a node.
+pub fn find_node(text: &[u8], words: &[u32], counts: BookCounts, name: &[u8]) -> usize
+    requires { ⌜ Fits (now text) (now words) counts ⌝ }
+    ensures { λ r. ⌜ r ≡ place (now (name .entry)) (nodeNames (bookAt (now (text .entry)) (now (words .entry)) counts)) ⌝ }
+{
+    let count = counts.nodes;
+    let mut entry = chains::first(words, NODE_HEADS, chains::slots::slot(name));
+    while 0 < entry {
+        let node = entry - 1;
+        if is_named(text, words, NODE_NAMES + node, name) {
+            return node;
+        }
+        entry = chains::next(words, NODE_LINKS, node);
+    }
+    count
+}
+
+// Whether the name's word at a place says this name.
+fn is_named(text: &[u8], words: &[u32], at: usize, name: &[u8]) -> bool
+    requires { ⌜ (at < length (now words)) × Inside (now text) (wordAt (now words) at / 32) (wordAt (now words) at % 32) ⌝ }
+    ensures { λ r. ⌜ r ≡ same (now (name .entry)) (nameIn (now (text .entry)) (wordAt (now (words .entry)) at)) ⌝ }
+{
+    let word = words[at] as usize;
+    let start = word / NAME_LENGTHS;
+    let end = start + word % NAME_LENGTHS;
+    text::compare::same_bytes(name, &text[start..end])
+}
+
+// The slot of the name that a word says.
+pub fn slot_of(text: &[u8], word: u32) -> usize
+    requires { ⌜ Inside (now text) (word / 32) (word % 32) ⌝ }
+    ensures { λ r. ⌜ r ≡ slotOf (nameIn (now (text .entry)) word) ⌝ }
+{
+    let start = word as usize / NAME_LENGTHS;
+    let end = start + word as usize % NAME_LENGTHS;
+    chains::slots::slot(&text[start..end])
+}

@@ -1,0 +1,143 @@
+-- The words hold the woven pattern of the texts so far: of the query alone, and with one category more. Assumes nothing.
+use Prim.Native.Nat.{ℕ, _+_, _-_, _≤_, _<_}
+use mathlib.Core.Path.{_≡_, sym, ap, subst, _∙_}
+use mathlib.Core.Logic.{_≢_}
+use mathlib.Core.List.{List, [], _∷_, _++_, map, append-assoc}
+use mathlib.Core.Bool.{true}
+use native.Mathlib.Omega.{arith}
+use lib.ListN.{length, take, drop, length-append, length-drop}
+use lib.Seq.{getD-drop, length-take-le, take-all}
+use Rattle.bits.specs.Word.{bit}
+use Rattle.model.specs.Bytes.{Bytes}
+use Rattle.model.specs.Book.{Book}
+use Rattle.model.specs.Pattern.{patternOf}
+use Rattle.model.specs.Graph.{Each}
+use Rattle.model.specs.Weave.{Asked, weave, wovenFault}
+use Rattle.model.specs.Answers.{partOf, patternIn}
+use Rattle.model.specs.declared.Pattern.{Pattern}
+use Rattle.book_tables.specs.declared.BookCounts.{BookCounts}
+use Rattle.book_tables.specs.View.{bookAt, wordAt, nameIn, nameOf as nameNumbered, namesAt}
+use Rattle.book_tables.proofs.ListedLaws.{listed-same}
+use Rattle.rules_tables.specs.declared.RulesCounts.{RulesCounts}
+use Rattle.rules_tables.specs.Layout.{actorCountAt, actorsFrom, policyAt}
+use Rattle.rules_tables.specs.View.{actorsAt, lowerSet, treeOf, policyText, rulesAt}
+use Rattle.rules_tables.specs.Enforced.{policyPlace, enforcedBelow}
+use Rattle.woven_tables.specs.declared.WovenCounts.{WovenCounts}
+use Rattle.woven_tables.specs.Tables.{textOf, wovenAt, actorsAt as actorsIn}
+use Rattle.model.specs.PlainData.{PartsWithin}
+use Rattle.weave.specs.declared.Added.the-variants.{Woven, Passed}
+use Rattle.weave.specs.Adding.{noCounts, TextAdded}
+use Rattle.weave.proofs.OneMore.{Sound}
+use Rattle.weave.proofs.Parts.{pattern-in-front}
+use Rattle.weave.proofs.Whole.{none-woven, text-held, text-passed}
+use Rattle.weave.proofs.Parts.{text-rules}
+use Rattle.query.specs.PatternRead.{PatternRead}
+use Rattle.enforce.specs.Texts.{queryAsked, policyAsked, textsBelow}
+use Rattle.enforce.specs.OneNamed.{Declared}
+use Rattle.enforce.specs.Ready.{TextsClear, Held}
+use Rattle.enforce.specs.Woven.{LimitPassed}
+use Rattle.enforce.proofs.DeclaredLaws.{none-declared, text-declared}
+use Rattle.enforce.proofs.TextLaws.{with-policy, policy-text, texts-rest, some-text}
+use Rattle.enforce.proofs.ClearLaws.{query-tree, texts-sound, texts-sound-below}
+
+-- the actors of a category, from their first word on
+pub own-actors : (rules : Bytes) (words : List ℕ) (category : ℕ)
+    → actorsIn rules (take (length words - actorsFrom category) (drop (actorsFrom category) words)) (wordAt words (actorCountAt category)) ≡ actorsAt rules words category
+unfolding actorsIn actorsAt namesAt nameNumbered
+own-actors rules words category =
+    ap (λ z. actorsIn rules z (wordAt words (actorCountAt category))) (take-all (length words - actorsFrom category) (drop (actorsFrom category) words) (simp length-drop (omega arith)))
+    ∙ listed-same _ _ (wordAt words (actorCountAt category)) (λ i h. ap (nameIn rules) (getD-drop (actorsFrom category) words i 0))
+
+-- the part of the rules that is a policy's text
+pub policy-part : (rules : Bytes) (words : List ℕ) (i : ℕ)
+    → take (wordAt words (policyAt i + 1) + wordAt words (policyAt i + 2) - wordAt words (policyAt i + 1)) (drop (wordAt words (policyAt i + 1)) rules) ≡ policyText rules words i
+unfolding policyText partOf
+policy-part rules words i =
+    let e : wordAt words (policyAt i + 1) + wordAt words (policyAt i + 2) - wordAt words (policyAt i + 1) ≡ wordAt words (policyAt i + 2) = omega arith in
+    ap (λ n. take n (drop (wordAt words (policyAt i + 1)) rules)) e
+
+module _ (book : Bytes) (words : List ℕ) (k : BookCounts) (query rules : Bytes) (rulesWords : List ℕ) (rc : RulesCounts) (category : ℕ) (clear : TextsClear book words k query rules rulesWords rc category) where
+  abbrev b : Book
+  b = bookAt book words k
+
+  abbrev below : ℕ → List Asked
+  below m = textsBelow query rules rulesWords rc category m
+
+  -- the query is woven, or passes a limit
+  module _ (p : Pattern) (read : PatternRead b k query p) (old new : List ℕ) (c : WovenCounts) (none : c ≡ noCounts) where
+    query-pattern : patternIn b (drop 0 (textOf query rules 0)) p ≡ patternOf (treeOf query)
+    unfolding textOf
+    query-pattern = read .is (treeOf query) (query-tree book words k query rules rulesWords rc category clear)
+
+    pub query-held : (n : WovenCounts) → TextAdded query rules (actorsAt rules rulesWords category) 0 0 p old new c (Woven n) → Held b k query rules rulesWords rc category 0 new n
+    unfolding textsBelow enforcedBelow
+    query-held n added = record {
+      kept = added .0;
+      held = text-held b query rules [] (queryAsked query rules rulesWords category) 0 p old new c tt (ap (wovenAt b query rules old) none ∙ none-woven b query rules old) query-pattern n added;
+      declared = text-declared k query rules (actorsAt rules rulesWords category) 0 0 p old new c n (read .fits) (subst (Declared k query rules old) (sym none) (none-declared k query rules old)) added;
+    }
+
+    pub query-passed : TextAdded query rules (actorsAt rules rulesWords category) 0 0 p old new c Passed → LimitPassed query rules rulesWords rc category
+    unfolding textsBelow
+    query-passed added ids =
+        text-passed b query rules [] (queryAsked query rules rulesWords category) 0 p old new c tt (ap (wovenAt b query rules old) none ∙ none-woven b query rules old) query-pattern added
+        (map (policyAsked (rulesAt rules rulesWords rc)) (enforcedBelow rules rulesWords rc category (rc .categories))) (texts-sound book words k query rules rulesWords rc category clear) ids
+
+  -- a category that adds no text
+  pub held-on : (m count : ℕ) (woven : List ℕ) (c : WovenCounts) → below m ≡ below (m + 1) → Held b k query rules rulesWords rc category m woven c → count ≡ length (below m)
+      → Held b k query rules rulesWords rc category (m + 1) woven c × (count ≡ length (below (m + 1)))
+  held-on m count woven c e held many = (record { kept = held .kept; held = held .held ∙ ap weave e; declared = held .declared }, many ∙ ap length e)
+
+  -- a category whose policy is woven, or passes a limit
+  module _ (m : ℕ) (low : m < rc .categories) (enforced : bit (lowerSet rulesWords category) m ≡ true) (i : ℕ) (its : i ≡ policyPlace rulesWords rc m) (there : i < rc .policies) where
+    abbrev start : ℕ
+    start = wordAt rulesWords (policyAt i + 1)
+
+    abbrev size : ℕ
+    size = wordAt rulesWords (policyAt i + 2)
+
+    abbrev own : Asked
+    own = record { text = treeOf (policyText rules rulesWords i); actors = actorsAt rules rulesWords m }
+
+    one-more : below (m + 1) ≡ below m ++ (own ∷ [])
+    one-more =
+        let found = subst (λ z. z < rc .policies) its there in
+        with-policy query rules rulesWords rc category m enforced found
+        ∙ ap (λ z. below m ++ (z ∷ [])) (policy-text query rules rulesWords rc (clear .rules-fit) m low found ∙ ap (λ z. let a : Asked = record { text = treeOf (policyText rules rulesWords z); actors = actorsAt rules rulesWords m } in a) (sym its))
+
+    module _ (p : Pattern) (read : PatternRead b k (policyText rules rulesWords i) p) where
+      policy-pattern : (j : ℕ) → j ≢ 0 → patternIn b (drop start (textOf query rules j)) p ≡ patternOf (treeOf (policyText rules rulesWords i))
+      unfolding policyText partOf
+      policy-pattern j some =
+          let inside : start + size ≤ length rules = clear .rules-fit .policies i there .inside in
+          let long : length (take size (drop start rules)) ≡ size = length-take-le size (drop start rules) (omega (arith, length-drop start rules)) in
+          ap (λ t. patternIn b (drop start t) p) (text-rules query rules j some)
+          ∙ sym (pattern-in-front (drop start rules) size b p (subst (λ n. PartsWithin n p) long (read .parts)))
+          ∙ read .is (treeOf (policyText rules rulesWords i)) (clear .rules-fit .policies i there .is-query)
+
+      module _ (count : ℕ) (many : count ≡ length (below m)) (old new : List ℕ) (c : WovenCounts) (held : Held b k query rules rulesWords rc category m old c) where
+        sound : Each Sound (below m)
+        sound = texts-sound-below book words k query rules rulesWords rc category clear m (omega arith)
+
+        is-pattern : patternIn b (drop start (textOf query rules (length (below m)))) p ≡ patternOf (own .text)
+        is-pattern = policy-pattern (length (below m)) (some-text query rules rulesWords rc category m)
+
+        pub policy-held : (n : WovenCounts) → TextAdded query rules (actorsAt rules rulesWords m) count start p old new c (Woven n)
+            → Held b k query rules rulesWords rc category (m + 1) new n × (count + 1 ≡ length (below (m + 1)))
+        policy-held n added =
+            let counted : TextAdded query rules (own .actors) (length (below m)) start p old new c (Woven n) = subst (λ j. TextAdded query rules (own .actors) j start p old new c (Woven n)) many added in (
+              record {
+                kept = added .0;
+                held = text-held b query rules (below m) own start p old new c sound (held .held) is-pattern n counted ∙ ap weave (sym one-more);
+                declared = text-declared k query rules (own .actors) count start p old new c n (read .fits) (held .declared) added;
+              },
+              omega (arith, ap length one-more, length-append (below m) (own ∷ [])),
+            )
+
+        pub policy-passed : TextAdded query rules (actorsAt rules rulesWords m) count start p old new c Passed → LimitPassed query rules rulesWords rc category
+        policy-passed added ids =
+            let counted : TextAdded query rules (own .actors) (length (below m)) start p old new c Passed = subst (λ j. TextAdded query rules (own .actors) j start p old new c Passed) many added in
+            let rest = texts-rest query rules rulesWords rc category (m + 1) (omega arith) in
+            let whole : below (rc .categories) ≡ below m ++ (own ∷ rest .0) = rest .1 ∙ ap (λ z. z ++ rest .0) one-more ∙ append-assoc (below m) (own ∷ []) (rest .0) in
+            ap (λ z. wovenFault (weave z) ids) whole
+            ∙ text-passed b query rules (below m) own start p old new c sound (held .held) is-pattern counted (rest .0) (subst (Each Sound) whole (texts-sound book words k query rules rulesWords rc category clear)) ids

@@ -1,0 +1,72 @@
+-- What weaving the asked texts may take for granted.
+use Prim.Native.Nat.{ℕ, _<_, _≤_}
+use mathlib.Core.Path.{_≡_}
+use mathlib.Core.List.{List}
+use lib.ListN.{length}
+use Rattle.model.specs.Bytes.{Bytes}
+use Rattle.model.specs.Refusal.{accepted}
+use Rattle.model.specs.Book.{Book}
+use Rattle.model.specs.QueryText.{QueryText}
+use Rattle.model.specs.ReadQuery.{readQuery}
+use Rattle.model.specs.ReadRules.{readRules}
+use Rattle.model.specs.Weave.{weave}
+use Rattle.model.specs.declared.Pattern.{Pattern}
+use Rattle.model.specs.declared.Identity.{Identity as IdentityData}
+use Rattle.book_tables.specs.declared.BookCounts.{BookCounts}
+use Rattle.book_tables.specs.View.{bookAt}
+use Rattle.book_tables.specs.Fits.{Fits}
+use Rattle.rules_tables.specs.declared.RulesCounts.{RulesCounts}
+use Rattle.rules_tables.specs.View.{rulesAt}
+use Rattle.rules_tables.specs.Fits.{Fits as RulesFit}
+use Rattle.woven_tables.specs.declared.WovenCounts.{WovenCounts}
+use Rattle.woven_tables.specs.Tables.{wovenAt}
+use Rattle.model.specs.PlainData.{PatternFits}
+use Rattle.weave.specs.Adding.{Kept}
+use Rattle.weave.specs.Identities.{IdentitiesReady}
+use Rattle.enforce.specs.declared.TextPlace.{TextPlace}
+use Rattle.query.specs.PatternRead.{PatternRead}
+use Rattle.enforce.specs.Texts.{textsBelow}
+use Rattle.enforce.specs.OneNamed.{Declared}
+
+-- book and rules are in their words, and rules and query are accepted
+pub record TextsClear (book : Bytes) (words : List ℕ) (k : BookCounts) (query rules : Bytes) (rulesWords : List ℕ) (rc : RulesCounts) (category : ℕ) : Type 0 where
+  pub fits : Fits book words k
+  pub rules-fit : RulesFit rules rulesWords rc
+  pub rules-read : readRules (bookAt book words k) rules ≡ accepted (rulesAt rules rulesWords rc)
+  pub tree : QueryText
+  pub query-read : readQuery (bookAt book words k) query ≡ accepted tree
+  pub counted : category < rc .categories
+
+-- what weaving all texts asks
+pub record AskedReady (book : Bytes) (words : List ℕ) (k : BookCounts) (query : Bytes) (p : Pattern) (rules : Bytes) (rulesWords : List ℕ) (rc : RulesCounts) (category : ℕ)
+    (identities : List IdentityData) (count : ℕ) (woven : List ℕ) : Type 0 where
+  pub texts : TextsClear book words k query rules rulesWords rc category
+  pub pattern : PatternRead (bookAt book words k) k query p
+  pub identified : IdentitiesReady identities count
+  pub room : 512 ≤ length woven
+
+-- what weaving one text asks
+pub record TextReady (query rules : Bytes) (rulesWords : List ℕ) (rc : RulesCounts) (t : TextPlace) (p : Pattern) (woven : List ℕ) (c : WovenCounts) : Type 0 where
+  pub rules-fit : RulesFit rules rulesWords rc
+  pub counted : t .category < rc .categories
+  pub kept : Kept query rules woven c
+  pub few-texts : t .number < 32
+  pub fits : PatternFits (t .base) p
+
+-- the words hold the woven pattern of the query and the enforced policies of the categories below m
+pub record Held (b : Book) (k : BookCounts) (query rules : Bytes) (rulesWords : List ℕ) (rc : RulesCounts) (category m : ℕ) (woven : List ℕ) (c : WovenCounts) : Type 0 where
+  pub kept : Kept query rules woven c
+  pub held : wovenAt b query rules woven c ≡ weave (textsBelow query rules rulesWords rc category m)
+  pub declared : Declared k query rules woven c
+
+-- what weaving the policies asks: the query is woven
+pub record PoliciesReady (book : Bytes) (words : List ℕ) (k : BookCounts) (query rules : Bytes) (rulesWords : List ℕ) (rc : RulesCounts) (category : ℕ) (woven : List ℕ) (c : WovenCounts) : Type 0 where
+  pub texts : TextsClear book words k query rules rulesWords rc category
+  pub held : Held (bookAt book words k) k query rules rulesWords rc category 0 woven c
+
+-- what weaving the policy of category m asks: those of the categories below are woven, so many texts with the query
+pub record CategoryReady (book : Bytes) (words : List ℕ) (k : BookCounts) (query rules : Bytes) (rulesWords : List ℕ) (rc : RulesCounts) (category m count : ℕ) (woven : List ℕ) (c : WovenCounts) : Type 0 where
+  pub texts : TextsClear book words k query rules rulesWords rc category
+  pub low : m < rc .categories
+  pub many : count ≡ length (textsBelow query rules rulesWords rc category m)
+  pub held : Held (bookAt book words k) k query rules rulesWords rc category m woven c

@@ -1,0 +1,69 @@
+use mathlib.Core.Path.{_≡_, ap}
+use Prim.Native.Nat.{_≤_, _-_}
+use lib.ListN.{length}
+use native.Mathlib.Omega.{arith}
+use Rattle.model.specs.Book.{nodeNames}
+use Rattle.book_tables.specs.View.{bookAt}
+use Rattle.query_writer.specs.Putting.{Puts}
+use Rattle.query_writer.proofs.PuttingLaws.{puts-same, puts-keeps-length}
+use Rattle.list_lines.specs.Printing.{namesText}
+use Rattle.list_lines.proofs.PrintingLaws.{names-more, no-names}
+use borrow.Author.Needs.{needs}
+use Rattle.list_lines.proofs.put_names.Statement.{statement}
+use Rattle.list_lines.proofs.put_names.Tie as tie
+use Rattle.list_lines.proofs.put_names.Reads as reads
+use Rattle.list_lines.proofs.put_names.Lts as lts
+use Rattle.list_lines.proofs.put_node.Reads as put-node-reads
+
+abbrev Inv-loop : tie.InvT-loop
+Inv-loop book words counts row out₀ at next₀ i₀ out next i = (i ≤ length row) × Puts out₀ at (namesText (nodeNames (bookAt book words counts)) row i) out next
+
+abbrev μ-loop : tie.MeasureT-loop
+μ-loop book words counts row out₀ at next₀ i₀ out next i = length row - i
+
+loop-holds : tie.Need-loop-holds Inv-loop μ-loop
+loop-holds c = let a = c .before .before .before .before .args in (omega arith, no-names (nodeNames (bookAt (a .book .now) (a .words .now) (a .counts))) (a .row .now) (a .out .now) (a .at))
+
+mul-put-node : tie.Need-mul-put-node Inv-loop μ-loop
+mul-put-node c = search needs
+
+shared-slice-read-put-node : tie.Need-shared-slice-read-put-node Inv-loop μ-loop
+shared-slice-read-put-node c = search needs
+
+cast-put-node : tie.Need-cast-put-node Inv-loop μ-loop
+cast-put-node c = omega (arith, c .shared-slice-known4 .given (c .before .before .loop .i))
+
+put-node-requires : tie.Need-put-node-requires Inv-loop μ-loop
+put-node-requires c κs = search needs
+
+add-i : tie.Need-add-i Inv-loop μ-loop
+add-i c = search needs
+
+loop-less : tie.Need-loop-less Inv-loop μ-loop
+loop-less c = omega arith
+
+loop-again : tie.Need-loop-again Inv-loop μ-loop
+loop-again c = let a = c .before .before .before .before .before .before .before .before .before .before .before .args in (omega arith, names-more (nodeNames (bookAt (a .book .now) (a .words .now) (a .counts))) (a .row .now) (c .before .before .before .before .before .before .loop .i) (omega arith) (c .before .before .before .before .before .before .loop .inv .1) (c .before .before .put-node .ensures))
+
+same-length : tie.Need-same-length Inv-loop μ-loop
+same-length c = puts-keeps-length (c .before .loop .inv .1)
+
+returns : tie.Need-returns Inv-loop μ-loop
+returns c = let a = c .before .before .before .before .before .before .args in let e : c .before .loop .i ≡ length (a .row .now) = omega arith in puts-same (ap (namesText (nodeNames (bookAt (a .book .now) (a .words .now) (a .counts))) (a .row .now)) e) (c .before .loop .inv .1)
+
+pub put-names-spec : {M : Type 1} → statement M
+put-names-spec =
+    tie.close
+    (tie.spec
+    Inv-loop
+    μ-loop
+    loop-holds
+    mul-put-node
+    shared-slice-read-put-node
+    cast-put-node
+    put-node-requires
+    add-i
+    loop-less
+    loop-again
+    same-length
+    returns)

@@ -1,0 +1,67 @@
+-- The steps of the readers of names: the head of a list, the end of its names, one name among the others.
+use Prim.Native.Nat.{ℕ, _-_}
+use mathlib.Core.Path.{_≡_, refl, sym, ap, _∙_}
+use mathlib.Core.List.{List, [], _∷_}
+use mathlib.Core.Bool.{Bool, true, false}
+use Rattle.model.specs.Bytes.{Bytes, same}
+use Rattle.model.specs.Choice.{pick}
+use Rattle.model.specs.Lists.{any}
+use Rattle.model.specs.Names.{mem, twice}
+use Rattle.model.specs.Answers.{partOf}
+use Rattle.text.specs.declared.End.{End}
+use Rattle.text.specs.declared.End.the-variants as end
+use Rattle.items.specs.declared.Piece.{Piece}
+use Rattle.items.specs.declared.Piece.the-variants as piece
+use Rattle.items.specs.Pieces.{itemPlace, afterEnd, wordNext, openNext}
+pub use Rattle.items.proofs.PlacedLaws.{placed-at}
+use Rattle.name_lists.specs.Names.{headPiece, headedAt}
+
+-- the head of the list that follows
+module _ (head s : Bytes) (i : ℕ) where
+  pub headed-none : end.None ≡ itemPlace (openNext s i) → end.None ≡ headedAt head s i
+  unfolding headedAt afterEnd
+  headed-none e = ap (λ (o : End). afterEnd o (λ p. headPiece head s (wordNext 2 true s p)) end.None) e
+
+  module _ (p : ℕ) (e : end.At p ≡ itemPlace (openNext s i)) where
+    headed-piece : (r : Piece) → r ≡ wordNext 2 true s p → headPiece head s r ≡ headedAt head s i
+    unfolding headedAt afterEnd
+    headed-piece r h = ap (headPiece head s) h ∙ ap (λ (o : End). afterEnd o (λ p. headPiece head s (wordNext 2 true s p)) end.None) e
+
+    pub headed-no-word : piece.None ≡ wordNext 2 true s p → end.None ≡ headedAt head s i
+    unfolding headPiece
+    headed-no-word h = headed-piece piece.None h
+
+    pub headed-is : {a b : ℕ} → piece.At a b ≡ wordNext 2 true s p → same (partOf s a (b - a)) head ≡ true → end.At b ≡ headedAt head s i
+    unfolding headPiece
+    headed-is {a} {b} h t = sym (ap (λ (x : Bool). pick x (end.At b) end.None) t) ∙ headed-piece (piece.At a b) h
+
+    pub headed-other : {a b : ℕ} → piece.At a b ≡ wordNext 2 true s p → same (partOf s a (b - a)) head ≡ false → end.None ≡ headedAt head s i
+    unfolding headPiece
+    headed-other {a} {b} h t = sym (ap (λ (x : Bool). pick x (end.At b) end.None) t) ∙ headed-piece (piece.At a b) h
+
+-- a name in front of others
+module _ (w n : Bytes) (ns : List Bytes) where
+  pub mem-found : same w n ≡ true → mem w (n ∷ ns) ≡ true
+  unfolding mem any
+  mem-found e = rw e
+
+  pub mem-other : same w n ≡ false → mem w (n ∷ ns) ≡ mem w ns
+  unfolding mem any
+  mem-other e = rw e
+
+module _ (n : Bytes) (ns : List Bytes) where
+  pub twice-found : mem n ns ≡ true → twice (n ∷ ns) ≡ true
+  unfolding twice
+  twice-found e = rw e
+
+  pub twice-other : mem n ns ≡ false → twice (n ∷ ns) ≡ twice ns
+  unfolding twice
+  twice-other e = rw e
+
+pub mem-none : (w : Bytes) → mem w [] ≡ false
+unfolding mem any
+mem-none w = refl
+
+pub twice-none : twice [] ≡ false
+unfolding twice
+twice-none = refl

@@ -1,0 +1,76 @@
+-- `lists::places::headed` meets its contract. Assumes nothing.
+use mathlib.Core.Path.{sym, ap, _∙_}
+use native.Mathlib.Omega.{arith}
+use borrow.Author.Needs.{needs}
+use Rattle.model.specs.Answers.{partOf}
+use Rattle.name_lists.proofs.Heads.{placed-at, headed-none, headed-no-word, headed-is, headed-other}
+use Rattle.items.specs.Pieces.{itemPlace}
+use Rattle.name_lists.proofs.places.headed.Statement.{statement}
+use Rattle.name_lists.proofs.places.headed.Tie as tie
+
+open-list-requires : tie.Need-open-list-requires
+open-list-requires c κs = search needs
+
+item-place-requires : tie.Need-item-place-requires
+item-place-requires c κs = search needs
+
+enum-known-i : tie.Need-enum-known-i
+enum-known-i c = search needs
+
+enum-told : tie.Need-enum-told
+enum-told c = search needs
+
+returns : tie.Need-returns
+returns c = headed-none (c .before .before .before .before .before .before .args .head .now) (c .before .before .before .before .before .before .args .s .now) (c .before .before .before .before .before .before .args .from) (sym (c .enum-told .given .1) ∙ c .before .before .item-place .ensures ∙ ap itemPlace (c .before .before .before .open-list .ensures))
+
+next-word-requires : tie.Need-next-word-requires
+next-word-requires c κs = search needs
+
+enum-known-p : tie.Need-enum-known-p
+enum-known-p c = search needs
+
+enum-told-2 : tie.Need-enum-told-2
+enum-told-2 c = search needs
+
+returns-2 : tie.Need-returns-2
+returns-2 c = headed-no-word (c .before .before .before .before .before .before .before .before .before .before .args .head .now) (c .before .before .before .before .before .before .before .before .before .before .args .s .now) (c .before .before .before .before .before .before .before .before .before .before .args .from) _ (sym (c .before .before .before .before .i .given .1) ∙ c .before .before .before .before .before .before .item-place .ensures ∙ ap itemPlace (c .before .before .before .before .before .before .before .open-list .ensures)) (sym (c .enum-told2 .given .1) ∙ c .before .before .next-word .ensures .is)
+
+sub-same-bytes : tie.Need-sub-same-bytes
+sub-same-bytes c = let h = placed-at _ _ _ (c .before .p .given .1) (c .before .before .before .next-word .ensures .placed) in omega (arith, h .some)
+
+part-same-bytes-start : tie.Need-part-same-bytes-start
+part-same-bytes-start c = let h = placed-at _ _ _ (c .before .p .given .1) (c .before .before .before .next-word .ensures .placed) in omega (arith, h .some)
+
+part-same-bytes-end : tie.Need-part-same-bytes-end
+part-same-bytes-end c = let h = placed-at _ _ _ (c .before .p .given .1) (c .before .before .before .next-word .ensures .placed) in omega (arith, h .inside)
+
+same-bytes-requires : tie.Need-same-bytes-requires
+same-bytes-requires c κs = search needs
+
+returns-3 : tie.Need-returns-3
+unfolding partOf
+returns-3 c = headed-is (c .before .before .before .before .before .before .before .before .before .before .before .before .before .before .args .head .now) (c .before .before .before .before .before .before .before .before .before .before .before .before .before .before .args .s .now) (c .before .before .before .before .before .before .before .before .before .before .before .before .before .before .args .from) _ (sym (c .before .before .before .before .before .before .before .before .i .given .1) ∙ c .before .before .before .before .before .before .before .before .before .before .item-place .ensures ∙ ap itemPlace (c .before .before .before .before .before .before .before .before .before .before .before .open-list .ensures)) (sym (c .before .before .before .before .p .given .1) ∙ c .before .before .before .before .before .before .next-word .ensures .is) (sym (c .before .same-bytes .ensures) ∙ c .if1 .taken)
+
+returns-4 : tie.Need-returns-4
+unfolding partOf
+returns-4 c = headed-other (c .before .before .before .before .before .before .before .before .before .before .before .before .before .before .args .head .now) (c .before .before .before .before .before .before .before .before .before .before .before .before .before .before .args .s .now) (c .before .before .before .before .before .before .before .before .before .before .before .before .before .before .args .from) _ (sym (c .before .before .before .before .before .before .before .before .i .given .1) ∙ c .before .before .before .before .before .before .before .before .before .before .item-place .ensures ∙ ap itemPlace (c .before .before .before .before .before .before .before .before .before .before .before .open-list .ensures)) (sym (c .before .before .before .before .p .given .1) ∙ c .before .before .before .before .before .before .next-word .ensures .is) (sym (c .before .same-bytes .ensures) ∙ c .if1 .left)
+
+pub headed-spec : {M : Type 1} → statement M
+headed-spec =
+    tie.close
+    (tie.spec
+    open-list-requires
+    item-place-requires
+    enum-known-i
+    enum-told
+    returns
+    next-word-requires
+    enum-known-p
+    enum-told-2
+    returns-2
+    sub-same-bytes
+    part-same-bytes-start
+    part-same-bytes-end
+    same-bytes-requires
+    returns-3
+    returns-4)

@@ -1,0 +1,80 @@
+-- `lists::scans::has_again` meets its contract. Assumes nothing.
+use Prim.Native.Nat.{_-_}
+use mathlib.Core.Path.{sym, _∙_}
+use native.Mathlib.Omega.{arith}
+use lib.ListN.{length}
+use borrow.Author.Needs.{needs}
+use Rattle.model.specs.Answers.{partOf}
+use Rattle.model.specs.Names.{twice}
+use Rattle.name_lists.proofs.Heads.{placed-at, twice-found, twice-other, twice-none}
+use Rattle.name_lists.proofs.Behind.{left-start, left-next, left-found, left-done, left-over}
+use Rattle.name_lists.specs.Names.{Left}
+use Rattle.name_lists.proofs.scans.has_again.Statement.{statement}
+use Rattle.name_lists.proofs.scans.has_again.Tie as tie
+
+abbrev Inv-loop : tie.InvT-loop
+Inv-loop s from i₀ i = Left twice twice s from i
+
+abbrev μ-loop : tie.MeasureT-loop
+μ-loop s from i₀ i = length s - i
+
+loop-holds : tie.Need-loop-holds Inv-loop μ-loop
+loop-holds c = left-start twice (c .before .args .s .now) (c .before .args .from)
+
+next-name-requires : tie.Need-next-name-requires Inv-loop μ-loop
+next-name-requires c κs = search needs
+
+enum-known-p : tie.Need-enum-known-p Inv-loop μ-loop
+enum-known-p c = search needs
+
+enum-told : tie.Need-enum-told Inv-loop μ-loop
+enum-told c = search needs
+
+returns : tie.Need-returns Inv-loop μ-loop
+returns c = λ x e. sym twice-none ∙ left-done twice twice (c .before .before .before .before .before .before .args .s .now) (c .before .before .before .before .before .before .args .from) (c .before .before .before .before .loop .i) (c .before .before .before .before .loop .inv) (sym (c .enum-told .given .1) ∙ c .before .before .next-name .ensures .is) x e
+
+sub-has-name : tie.Need-sub-has-name Inv-loop μ-loop
+sub-has-name c = let h = placed-at (c .before .before .before .before .before .before .before .args .s .now) (c .before .before .before .before .before .loop .i) _ (c .before .p .given .1) (c .before .before .before .next-name .ensures .placed) in omega (arith, h .some)
+
+part-has-name-start : tie.Need-part-has-name-start Inv-loop μ-loop
+part-has-name-start c = let h = placed-at (c .before .before .before .before .before .before .before .args .s .now) (c .before .before .before .before .before .loop .i) _ (c .before .p .given .1) (c .before .before .before .next-name .ensures .placed) in omega (arith, h .some)
+
+part-has-name-end : tie.Need-part-has-name-end Inv-loop μ-loop
+part-has-name-end c = let h = placed-at (c .before .before .before .before .before .before .before .args .s .now) (c .before .before .before .before .before .loop .i) _ (c .before .p .given .1) (c .before .before .before .next-name .ensures .placed) in omega (arith, h .inside)
+
+has-name-requires : tie.Need-has-name-requires Inv-loop μ-loop
+has-name-requires c κs = search needs
+
+returns-2 : tie.Need-returns-2 Inv-loop μ-loop
+unfolding partOf
+returns-2 c = left-found twice twice (c .before .before .before .before .before .before .before .before .before .before .args .s .now) (c .before .before .before .before .before .before .before .before .before .before .args .from) (c .before .before .before .before .before .before .before .before .loop .i) _ _ _ (c .before .before .before .before .before .before .before .before .loop .inv) (sym (c .before .before .before .before .p .given .1) ∙ c .before .before .before .before .before .before .next-name .ensures .is) (λ y e. twice-found _ (y .names) (sym (c .before .has-name .ensures y e) ∙ c .if1 .taken))
+
+loop-less : tie.Need-loop-less Inv-loop μ-loop
+loop-less c = let h = placed-at (c .before .before .before .before .before .before .before .before .before .before .args .s .now) (c .before .before .before .before .before .before .before .before .loop .i) _ (c .before .before .before .before .p .given .1) (c .before .before .before .before .before .before .next-name .ensures .placed) in omega (arith, h .after, h .some)
+
+loop-again : tie.Need-loop-again Inv-loop μ-loop
+unfolding partOf
+loop-again c = left-next twice twice (c .before .before .before .before .before .before .before .before .before .before .args .s .now) (c .before .before .before .before .before .before .before .before .before .before .args .from) (c .before .before .before .before .before .before .before .before .loop .i) twice _ _ (c .before .before .before .before .before .before .before .before .loop .inv) (sym (c .before .before .before .before .p .given .1) ∙ c .before .before .before .before .before .before .next-name .ensures .is) (λ y e. twice-other _ (y .names) (sym (c .before .has-name .ensures y e) ∙ c .if1 .left))
+
+returns-3 : tie.Need-returns-3 Inv-loop μ-loop
+returns-3 c = λ x e. left-over twice twice (c .before .before .before .args .s .now) (c .before .before .before .args .from) (c .before .loop .i) (c .before .loop .inv) (c .loop-test .left) x e
+
+pub has-again-spec : {M : Type 1} → statement M
+has-again-spec =
+    tie.close
+    (tie.spec
+    Inv-loop
+    μ-loop
+    loop-holds
+    next-name-requires
+    enum-known-p
+    enum-told
+    returns
+    sub-has-name
+    part-has-name-start
+    part-has-name-end
+    has-name-requires
+    returns-2
+    loop-less
+    loop-again
+    returns-3)

@@ -1,0 +1,80 @@
+-- `lists::scans::has_name` meets its contract. Assumes nothing.
+use Prim.Native.Nat.{_-_}
+use mathlib.Core.Path.{sym, _∙_}
+use native.Mathlib.Omega.{arith}
+use lib.ListN.{length}
+use borrow.Author.Needs.{needs}
+use Rattle.model.specs.Answers.{partOf}
+use Rattle.model.specs.Names.{mem}
+use Rattle.name_lists.proofs.Heads.{placed-at, mem-found, mem-other, mem-none}
+use Rattle.name_lists.proofs.Behind.{left-start, left-next, left-found, left-done, left-over}
+use Rattle.name_lists.specs.Names.{Left}
+use Rattle.name_lists.proofs.scans.has_name.Statement.{statement}
+use Rattle.name_lists.proofs.scans.has_name.Tie as tie
+
+abbrev Inv-loop : tie.InvT-loop
+Inv-loop s from name i₀ i = Left (mem name) (mem name) s from i
+
+abbrev μ-loop : tie.MeasureT-loop
+μ-loop s from name i₀ i = length s - i
+
+loop-holds : tie.Need-loop-holds Inv-loop μ-loop
+loop-holds c = left-start (mem (c .before .before .args .name .now)) (c .before .before .args .s .now) (c .before .before .args .from)
+
+next-name-requires : tie.Need-next-name-requires Inv-loop μ-loop
+next-name-requires c κs = search needs
+
+enum-known-p : tie.Need-enum-known-p Inv-loop μ-loop
+enum-known-p c = search needs
+
+enum-told : tie.Need-enum-told Inv-loop μ-loop
+enum-told c = search needs
+
+returns : tie.Need-returns Inv-loop μ-loop
+returns c = λ x e. sym (mem-none (c .before .before .before .before .before .before .before .args .name .now)) ∙ left-done (mem (c .before .before .before .before .before .before .before .args .name .now)) (mem (c .before .before .before .before .before .before .before .args .name .now)) (c .before .before .before .before .before .before .before .args .s .now) (c .before .before .before .before .before .before .before .args .from) (c .before .before .before .before .loop .i) (c .before .before .before .before .loop .inv) (sym (c .enum-told .given .1) ∙ c .before .before .next-name .ensures .is) x e
+
+sub-same-bytes : tie.Need-sub-same-bytes Inv-loop μ-loop
+sub-same-bytes c = let h = placed-at (c .before .before .before .before .before .before .before .before .args .s .now) (c .before .before .before .before .before .loop .i) _ (c .before .p .given .1) (c .before .before .before .next-name .ensures .placed) in omega (arith, h .some)
+
+part-same-bytes-start : tie.Need-part-same-bytes-start Inv-loop μ-loop
+part-same-bytes-start c = let h = placed-at (c .before .before .before .before .before .before .before .before .args .s .now) (c .before .before .before .before .before .loop .i) _ (c .before .p .given .1) (c .before .before .before .next-name .ensures .placed) in omega (arith, h .some)
+
+part-same-bytes-end : tie.Need-part-same-bytes-end Inv-loop μ-loop
+part-same-bytes-end c = let h = placed-at (c .before .before .before .before .before .before .before .before .args .s .now) (c .before .before .before .before .before .loop .i) _ (c .before .p .given .1) (c .before .before .before .next-name .ensures .placed) in omega (arith, h .inside)
+
+same-bytes-requires : tie.Need-same-bytes-requires Inv-loop μ-loop
+same-bytes-requires c κs = search needs
+
+returns-2 : tie.Need-returns-2 Inv-loop μ-loop
+unfolding partOf
+returns-2 c = left-found (mem (c .before .before .before .before .before .before .before .before .before .before .before .args .name .now)) (mem (c .before .before .before .before .before .before .before .before .before .before .before .args .name .now)) (c .before .before .before .before .before .before .before .before .before .before .before .args .s .now) (c .before .before .before .before .before .before .before .before .before .before .before .args .from) (c .before .before .before .before .before .before .before .before .loop .i) _ _ _ (c .before .before .before .before .before .before .before .before .loop .inv) (sym (c .before .before .before .before .p .given .1) ∙ c .before .before .before .before .before .before .next-name .ensures .is) (λ y e. mem-found (c .before .before .before .before .before .before .before .before .before .before .before .args .name .now) _ (y .names) (sym (c .before .same-bytes .ensures) ∙ c .if1 .taken))
+
+loop-less : tie.Need-loop-less Inv-loop μ-loop
+loop-less c = let h = placed-at (c .before .before .before .before .before .before .before .before .before .before .before .args .s .now) (c .before .before .before .before .before .before .before .before .loop .i) _ (c .before .before .before .before .p .given .1) (c .before .before .before .before .before .before .next-name .ensures .placed) in omega (arith, h .after, h .some)
+
+loop-again : tie.Need-loop-again Inv-loop μ-loop
+unfolding partOf
+loop-again c = left-next (mem (c .before .before .before .before .before .before .before .before .before .before .before .args .name .now)) (mem (c .before .before .before .before .before .before .before .before .before .before .before .args .name .now)) (c .before .before .before .before .before .before .before .before .before .before .before .args .s .now) (c .before .before .before .before .before .before .before .before .before .before .before .args .from) (c .before .before .before .before .before .before .before .before .loop .i) (mem (c .before .before .before .before .before .before .before .before .before .before .before .args .name .now)) _ _ (c .before .before .before .before .before .before .before .before .loop .inv) (sym (c .before .before .before .before .p .given .1) ∙ c .before .before .before .before .before .before .next-name .ensures .is) (λ y e. mem-other (c .before .before .before .before .before .before .before .before .before .before .before .args .name .now) _ (y .names) (sym (c .before .same-bytes .ensures) ∙ c .if1 .left))
+
+returns-3 : tie.Need-returns-3 Inv-loop μ-loop
+returns-3 c = λ x e. left-over (mem (c .before .before .before .before .args .name .now)) (mem (c .before .before .before .before .args .name .now)) (c .before .before .before .before .args .s .now) (c .before .before .before .before .args .from) (c .before .loop .i) (c .before .loop .inv) (c .loop-test .left) x e
+
+pub has-name-spec : {M : Type 1} → statement M
+has-name-spec =
+    tie.close
+    (tie.spec
+    Inv-loop
+    μ-loop
+    loop-holds
+    next-name-requires
+    enum-known-p
+    enum-told
+    returns
+    sub-same-bytes
+    part-same-bytes-start
+    part-same-bytes-end
+    same-bytes-requires
+    returns-2
+    loop-less
+    loop-again
+    returns-3)

@@ -1,0 +1,130 @@
+-- `lists::scans::has_twice_with` meets its contract. The loop's invariant: the table has the names before the place. Assumes nothing.
+use Prim.Native.Nat.{_-_}
+use mathlib.Core.Path.{_≡_, refl, sym, _∙_}
+use native.Mathlib.Omega.{arith}
+use lib.ListN.{length}
+use Rattle.model.specs.Answers.{partOf}
+use Rattle.name_lists.proofs.Heads.{placed-at}
+use Rattle.name_lists.proofs.Behind.{left-over}
+use Rattle.name_lists.proofs.Again.{MetBefore, met-start, met-done, met-again, met-more}
+use borrow.Author.Needs.{needs}
+use Rattle.name_lists.proofs.scans.has_twice_with.Statement.{statement}
+use Rattle.name_lists.proofs.scans.has_twice_with.Tie as tie
+
+abbrev Inv-loop : tie.InvT-loop
+Inv-loop s from table₀ n₀ i₀ table n i = MetBefore s table from n i × (length table ≡ length table₀)
+
+abbrev μ-loop : tie.MeasureT-loop
+μ-loop s from table₀ n₀ i₀ table n i = length s - i
+
+cleared-requires : tie.Need-cleared-requires Inv-loop μ-loop
+cleared-requires c κs = search needs
+
+loop-holds : tie.Need-loop-holds Inv-loop μ-loop
+loop-holds c =
+    let a = c .before .before .before .before .before .before .args in
+    (met-start (a .s .now) _ (a .from) _ (c .before .before .cleared .ensures (a .s .now)), refl)
+
+next-name-requires : tie.Need-next-name-requires Inv-loop μ-loop
+next-name-requires c κs = search needs
+
+enum-known-p : tie.Need-enum-known-p Inv-loop μ-loop
+enum-known-p c = search needs
+
+enum-told : tie.Need-enum-told Inv-loop μ-loop
+enum-told c = search needs
+
+same-length : tie.Need-same-length Inv-loop μ-loop
+same-length c = c .before .before .before .before .loop .inv .1 ∙ c .before .before .before .before .before .before .table .given
+
+returns : tie.Need-returns Inv-loop μ-loop
+returns c =
+    let a = c .before .before .before .before .before .before .before .before .before .before .before .args in let l = c .before .before .before .before .loop in
+    met-done (a .s .now) (l .table) (a .from) (l .n) (l .i) (l .inv .0) (sym (c .enum-told .given .1) ∙ c .before .before .next-name .ensures .is)
+
+has-again-requires : tie.Need-has-again-requires Inv-loop μ-loop
+has-again-requires c κs = search needs
+
+same-length-2 : tie.Need-same-length-2 Inv-loop μ-loop
+same-length-2 c = c .before .before .before .before .before .before .before .loop .inv .1 ∙ c .before .before .before .before .before .before .before .before .before .table .given
+
+returns-2 : tie.Need-returns-2 Inv-loop μ-loop
+returns-2 c = c .has-again .ensures
+
+sub-is-listed : tie.Need-sub-is-listed Inv-loop μ-loop
+sub-is-listed c =
+    let h = placed-at (c .before .before .before .before .before .before .before .before .before .before .before .before .before .before .args .s .now) (c .before .before .before .before .before .before .before .loop .i) _ (c .before .before .before .p .given .1) (c .before .before .before .before .before .next-name .ensures .placed) in omega (arith, h .some)
+
+part-is-listed-start : tie.Need-part-is-listed-start Inv-loop μ-loop
+part-is-listed-start c =
+    let h = placed-at (c .before .before .before .before .before .before .before .before .before .before .before .before .before .before .args .s .now) (c .before .before .before .before .before .before .before .loop .i) _ (c .before .before .before .p .given .1) (c .before .before .before .before .before .next-name .ensures .placed) in omega (arith, h .some)
+
+part-is-listed-end : tie.Need-part-is-listed-end Inv-loop μ-loop
+part-is-listed-end c =
+    let h = placed-at (c .before .before .before .before .before .before .before .before .before .before .before .before .before .before .args .s .now) (c .before .before .before .before .before .before .before .loop .i) _ (c .before .before .before .p .given .1) (c .before .before .before .before .before .next-name .ensures .placed) in omega (arith, h .inside)
+
+is-listed-requires : tie.Need-is-listed-requires Inv-loop μ-loop
+is-listed-requires c κs = c .before .before .before .before .before .before .before .before .loop .inv .0 .held .lists (c .before .before .if1 .left) .has
+
+same-length-3 : tie.Need-same-length-3 Inv-loop μ-loop
+same-length-3 c = c .before .before .before .before .before .before .before .before .before .before .loop .inv .1 ∙ c .before .before .before .before .before .before .before .before .before .before .before .before .table .given
+
+returns-3 : tie.Need-returns-3 Inv-loop μ-loop
+unfolding partOf
+returns-3 c =
+    let a = c .before .before .before .before .before .before .before .before .before .before .before .before .before .before .before .before .before .args in let l = c .before .before .before .before .before .before .before .before .before .before .loop in
+    met-again (a .s .now) (l .table) (a .from) (l .n) (l .i) (l .inv .0) _ _ (sym (c .before .before .before .before .before .before .p .given .1) ∙ c .before .before .before .before .before .before .before .before .next-name .ensures .is) (c .before .before .before .before .if1 .left) _ (c .before .is-listed .ensures) (c .if2 .taken)
+
+sub-t11 : tie.Need-sub-t11 Inv-loop μ-loop
+sub-t11 c =
+    let h = placed-at (c .before .before .before .before .before .before .before .before .before .before .before .before .before .before .before .before .before .args .s .now) (c .before .before .before .before .before .before .before .before .before .before .loop .i) _ (c .before .before .before .before .before .before .p .given .1) (c .before .before .before .before .before .before .before .before .next-name .ensures .placed) in omega (arith, h .some)
+
+with-name-requires : tie.Need-with-name-requires Inv-loop μ-loop
+with-name-requires c κs = search needs
+
+loop-less : tie.Need-loop-less Inv-loop μ-loop
+loop-less c =
+    let h = placed-at (c .before .before .before .before .before .before .before .before .before .before .before .before .before .before .before .before .before .before .before .before .before .args .s .now) (c .before .before .before .before .before .before .before .before .before .before .before .before .before .before .loop .i) _ (c .before .before .before .before .before .before .before .before .before .before .p .given .1) (c .before .before .before .before .before .before .before .before .before .before .before .before .next-name .ensures .placed) in omega (arith, h .after, h .some)
+
+loop-again : tie.Need-loop-again Inv-loop μ-loop
+unfolding partOf
+loop-again c =
+    let a = c .before .before .before .before .before .before .before .before .before .before .before .before .before .before .before .before .before .before .before .before .before .args in let l = c .before .before .before .before .before .before .before .before .before .before .before .before .before .before .loop in
+    (met-more (a .s .now) (l .table) (a .from) (l .n) (l .i) (l .inv .0) _ _ (sym (c .before .before .before .before .before .before .before .before .before .before .p .given .1) ∙ c .before .before .before .before .before .before .before .before .before .before .before .before .next-name .ensures .is) (c .before .before .before .before .before .before .before .before .if1 .left) _ (c .before .before .before .before .before .is-listed .ensures) (c .before .before .before .before .if2 .left) _ _ (c .before .before .with-name .ensures), c .before .table2 .given ∙ l .inv .1)
+
+same-length-4 : tie.Need-same-length-4 Inv-loop μ-loop
+same-length-4 c = c .before .loop .inv .1 ∙ c .before .before .before .table .given
+
+returns-4 : tie.Need-returns-4 Inv-loop μ-loop
+returns-4 c =
+    let a = c .before .before .before .before .before .before .before .before .args in let l = c .before .loop in
+    λ x e. left-over _ _ (a .s .now) (a .from) (l .i) (l .inv .0 .left) (c .loop-test .left) x e
+
+pub has-twice-with-spec : {M : Type 1} → statement M
+has-twice-with-spec =
+    tie.close
+    (tie.spec
+    Inv-loop
+    μ-loop
+    cleared-requires
+    loop-holds
+    next-name-requires
+    enum-known-p
+    enum-told
+    same-length
+    returns
+    has-again-requires
+    same-length-2
+    returns-2
+    sub-is-listed
+    part-is-listed-start
+    part-is-listed-end
+    is-listed-requires
+    same-length-3
+    returns-3
+    sub-t11
+    with-name-requires
+    loop-less
+    loop-again
+    same-length-4
+    returns-4)

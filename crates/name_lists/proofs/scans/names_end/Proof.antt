@@ -1,0 +1,82 @@
+-- `lists::scans::names_end` meets its contract.
+use Prim.Native.Nat.{_-_}
+use mathlib.Core.Bool.{false}
+use mathlib.Core.Path.{_≡_, refl, sym, _∙_}
+use native.Mathlib.Omega.{arith}
+use lib.ListN.{length}
+use Rattle.items.proofs.EndLaws.{ends-shut}
+use Rattle.name_lists.proofs.Heads.{placed-at}
+use Rattle.name_lists.proofs.Behind.{end-step, end-over, names-nowhere, names-shut, names-past}
+use Rattle.name_lists.specs.Names.{namesBehind, namesEnd}
+use borrow.Author.Needs.{needs}
+use Rattle.name_lists.proofs.scans.names_end.Statement.{statement}
+use Rattle.name_lists.proofs.scans.names_end.Tie as tie
+
+abbrev Inv-loop : tie.InvT-loop
+Inv-loop s from end i₀ i = namesEnd (namesBehind s i) ≡ namesEnd (namesBehind s from)
+
+abbrev μ-loop : tie.MeasureT-loop
+μ-loop s from end i₀ i = length s - i
+
+list-requires : tie.Need-list-requires Inv-loop μ-loop
+list-requires c κs = search needs
+
+enum-known-end : tie.Need-enum-known-end Inv-loop μ-loop
+enum-known-end c = search needs
+
+enum-told : tie.Need-enum-told Inv-loop μ-loop
+enum-told c = search needs
+
+returns : tie.Need-returns Inv-loop μ-loop
+returns c = names-nowhere (c .before .before .before .before .args .s .now) (c .before .before .before .before .args .from) (sym (c .enum-told .given .1) ∙ c .before .before .list .ensures)
+
+loop-holds : tie.Need-loop-holds Inv-loop μ-loop
+loop-holds c = refl
+
+next-name-requires : tie.Need-next-name-requires Inv-loop μ-loop
+next-name-requires c κs = search needs
+
+enum-known-q : tie.Need-enum-known-q Inv-loop μ-loop
+enum-known-q c = search needs
+
+enum-told-2 : tie.Need-enum-told-2 Inv-loop μ-loop
+enum-told-2 c = search needs
+
+only-closes-requires : tie.Need-only-closes-requires Inv-loop μ-loop
+only-closes-requires c κs = ends-shut 2 false (c .before .before .before .before .before .before .before .before .before .before .args .s .now) (c .before .before .before .before .before .before .before .before .before .before .args .from) (c .before .before .before .before .before .before .end .given .0 .0) (sym (c .before .before .before .before .before .before .end .given .1) ∙ c .before .before .before .before .before .before .before .before .list .ensures) .0
+
+returns-2 : tie.Need-returns-2 Inv-loop μ-loop
+returns-2 c = names-shut (c .before .before .before .before .before .before .before .before .before .before .before .before .args .s .now) (c .before .before .before .before .before .before .before .before .before .before .before .before .args .from) (c .before .before .before .before .before .before .before .before .end .given .0 .0) (sym (c .before .before .before .before .before .before .before .before .end .given .1) ∙ c .before .before .before .before .before .before .before .before .before .before .list .ensures) (c .before .before .before .before .before .before .loop .i) (sym (c .before .before .enum-told2 .given .1) ∙ c .before .before .before .before .next-name .ensures .is) (c .before .before .before .before .before .before .loop .inv) (sym (c .if1 .taken) ∙ c .before .only-closes .ensures)
+
+returns-3 : tie.Need-returns-3 Inv-loop μ-loop
+returns-3 c = names-past (c .before .before .before .before .before .before .before .before .before .before .before .before .args .s .now) (c .before .before .before .before .before .before .before .before .before .before .before .before .args .from) (c .before .before .before .before .before .before .before .before .end .given .0 .0) (sym (c .before .before .before .before .before .before .before .before .end .given .1) ∙ c .before .before .before .before .before .before .before .before .before .before .list .ensures) (c .before .before .before .before .before .before .loop .i) (sym (c .before .before .enum-told2 .given .1) ∙ c .before .before .before .before .next-name .ensures .is) (c .before .before .before .before .before .before .loop .inv) (sym (c .if1 .left) ∙ c .before .only-closes .ensures)
+
+loop-less : tie.Need-loop-less Inv-loop μ-loop
+loop-less c = let h = placed-at (c .before .before .before .before .before .before .before .before .before .before .before .args .s .now) (c .before .before .before .before .before .loop .i) _ (c .before .q .given .1) (c .before .before .before .next-name .ensures .placed) in omega (arith, h .after, h .some)
+
+loop-again : tie.Need-loop-again Inv-loop μ-loop
+loop-again c = end-step (c .before .before .before .before .before .before .before .before .before .before .before .args .s .now) (c .before .before .before .before .before .loop .i) (sym (c .before .q .given .1) ∙ c .before .before .before .next-name .ensures .is) ∙ c .before .before .before .before .before .loop .inv
+
+returns-4 : tie.Need-returns-4 Inv-loop μ-loop
+returns-4 c = end-over (c .before .before .before .before .before .before .before .args .s .now) (c .before .loop .i) (c .loop-test .left) ∙ c .before .loop .inv
+
+pub names-end-spec : {M : Type 1} → statement M
+names-end-spec =
+    tie.close
+    (tie.spec
+    Inv-loop
+    μ-loop
+    list-requires
+    enum-known-end
+    enum-told
+    returns
+    loop-holds
+    next-name-requires
+    enum-known-q
+    enum-told-2
+    only-closes-requires
+    returns-2
+    returns-3
+    loop-less
+    loop-again
+    returns-4)

@@ -1,0 +1,25 @@
+// The list that a head word begins.
+ghost use mathlib.Core.Path.{_≡_};
+ghost use Rattle.name_lists.specs.Names.{headedAt};
+use crate::LIST_DEPTH;
+use items::Piece;
+use items::pieces;
+use items::places;
+use text::End;
+use text::compare;
+
+// The place behind the head of the next item, if it is a list that begins with that word.
+pub fn headed(s: &[u8], from: usize, head: &[u8]) -> End
+    ensures { λ r. ⌜ r ≡ headedAt (now (head .entry)) (now (s .entry)) from ⌝ }
+{
+    let End::At(i) = pieces::item_place(pieces::open_list(s, from)) else {
+        return End::None;
+    };
+    let Piece::At(p, q) = places::next_word(s, i, true, LIST_DEPTH) else {
+        return End::None;
+    };
+    if compare::same_bytes(&s[p..q], head) {
+        return End::At(q);
+    }
+    End::None
+}

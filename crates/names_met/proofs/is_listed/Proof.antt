@@ -1,0 +1,130 @@
+-- `met::is_listed` meets its contract. The loop's invariant: no name of the slot before the entry is this one. Assumes nothing.
+use Rattle.names_met.proofs.TableLaws.{NameWalk, names-first, names-inside, names-fall, names-next, name-found, names-over}
+use Rattle.chains.proofs.SlotLaws.{slot-small}
+use Rattle.book_tables.specs.View.{wordAt}
+use Rattle.book_tables.proofs.NameLaws.{name-slice}
+use Rattle.model.specs.Bytes.{same}
+use Prim.Native.Nat.{_+_, _-_}
+use mathlib.Core.Path.{ap, _∙_}
+use native.Mathlib.Omega.{arith}
+use borrow.Author.Needs.{needs}
+use Rattle.names_met.proofs.is_listed.Statement.{statement}
+use Rattle.names_met.proofs.is_listed.Tie as tie
+
+abbrev Inv-loop : tie.InvT-loop
+Inv-loop s table n name words entry₀ entry = NameWalk s table n name entry
+
+abbrev μ-loop : tie.MeasureT-loop
+μ-loop s table n name words entry₀ entry = entry
+
+words-from-requires : tie.Need-words-from-requires Inv-loop μ-loop
+words-from-requires c κs = omega (arith, c .before .before .before .pre .room)
+
+slot-requires : tie.Need-slot-requires Inv-loop μ-loop
+slot-requires c κs = search needs
+
+first-requires : tie.Need-first-requires Inv-loop μ-loop
+first-requires c κs = let a = c .before .before .before .before .before in omega (arith, a .pre .room, c .slot .ensures, slot-small (a .args .name .now))
+
+loop-holds : tie.Need-loop-holds Inv-loop μ-loop
+loop-holds c =
+    let a = c .before .before .before .before .before .before in
+    names-first (a .args .s .now) (a .args .table .now) (a .args .n) (a .pre) (a .args .name .now) _ _ (c .before .slot .ensures) (c .first .ensures)
+
+sub-k : tie.Need-sub-k Inv-loop μ-loop
+sub-k c = search needs
+
+add-word : tie.Need-add-word Inv-loop μ-loop
+add-word c =
+    let a = c .before .before .before .before .before .before .before .before in let l = c .before .loop in
+    let i = names-inside (a .args .s .now) (a .args .table .now) (a .args .n) (a .pre) (a .args .name .now) (l .entry) (c .loop-test .taken) (l .inv) in
+    omega (arith, a .pre .room, c .before .before .before .before .words-from .ensures)
+
+mul-word : tie.Need-mul-word Inv-loop μ-loop
+mul-word c =
+    let a = c .before .before .before .before .before .before .before .before in let l = c .before .loop in
+    let i = names-inside (a .args .s .now) (a .args .table .now) (a .args .n) (a .pre) (a .args .name .now) (l .entry) (c .loop-test .taken) (l .inv) in
+    omega (arith, a .pre .room, c .before .before .before .before .words-from .ensures)
+
+shared-slice-read-word : tie.Need-shared-slice-read-word Inv-loop μ-loop
+shared-slice-read-word c =
+    let a = c .before .before .before .before .before .before .before .before .before in let l = c .before .before .loop in
+    let i = names-inside (a .args .s .now) (a .args .table .now) (a .args .n) (a .pre) (a .args .name .now) (l .entry) (c .before .loop-test .taken) (l .inv) in
+    omega (arith, a .pre .room, c .before .before .before .before .before .words-from .ensures)
+
+cast-word : tie.Need-cast-word Inv-loop μ-loop
+cast-word c = omega (arith, c .shared-slice-known4 .given (c .before .before .before .before .before .words-from .result + (c .before .before .loop .entry - 1)))
+
+add-end : tie.Need-add-end Inv-loop μ-loop
+add-end c = omega (arith, c .shared-slice-known4 .given (c .before .before .before .before .before .words-from .result + (c .before .before .loop .entry - 1)))
+
+sub-same-bytes : tie.Need-sub-same-bytes Inv-loop μ-loop
+sub-same-bytes c = search needs
+
+part-same-bytes-start : tie.Need-part-same-bytes-start Inv-loop μ-loop
+part-same-bytes-start c = search needs
+
+part-same-bytes-end : tie.Need-part-same-bytes-end Inv-loop μ-loop
+part-same-bytes-end c =
+    let a = c .before .before .before .before .before .before .before .before .before in let l = c .before .before .loop in
+    let i = names-inside (a .args .s .now) (a .args .table .now) (a .args .n) (a .pre) (a .args .name .now) (l .entry) (c .before .loop-test .taken) (l .inv) in
+    omega (arith, a .pre .inside (l .entry - 1) i, ap (λ p. wordAt (a .args .table .now) (p + (l .entry - 1))) (c .before .before .before .before .before .words-from .ensures))
+
+same-bytes-requires : tie.Need-same-bytes-requires Inv-loop μ-loop
+same-bytes-requires c κs = search needs
+
+returns : tie.Need-returns Inv-loop μ-loop
+returns c =
+    let a = c .before .before .before .before .before .before .before .before .before .before .before .before in let l = c .before .before .before .before .before .loop in
+    name-found (a .args .s .now) (a .args .table .now) (a .args .n) (a .pre) (a .args .name .now) (l .entry) (c .before .before .before .before .loop-test .taken) (l .inv) _ (c .before .before .before .before .before .before .before .before .words-from .ensures) _
+    (c .before .same-bytes .ensures ∙ ap (same (a .args .name .now)) (name-slice (a .args .s .now) (a .args .table .now) (c .before .before .before .before .before .before .before .before .words-from .result) (l .entry - 1)))
+    (c .if1 .taken)
+
+next-requires : tie.Need-next-requires Inv-loop μ-loop
+next-requires c κs =
+    let a = c .before .before .before .before .before .before .before .before .before .before .before .before in let l = c .before .before .before .before .before .loop in
+    let i = names-inside (a .args .s .now) (a .args .table .now) (a .args .n) (a .pre) (a .args .name .now) (l .entry) (c .before .before .before .before .loop-test .taken) (l .inv) in
+    omega (arith, a .pre .room)
+
+loop-less : tie.Need-loop-less Inv-loop μ-loop
+loop-less c =
+    let a = c .before .before .before .before .before .before .before .before .before .before .before .before .before in let l = c .before .before .before .before .before .before .loop in
+    names-fall (a .args .s .now) (a .args .table .now) (a .args .n) (a .pre) (a .args .name .now) (l .entry) (c .before .before .before .before .before .loop-test .taken) (l .inv) _ (c .next .ensures)
+
+loop-again : tie.Need-loop-again Inv-loop μ-loop
+loop-again c =
+    let a = c .before .before .before .before .before .before .before .before .before .before .before .before .before in let l = c .before .before .before .before .before .before .loop in
+    names-next (a .args .s .now) (a .args .table .now) (a .args .n) (a .pre) (a .args .name .now) (l .entry) (c .before .before .before .before .before .loop-test .taken) (l .inv) _ (c .before .before .before .before .before .before .before .before .before .words-from .ensures) _
+    (c .before .before .same-bytes .ensures ∙ ap (same (a .args .name .now)) (name-slice (a .args .s .now) (a .args .table .now) (c .before .before .before .before .before .before .before .before .before .words-from .result) (l .entry - 1)))
+    (c .before .if1 .left) _ (c .next .ensures)
+
+returns-2 : tie.Need-returns-2 Inv-loop μ-loop
+returns-2 c =
+    let a = c .before .before .before .before .before .before .before .before in
+    names-over (a .args .s .now) (a .args .table .now) (a .args .n) (a .pre) (a .args .name .now) (c .before .loop .entry) (omega arith) (c .before .loop .inv)
+
+pub is-listed-spec : {M : Type 1} → statement M
+is-listed-spec =
+    tie.close
+    (tie.spec
+    Inv-loop
+    μ-loop
+    words-from-requires
+    slot-requires
+    first-requires
+    loop-holds
+    sub-k
+    add-word
+    mul-word
+    shared-slice-read-word
+    cast-word
+    add-end
+    sub-same-bytes
+    part-same-bytes-start
+    part-same-bytes-end
+    same-bytes-requires
+    returns
+    next-requires
+    loop-less
+    loop-again
+    returns-2)

@@ -1,0 +1,115 @@
+-- `met::with_name` meets its contract. Assumes nothing.
+use Rattle.names_met.proofs.TableLaws.{holds-full, holds-added}
+use Rattle.chains.proofs.SlotLaws.{slot-small}
+use Prim.Native.Nat.{_+_, _-_}
+use mathlib.Core.Path.{_∙_}
+use native.Mathlib.Omega.{arith}
+use lib.ListN.{length-set, take, drop}
+use borrow.Author.Needs.{needs}
+use Rattle.names_met.proofs.with_name.Statement.{statement}
+use Rattle.names_met.proofs.with_name.Tie as tie
+
+returns : tie.Need-returns
+returns c = λ names h. holds-full _ (c .before .before .before .args .table .now) _
+
+mul-if2 : tie.Need-mul-if2
+mul-if2 c = search needs
+
+add-if2 : tie.Need-add-if2
+add-if2 c = search needs
+
+add-if2-2 : tie.Need-add-if2-2
+add-if2-2 c = search needs
+
+returns-2 : tie.Need-returns-2
+returns-2 c = λ names h. holds-full _ (c .before .before .before .before .args .table .now) _
+
+returns-3 : tie.Need-returns-3
+returns-3 c = λ names h. holds-full _ (c .before .before .before .before .before .args .table .now) _
+
+returns-4 : tie.Need-returns-4
+returns-4 c = λ names h. holds-full _ (c .before .before .before .before .before .before .args .table .now) _
+
+add-end : tie.Need-add-end
+add-end c = search needs
+
+returns-5 : tie.Need-returns-5
+returns-5 c = λ names h. holds-full _ (c .before .before .before .before .before .before .before .args .table .now) _
+
+words-from-requires : tie.Need-words-from-requires
+words-from-requires c κs = search needs
+
+add-at : tie.Need-add-at
+add-at c = search needs
+
+mul-table : tie.Need-mul-table
+mul-table c = search needs
+
+add-table : tie.Need-add-table
+add-table c = search needs
+
+cast-table : tie.Need-cast-table
+cast-table c = search needs
+
+mul-table-2 : tie.Need-mul-table-2
+mul-table-2 c = search needs
+
+slice-write-table : tie.Need-slice-write-table
+slice-write-table c = search needs
+
+sub-slot : tie.Need-sub-slot
+sub-slot c = search needs
+
+part-slot-start : tie.Need-part-slot-start
+part-slot-start c = search needs
+
+part-slot-end : tie.Need-part-slot-end
+part-slot-end c = search needs
+
+slot-requires : tie.Need-slot-requires
+slot-requires c κs = search needs
+
+add-requires : tie.Need-add-requires
+add-requires c κs =
+    let a = c .before .before .before .before .before .before .before .before .before .before .before .args in
+    simp length-set (omega (arith, c .before .slot .ensures, slot-small (take (a .name .start + a .name .length - a .name .start) (drop (a .name .start) (a .s .now)))))
+
+add-result : tie.Need-add-result
+add-result c = search needs
+
+same-length : tie.Need-same-length
+same-length c = c .before .table .given ∙ simp length-set
+
+returns-6 : tie.Need-returns-6
+returns-6 c =
+    let a = c .before .before .before .before .before .before .before .before .before .before .before .before .before .before .args in
+    holds-added (a .s .now) (a .table .now) (a .n) (a .name) (omega arith) (omega arith) (omega arith) _ _ _ (c .before .before .before .before .before .before .words-from .ensures) (c .before .before .before .before .slot .ensures) (c .before .before .add .ensures)
+
+pub with-name-spec : {M : Type 1} → statement M
+with-name-spec =
+    tie.close
+    (tie.spec
+    returns
+    mul-if2
+    add-if2
+    add-if2-2
+    returns-2
+    returns-3
+    returns-4
+    add-end
+    returns-5
+    words-from-requires
+    add-at
+    mul-table
+    add-table
+    cast-table
+    mul-table-2
+    slice-write-table
+    sub-slot
+    part-slot-start
+    part-slot-end
+    slot-requires
+    add-requires
+    add-result
+    same-length
+    returns-6)

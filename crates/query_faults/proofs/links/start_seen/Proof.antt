@@ -1,0 +1,19 @@
+use Rattle.query_faults.proofs.SeenLaws.{start-is}
+use Rattle.query_faults.proofs.links.start_seen.Statement.{statement}
+use Rattle.query_faults.proofs.links.start_seen.Tie as tie
+use Rattle.query_faults.proofs.links.start_seen.Reads as reads
+use Rattle.query_faults.proofs.links.start_seen.Lts as lts
+use Rattle.query_faults.proofs.links.vertices_left.Reads as vertices-left-reads
+use Rattle.query_faults.proofs.table.seen_before.Reads as seen-before-reads
+
+seen-before-requires : tie.Need-seen-before-requires
+seen-before-requires c κs = c .before .before .before .pre .edge-names
+
+vertices-left-requires : tie.Need-vertices-left-requires
+vertices-left-requires c κs = c .before .before .before .before .pre .vertex-names
+
+returns : tie.Need-returns
+returns c = λ b rest. start-is b _ (c .before .before .before .before .before .args .t) rest _ _ _ (c .before .seen-before .ensures) (c .vertices-left .ensures)
+
+pub start-seen-spec : {M : Type 1} → statement M
+start-seen-spec = tie.close (tie.spec seen-before-requires vertices-left-requires returns)

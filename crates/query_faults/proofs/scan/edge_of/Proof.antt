@@ -1,0 +1,69 @@
+use Rattle.query_faults.specs.Names.{asList}
+use Rattle.query_pieces.specs.Named.{edgeIn}
+use Rattle.query_pieces.specs.Steps.{pieceOf}
+use Rattle.query_pieces.specs.declared.Piece.{Piece}
+use mathlib.Core.Path.{sym, ap}
+use borrow.Author.Needs.{needs}
+use Rattle.query_faults.proofs.scan.edge_of.Statement.{statement}
+use Rattle.query_faults.proofs.scan.edge_of.Tie as tie
+use Rattle.query_faults.proofs.scan.edge_of.Reads as reads
+use Rattle.query_faults.proofs.scan.edge_of.Lts as lts
+
+enum-told : tie.Need-enum-told
+enum-told c = search needs
+
+enum-known-p : tie.Need-enum-known-p
+enum-known-p c = search needs
+
+enum-known-p-2 : tie.Need-enum-known-p-2
+enum-known-p-2 c = search needs
+
+enum-told-2 : tie.Need-enum-told-2
+enum-told-2 c = search needs
+
+enum-told-3 : tie.Need-enum-told-3
+enum-told-3 c = search needs
+
+enum-told-4 : tie.Need-enum-told-4
+enum-told-4 c = search needs
+
+returns : tie.Need-returns
+unfolding asList edgeIn pieceOf
+returns c = λ s. sym (ap (λ (x : Piece). edgeIn (pieceOf s x)) (c .enum-told .given .1))
+
+returns-2 : tie.Need-returns-2
+unfolding asList edgeIn pieceOf
+returns-2 c = λ s. sym (ap (λ (x : Piece). edgeIn (pieceOf s x)) (c .before .before .p .given .1))
+
+returns-3 : tie.Need-returns-3
+unfolding asList edgeIn pieceOf
+returns-3 c = λ s. sym (ap (λ (x : Piece). edgeIn (pieceOf s x)) (c .before .before .p2 .given .1))
+
+returns-4 : tie.Need-returns-4
+unfolding asList edgeIn pieceOf
+returns-4 c = λ s. sym (ap (λ (x : Piece). edgeIn (pieceOf s x)) (c .enum-told2 .given .1))
+
+returns-5 : tie.Need-returns-5
+unfolding asList edgeIn pieceOf
+returns-5 c = λ s. sym (ap (λ (x : Piece). edgeIn (pieceOf s x)) (c .enum-told3 .given .1))
+
+returns-6 : tie.Need-returns-6
+unfolding asList edgeIn pieceOf
+returns-6 c = λ s. sym (ap (λ (x : Piece). edgeIn (pieceOf s x)) (c .enum-told4 .given .1))
+
+pub edge-of-spec : {M : Type 1} → statement M
+edge-of-spec =
+    tie.close
+    (tie.spec
+    enum-told
+    enum-known-p
+    enum-known-p-2
+    enum-told-2
+    enum-told-3
+    enum-told-4
+    returns
+    returns-2
+    returns-3
+    returns-4
+    returns-5
+    returns-6)

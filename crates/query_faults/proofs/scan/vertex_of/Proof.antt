@@ -1,0 +1,69 @@
+use Rattle.query_faults.specs.Names.{asList}
+use Rattle.query_pieces.specs.Named.{vertexIn}
+use Rattle.query_pieces.specs.Steps.{pieceOf}
+use Rattle.query_pieces.specs.declared.Piece.{Piece}
+use mathlib.Core.Path.{sym, ap}
+use borrow.Author.Needs.{needs}
+use Rattle.query_faults.proofs.scan.vertex_of.Statement.{statement}
+use Rattle.query_faults.proofs.scan.vertex_of.Tie as tie
+use Rattle.query_faults.proofs.scan.vertex_of.Reads as reads
+use Rattle.query_faults.proofs.scan.vertex_of.Lts as lts
+
+enum-known-p : tie.Need-enum-known-p
+enum-known-p c = search needs
+
+enum-known-p-2 : tie.Need-enum-known-p-2
+enum-known-p-2 c = search needs
+
+enum-known-p-3 : tie.Need-enum-known-p-3
+enum-known-p-3 c = search needs
+
+enum-told : tie.Need-enum-told
+enum-told c = search needs
+
+enum-told-2 : tie.Need-enum-told-2
+enum-told-2 c = search needs
+
+enum-told-3 : tie.Need-enum-told-3
+enum-told-3 c = search needs
+
+returns : tie.Need-returns
+unfolding asList vertexIn pieceOf
+returns c = λ s. sym (ap (λ (x : Piece). vertexIn (pieceOf s x)) (c .before .p .given .1))
+
+returns-2 : tie.Need-returns-2
+unfolding asList vertexIn pieceOf
+returns-2 c = λ s. sym (ap (λ (x : Piece). vertexIn (pieceOf s x)) (c .before .before .p2 .given .1))
+
+returns-3 : tie.Need-returns-3
+unfolding asList vertexIn pieceOf
+returns-3 c = λ s. sym (ap (λ (x : Piece). vertexIn (pieceOf s x)) (c .before .before .p3 .given .1))
+
+returns-4 : tie.Need-returns-4
+unfolding asList vertexIn pieceOf
+returns-4 c = λ s. sym (ap (λ (x : Piece). vertexIn (pieceOf s x)) (c .enum-told .given .1))
+
+returns-5 : tie.Need-returns-5
+unfolding asList vertexIn pieceOf
+returns-5 c = λ s. sym (ap (λ (x : Piece). vertexIn (pieceOf s x)) (c .enum-told2 .given .1))
+
+returns-6 : tie.Need-returns-6
+unfolding asList vertexIn pieceOf
+returns-6 c = λ s. sym (ap (λ (x : Piece). vertexIn (pieceOf s x)) (c .enum-told3 .given .1))
+
+pub vertex-of-spec : {M : Type 1} → statement M
+vertex-of-spec =
+    tie.close
+    (tie.spec
+    enum-known-p
+    enum-known-p-2
+    enum-known-p-3
+    enum-told
+    enum-told-2
+    enum-told-3
+    returns
+    returns-2
+    returns-3
+    returns-4
+    returns-5
+    returns-6)

@@ -1,0 +1,44 @@
+use borrow.Author.Tests.{not-true, not-false}
+use Rattle.query_faults.specs.Survey.{verdict}
+use borrow.Author.Needs.{needs}
+use Rattle.query_faults.proofs.tallies.fault_at_end.Statement.{statement}
+use Rattle.query_faults.proofs.tallies.fault_at_end.Tie as tie
+use Rattle.query_faults.proofs.tallies.fault_at_end.Reads as reads
+use Rattle.query_faults.proofs.tallies.fault_at_end.Lts as lts
+use Rattle.query_faults.proofs.tallies.is_over.Reads as is-over-reads
+
+returns : tie.Need-returns
+unfolding verdict
+returns c = rw (not-true (c .before .args .whole) (c .if1 .taken))
+
+returns-2 : tie.Need-returns-2
+unfolding verdict
+returns-2 c = rw (not-false (c .before .before .args .whole) (c .before .if1 .left), c .if2 .taken)
+
+returns-3 : tie.Need-returns-3
+unfolding verdict
+returns-3 c = rw (not-false (c .before .before .before .args .whole) (c .before .before .if1 .left), c .before .if2 .left, c .if3 .taken)
+
+returns-4 : tie.Need-returns-4
+unfolding verdict
+returns-4 c = rw (not-false (c .before .before .before .before .args .whole) (c .before .before .before .if1 .left), c .before .before .if2 .left, c .before .if3 .left, c .if4 .taken)
+
+is-over-requires : tie.Need-is-over-requires
+is-over-requires c κs = search needs
+
+returns-5 : tie.Need-returns-5
+unfolding verdict
+returns-5 c = rw (← c .before .is-over .ensures, not-false (c .before .before .before .before .before .before .args .whole) (c .before .before .before .before .before .if1 .left), c .before .before .before .before .if2 .left, c .before .before .before .if3 .left, c .before .before .if4 .left, c .if5 .taken)
+
+returns-6 : tie.Need-returns-6
+unfolding verdict
+returns-6 c = rw (← c .before .before .is-over .ensures, not-false (c .before .before .before .before .before .before .before .args .whole) (c .before .before .before .before .before .before .if1 .left), c .before .before .before .before .before .if2 .left, c .before .before .before .before .if3 .left, c .before .before .before .if4 .left, c .before .if5 .left, c .if6 .taken)
+
+returns-7 : tie.Need-returns-7
+unfolding verdict
+returns-7 c = rw (← c .before .before .is-over .ensures, not-false (c .before .before .before .before .before .before .before .args .whole) (c .before .before .before .before .before .before .if1 .left), c .before .before .before .before .before .if2 .left, c .before .before .before .before .if3 .left, c .before .before .before .if4 .left, c .before .if5 .left, c .if6 .left)
+
+pub fault-at-end-spec : {M : Type 1} → statement M
+fault-at-end-spec =
+    tie.close
+    (tie.spec returns returns-2 returns-3 returns-4 is-over-requires returns-5 returns-6 returns-7)

@@ -1,0 +1,120 @@
+-- `faults::walk::fault_with` meets its contract. Assumes nothing.
+use mathlib.Core.Path.{_≡_, refl, ap, _∙_}
+use native.Mathlib.Omega.{arith}
+use lib.ListN.{length}
+use Rattle.query_faults.specs.Names.{foundAt}
+use Rattle.book_tables.specs.View.{bookAt}
+use Rattle.query_faults.specs.Survey.{verdict}
+use Rattle.query_faults.proofs.WalkLaws.{Walked, walked-start, walked-end, walked-below, walked-less, walked-undeclared, walked-on}
+use borrow.Author.Needs.{needs}
+use Rattle.query_faults.proofs.walk.fault_with.Statement.{statement}
+use Rattle.query_faults.proofs.walk.fault_with.Tie as tie
+
+abbrev Inv-loop : tie.InvT-loop
+Inv-loop book words counts s vertices₀ edges₀ returned₀ place₀ i₀ t₀ vertices edges returned place i t = Walked (bookAt book words counts) s vertices edges returned place i t × (length vertices ≡ length vertices₀) × (length edges ≡ length edges₀) × (length returned ≡ length returned₀)
+
+abbrev μ-loop : tie.MeasureT-loop
+μ-loop book words counts s vertices₀ edges₀ returned₀ place₀ i₀ t₀ vertices edges returned place i t = length (foundAt s place)
+
+text-start-requires : tie.Need-text-start-requires Inv-loop μ-loop
+text-start-requires c κs = search needs
+
+cleared-requires : tie.Need-cleared-requires Inv-loop μ-loop
+cleared-requires c κs = search needs
+
+cleared-requires-2 : tie.Need-cleared-requires-2 Inv-loop μ-loop
+cleared-requires-2 c κs = search needs
+
+cleared-requires-3 : tie.Need-cleared-requires-3 Inv-loop μ-loop
+cleared-requires-3 c κs = search needs
+
+nothing-seen-requires : tie.Need-nothing-seen-requires Inv-loop μ-loop
+nothing-seen-requires c κs = search needs
+
+loop-holds : tie.Need-loop-holds Inv-loop μ-loop
+loop-holds c = (rw (c .before .before .before .before .before .before .before .before .before .before .before .before .before .text-start .ensures, c .nothing-seen .ensures) (walked-start _ _ _ _ _ _ (c .before .before .before .before .before .before .before .before .before .before .before .cleared .ensures _) (c .before .before .before .before .before .before .before .cleared2 .ensures _) (c .before .before .before .cleared3 .ensures _)), refl, refl, refl)
+
+next-piece-requires : tie.Need-next-piece-requires Inv-loop μ-loop
+next-piece-requires c κs = search needs
+
+enum-known-x : tie.Need-enum-known-x Inv-loop μ-loop
+enum-known-x c = search needs
+
+piece-passed-requires : tie.Need-piece-passed-requires Inv-loop μ-loop
+piece-passed-requires c κs = (c .before .before .before .before .before .before .before .before .before .before .before .before .before .before .before .before .before .before .before .before .before .before .before .before .before .before .before .before .before .pre, record { vertex-names = c .before .before .before .before .before .before .before .before .loop .inv .0 .vertex-names; edge-names = c .before .before .before .before .before .before .before .before .loop .inv .0 .edge-names }, c .before .before .before .before .before .before .before .before .loop .inv .0 .return-names)
+
+is-whole-from-requires : tie.Need-is-whole-from-requires Inv-loop μ-loop
+is-whole-from-requires c κs = search needs
+
+fault-at-end-requires : tie.Need-fault-at-end-requires Inv-loop μ-loop
+fault-at-end-requires c κs = search needs
+
+same-length : tie.Need-same-length Inv-loop μ-loop
+same-length c = omega (arith, c .before .before .before .before .before .before .before .before .vertices2 .given, c .before .before .before .before .before .before .before .before .before .before .before .before .before .before .before .before .before .before .loop .inv .1, c .before .before .before .before .before .before .before .before .before .before .before .before .before .before .before .before .before .before .before .before .before .before .before .before .before .before .before .before .before .vertices .given)
+
+same-length-2 : tie.Need-same-length-2 Inv-loop μ-loop
+same-length-2 c = omega (arith, c .before .before .before .before .before .before .edges2 .given, c .before .before .before .before .before .before .before .before .before .before .before .before .before .before .before .before .before .before .loop .inv .2, c .before .before .before .before .before .before .before .before .before .before .before .before .before .before .before .before .before .before .before .before .before .before .before .before .before .edges .given)
+
+same-length-3 : tie.Need-same-length-3 Inv-loop μ-loop
+same-length-3 c = omega (arith, c .before .before .before .before .returned2 .given, c .before .before .before .before .before .before .before .before .before .before .before .before .before .before .before .before .before .before .loop .inv .3, c .before .before .before .before .before .before .before .before .before .before .before .before .before .before .before .before .before .before .before .before .before .returned .given)
+
+returns : tie.Need-returns Inv-loop μ-loop
+returns c = c .fault-at-end .ensures ∙ ap (λ w. verdict w (c .before .before .before .before .before .before .before .before .before .piece-passed .result .survey)) (c .before .is-whole-from .ensures) ∙ walked-undeclared _ _ _ _ _ _ _ _ (c .before .before .before .before .before .before .before .before .before .before .before .before .before .before .before .before .before .before .loop .inv .0) _ (c .before .before .before .before .before .before .before .before .before .before .before .before .before .before .before .before .before .next-piece .ensures) _ (c .before .before .before .before .before .before .before .before .before .before .before .before .before .before .before .x .given .1) _ _ _ _ (c .before .before .before .before .before .before .before .before .before .piece-passed .ensures) (c .before .before .if1 .taken)
+
+add-i : tie.Need-add-i Inv-loop μ-loop
+add-i c = omega (arith, walked-below _ _ _ _ _ _ _ _ (c .before .before .before .before .before .before .before .before .before .before .before .before .before .before .before .before .loop .inv .0) _ (c .before .before .before .before .before .before .before .before .before .before .before .before .before .before .before .next-piece .ensures) _ (c .before .before .before .before .before .before .before .before .before .before .before .before .before .x .given .1), c .before .before .before .before .before .before .before .before .before .before .before .before .before .before .before .before .before .before .before .before .before .before .before .before .before .before .before .before .before .before .before .before .before .before .before .before .before .good)
+
+loop-less : tie.Need-loop-less Inv-loop μ-loop
+loop-less c = walked-less _ _ _ _ _ _ _ _ (c .before .before .before .before .before .before .before .before .before .before .before .before .before .before .before .before .loop .inv .0) _ (c .before .before .before .before .before .before .before .before .before .before .before .before .before .before .before .next-piece .ensures) _ (c .before .before .before .before .before .before .before .before .before .before .before .before .before .x .given .1)
+
+loop-again : tie.Need-loop-again Inv-loop μ-loop
+loop-again c = (walked-on _ _ _ _ _ _ _ _ (c .before .before .before .before .before .before .before .before .before .before .before .before .before .before .before .before .loop .inv .0) _ (c .before .before .before .before .before .before .before .before .before .before .before .before .before .before .before .next-piece .ensures) _ (c .before .before .before .before .before .before .before .before .before .before .before .before .before .x .given .1) _ _ _ _ (c .before .before .before .before .before .before .before .piece-passed .ensures), omega (arith, c .before .before .before .before .before .before .vertices2 .given, c .before .before .before .before .before .before .before .before .before .before .before .before .before .before .before .before .loop .inv .1), omega (arith, c .before .before .before .before .edges2 .given, c .before .before .before .before .before .before .before .before .before .before .before .before .before .before .before .before .loop .inv .2), omega (arith, c .before .before .returned2 .given, c .before .before .before .before .before .before .before .before .before .before .before .before .before .before .before .before .loop .inv .3))
+
+enum-known-w : tie.Need-enum-known-w Inv-loop μ-loop
+enum-known-w c = search needs
+
+fault-at-end-requires-2 : tie.Need-fault-at-end-requires-2 Inv-loop μ-loop
+fault-at-end-requires-2 c κs = search needs
+
+same-length-4 : tie.Need-same-length-4 Inv-loop μ-loop
+same-length-4 c = omega (arith, c .before .before .before .before .before .loop .inv .1, c .before .before .before .before .before .before .before .before .before .before .before .before .before .before .before .before .vertices .given)
+
+same-length-5 : tie.Need-same-length-5 Inv-loop μ-loop
+same-length-5 c = omega (arith, c .before .before .before .before .before .loop .inv .2, c .before .before .before .before .before .before .before .before .before .before .before .before .edges .given)
+
+same-length-6 : tie.Need-same-length-6 Inv-loop μ-loop
+same-length-6 c = omega (arith, c .before .before .before .before .before .loop .inv .3, c .before .before .before .before .before .before .before .before .returned .given)
+
+returns-2 : tie.Need-returns-2 Inv-loop μ-loop
+returns-2 c = c .fault-at-end2 .ensures ∙ walked-end _ _ _ _ _ _ _ _ (c .before .before .before .before .before .loop .inv .0) _ (c .before .before .before .before .next-piece .ensures) _ (c .before .before .w .given .1)
+
+pub fault-with-spec : {M : Type 1} → statement M
+fault-with-spec =
+    tie.close
+    (tie.spec
+    Inv-loop
+    μ-loop
+    text-start-requires
+    cleared-requires
+    cleared-requires-2
+    cleared-requires-3
+    nothing-seen-requires
+    loop-holds
+    next-piece-requires
+    enum-known-x
+    piece-passed-requires
+    is-whole-from-requires
+    fault-at-end-requires
+    same-length
+    same-length-2
+    same-length-3
+    returns
+    add-i
+    loop-less
+    loop-again
+    enum-known-w
+    fault-at-end-requires-2
+    same-length-4
+    same-length-5
+    same-length-6
+    returns-2)

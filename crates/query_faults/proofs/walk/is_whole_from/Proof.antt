@@ -1,0 +1,53 @@
+use native.Mathlib.Omega.{arith}
+use lib.ListN.{length}
+use Rattle.query_faults.specs.Names.{foundAt}
+use Rattle.query_pieces.specs.Steps.{walkAt}
+use Rattle.query_faults.proofs.ScanLaws.{step-list, step-whole, step-ends}
+use mathlib.Core.Path.{_≡_, refl, sym, ap, _∙_}
+use borrow.Author.Needs.{needs}
+use Rattle.query_faults.proofs.walk.is_whole_from.Statement.{statement}
+use Rattle.query_faults.proofs.walk.is_whole_from.Tie as tie
+use Rattle.query_faults.proofs.walk.is_whole_from.Reads as reads
+use Rattle.query_faults.proofs.walk.is_whole_from.Lts as lts
+use Rattle.query_pieces.proofs.reading.next_piece.Reads as next-piece-reads
+
+abbrev Inv-loop : tie.InvT-loop
+Inv-loop s place₀ place = walkAt s place .whole ≡ walkAt s place₀ .whole
+
+abbrev μ-loop : tie.MeasureT-loop
+μ-loop s place₀ place = length (foundAt s place)
+
+loop-holds : tie.Need-loop-holds Inv-loop μ-loop
+loop-holds c = refl
+
+next-piece-requires : tie.Need-next-piece-requires Inv-loop μ-loop
+next-piece-requires c κs = search needs
+
+enum-known-x : tie.Need-enum-known-x Inv-loop μ-loop
+enum-known-x c = search needs
+
+loop-less : tie.Need-loop-less Inv-loop μ-loop
+loop-less c = let z = ap length (step-list (c .before .before .before .before .before .before .before .args .s .now) (c .before .before .before .before .before .loop .place) (c .before .before .before .before .next-piece .result) (c .before .before .before .before .next-piece .ensures) (c .before .before .x .given .0 .0) (c .before .before .x .given .1)) in omega arith
+
+loop-again : tie.Need-loop-again Inv-loop μ-loop
+loop-again c = sym (step-whole (c .before .before .before .before .before .before .before .args .s .now) (c .before .before .before .before .before .loop .place) (c .before .before .before .before .next-piece .result) (c .before .before .before .before .next-piece .ensures) (c .before .before .x .given .0 .0) (c .before .before .x .given .1)) ∙ c .before .before .before .before .before .loop .inv
+
+enum-known-w : tie.Need-enum-known-w Inv-loop μ-loop
+enum-known-w c = search needs
+
+returns : tie.Need-returns Inv-loop μ-loop
+returns c = sym (step-ends (c .before .before .before .before .before .before .args .s .now) (c .before .before .before .before .loop .place) (c .before .before .before .next-piece .result) (c .before .before .before .next-piece .ensures) (c .before .w .given .0 .0) (c .before .w .given .1)) ∙ c .before .before .before .before .loop .inv
+
+pub is-whole-from-spec : {M : Type 1} → statement M
+is-whole-from-spec =
+    tie.close
+    (tie.spec
+    Inv-loop
+    μ-loop
+    loop-holds
+    next-piece-requires
+    enum-known-x
+    loop-less
+    loop-again
+    enum-known-w
+    returns)

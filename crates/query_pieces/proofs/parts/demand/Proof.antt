@@ -1,0 +1,98 @@
+use Rattle.model.specs.Places.{none, bracketOf, variableAt}
+use Rattle.model.specs.Signs.{isMark}
+use Rattle.model.specs.Bytes.{same}
+use Rattle.query_pieces.specs.Steps.{valueThen}
+use Rattle.query_pieces.proofs.PartLaws.{mark-read, mark-unread, mark-moves, name-read, name-unread, name-moves, relation-read, relation-unread, relation-moves, value-read, value-unread, value-moves, mark-stands, name-stands, relation-stands, value-stands}
+use Rattle.query_signs.specs.Marks.{markBytes}
+use Rattle.query_pieces.specs.Steps.{stepOf, walkAt, pieceOf, spotOf, chainAt, pieceStanding}
+use Rattle.query_pieces.specs.Walk.{orStopped}
+use native.Mathlib.Omega.{arith}
+use mathlib.Core.Bool.{true, false}
+use mathlib.Core.Path.{ap, _∙_}
+use borrow.Author.Needs.{needs}
+use Rattle.query_pieces.proofs.parts.demand.Statement.{statement}
+use Rattle.query_pieces.proofs.parts.demand.Tie as tie
+use Rattle.query_pieces.proofs.parts.demand.Reads as reads
+use Rattle.query_pieces.proofs.parts.demand.Lts as lts
+use Rattle.query_signs.proofs.expected.mark_next.Reads as mark-next-reads
+use Rattle.query_signs.proofs.expected.name_next.Reads as name-next-reads
+use Rattle.query_signs.proofs.expected.relation_next.Reads as relation-next-reads
+use Rattle.query_signs.proofs.expected.value_next.Reads as value-next-reads
+
+mark-next-requires : tie.Need-mark-next-requires
+mark-next-requires c κs = search needs
+
+enum-known-a : tie.Need-enum-known-a
+enum-known-a c = search needs
+
+enum-told : tie.Need-enum-told
+enum-told c = search needs
+
+returns : tie.Need-returns
+unfolding stepOf walkAt pieceOf spotOf chainAt orStopped valueThen markBytes
+returns c = record { reads = ap orStopped (mark-unread false true (c .before .before .before .before .args .s .now) (c .before .before .before .before .args .from) 46 (c .before .before .mark-next .result) (c .before .before .mark-next .ensures) (c .enum-told .given .1) _); moves = tt; stands = tt }
+
+name-next-requires : tie.Need-name-next-requires
+name-next-requires c κs = search needs
+
+enum-known-attribute : tie.Need-enum-known-attribute
+enum-known-attribute c = search needs
+
+enum-told-2 : tie.Need-enum-told-2
+enum-told-2 c = search needs
+
+returns-2 : tie.Need-returns-2
+unfolding stepOf walkAt pieceOf spotOf chainAt orStopped valueThen markBytes
+returns-2 c = record { reads = ap orStopped (mark-read false true (c .before .before .before .before .before .before .before .before .args .s .now) (c .before .before .before .before .before .before .before .before .args .from) 46 (c .before .before .before .before .before .before .mark-next .result) (c .before .before .before .before .before .before .mark-next .ensures) (c .before .before .before .before .a .given .0 .0) (c .before .before .before .before .a .given .1) _ ∙ name-unread false false (c .before .before .before .before .before .before .before .before .args .s .now) (c .before .before .before .before .a .given .0 .0) (c .before .before .name-next .result) (c .before .before .name-next .ensures) (c .enum-told2 .given .1) _); moves = tt; stands = tt }
+
+relation-next-requires : tie.Need-relation-next-requires
+relation-next-requires c κs = search needs
+
+enum-known-relation : tie.Need-enum-known-relation
+enum-known-relation c = search needs
+
+enum-told-3 : tie.Need-enum-told-3
+enum-told-3 c = search needs
+
+returns-3 : tie.Need-returns-3
+unfolding stepOf walkAt pieceOf spotOf chainAt orStopped valueThen markBytes
+returns-3 c = record { reads = ap orStopped (mark-read false true (c .before .before .before .before .before .before .before .before .before .before .before .before .args .s .now) (c .before .before .before .before .before .before .before .before .before .before .before .before .args .from) 46 (c .before .before .before .before .before .before .before .before .before .before .mark-next .result) (c .before .before .before .before .before .before .before .before .before .before .mark-next .ensures) (c .before .before .before .before .before .before .before .before .a .given .0 .0) (c .before .before .before .before .before .before .before .before .a .given .1) _ ∙ name-read false false (c .before .before .before .before .before .before .before .before .before .before .before .before .args .s .now) (c .before .before .before .before .before .before .before .before .a .given .0 .0) (c .before .before .before .before .before .before .name-next .result) (c .before .before .before .before .before .before .name-next .ensures) (c .before .before .before .before .attribute .given .0 .0) (c .before .before .before .before .attribute .given .0 .1 .0) (c .before .before .before .before .attribute .given .1) _ ∙ relation-unread true (c .before .before .before .before .before .before .before .before .before .before .before .before .args .s .now) (c .before .before .before .before .attribute .given .0 .1 .0) (c .before .before .relation-next .result) (c .before .before .relation-next .ensures) (c .enum-told3 .given .1) _); moves = tt; stands = tt }
+
+value-next-requires : tie.Need-value-next-requires
+value-next-requires c κs = search needs
+
+enum-known-value : tie.Need-enum-known-value
+enum-known-value c = search needs
+
+enum-told-4 : tie.Need-enum-told-4
+enum-told-4 c = search needs
+
+returns-4 : tie.Need-returns-4
+unfolding stepOf walkAt pieceOf spotOf chainAt orStopped valueThen markBytes
+returns-4 c = record { reads = ap orStopped (mark-read false true (c .before .before .before .before .before .before .before .before .before .before .before .before .before .before .before .before .args .s .now) (c .before .before .before .before .before .before .before .before .before .before .before .before .before .before .before .before .args .from) 46 (c .before .before .before .before .before .before .before .before .before .before .before .before .before .before .mark-next .result) (c .before .before .before .before .before .before .before .before .before .before .before .before .before .before .mark-next .ensures) (c .before .before .before .before .before .before .before .before .before .before .before .before .a .given .0 .0) (c .before .before .before .before .before .before .before .before .before .before .before .before .a .given .1) _ ∙ name-read false false (c .before .before .before .before .before .before .before .before .before .before .before .before .before .before .before .before .args .s .now) (c .before .before .before .before .before .before .before .before .before .before .before .before .a .given .0 .0) (c .before .before .before .before .before .before .before .before .before .before .name-next .result) (c .before .before .before .before .before .before .before .before .before .before .name-next .ensures) (c .before .before .before .before .before .before .before .before .attribute .given .0 .0) (c .before .before .before .before .before .before .before .before .attribute .given .0 .1 .0) (c .before .before .before .before .before .before .before .before .attribute .given .1) _ ∙ relation-read true (c .before .before .before .before .before .before .before .before .before .before .before .before .before .before .before .before .args .s .now) (c .before .before .before .before .before .before .before .before .attribute .given .0 .1 .0) (c .before .before .before .before .before .before .relation-next .result) (c .before .before .before .before .before .before .relation-next .ensures) (c .before .before .before .before .relation .given .0 .0) (c .before .before .before .before .relation .given .0 .1 .0) (c .before .before .before .before .relation .given .1) _ ∙ value-unread false (c .before .before .before .before .before .before .before .before .before .before .before .before .before .before .before .before .args .s .now) (c .before .before .before .before .relation .given .0 .1 .0) (c .before .before .value-next .result) (c .before .before .value-next .ensures) (c .enum-told4 .given .1) _); moves = tt; stands = tt }
+
+returns-5 : tie.Need-returns-5
+unfolding stepOf walkAt pieceOf spotOf chainAt orStopped valueThen markBytes pieceStanding bracketOf isMark same variableAt
+returns-5 c = record { reads = ap orStopped (mark-read false true (c .before .before .before .before .before .before .before .before .before .before .before .before .before .before .before .before .before .args .s .now) (c .before .before .before .before .before .before .before .before .before .before .before .before .before .before .before .before .before .args .from) 46 (c .before .before .before .before .before .before .before .before .before .before .before .before .before .before .before .mark-next .result) (c .before .before .before .before .before .before .before .before .before .before .before .before .before .before .before .mark-next .ensures) (c .before .before .before .before .before .before .before .before .before .before .before .before .before .a .given .0 .0) (c .before .before .before .before .before .before .before .before .before .before .before .before .before .a .given .1) _ ∙ name-read false false (c .before .before .before .before .before .before .before .before .before .before .before .before .before .before .before .before .before .args .s .now) (c .before .before .before .before .before .before .before .before .before .before .before .before .before .a .given .0 .0) (c .before .before .before .before .before .before .before .before .before .before .before .name-next .result) (c .before .before .before .before .before .before .before .before .before .before .before .name-next .ensures) (c .before .before .before .before .before .before .before .before .before .attribute .given .0 .0) (c .before .before .before .before .before .before .before .before .before .attribute .given .0 .1 .0) (c .before .before .before .before .before .before .before .before .before .attribute .given .1) _ ∙ relation-read true (c .before .before .before .before .before .before .before .before .before .before .before .before .before .before .before .before .before .args .s .now) (c .before .before .before .before .before .before .before .before .before .attribute .given .0 .1 .0) (c .before .before .before .before .before .before .before .relation-next .result) (c .before .before .before .before .before .before .before .relation-next .ensures) (c .before .before .before .before .before .relation .given .0 .0) (c .before .before .before .before .before .relation .given .0 .1 .0) (c .before .before .before .before .before .relation .given .1) _ ∙ value-read false (c .before .before .before .before .before .before .before .before .before .before .before .before .before .before .before .before .before .args .s .now) (c .before .before .before .before .before .relation .given .0 .1 .0) (c .before .before .before .value-next .result) (c .before .before .before .value-next .ensures) (c .before .value .given .0 .0) (c .before .value .given .0 .1 .0) (c .before .value .given .0 .1 .1 .0) (c .before .value .given .1) _); moves = omega (arith, mark-moves false true (c .before .before .before .before .before .before .before .before .before .before .before .before .before .before .before .before .before .args .s .now) (c .before .before .before .before .before .before .before .before .before .before .before .before .before .before .before .before .before .args .from) 46 (c .before .before .before .before .before .before .before .before .before .before .before .before .before .before .before .mark-next .result) (c .before .before .before .before .before .before .before .before .before .before .before .before .before .before .before .mark-next .ensures) (c .before .before .before .before .before .before .before .before .before .before .before .before .before .a .given .0 .0) (c .before .before .before .before .before .before .before .before .before .before .before .before .before .a .given .1), name-moves false false (c .before .before .before .before .before .before .before .before .before .before .before .before .before .before .before .before .before .args .s .now) (c .before .before .before .before .before .before .before .before .before .before .before .before .before .a .given .0 .0) (c .before .before .before .before .before .before .before .before .before .before .before .name-next .result) (c .before .before .before .before .before .before .before .before .before .before .before .name-next .ensures) (c .before .before .before .before .before .before .before .before .before .attribute .given .0 .0) (c .before .before .before .before .before .before .before .before .before .attribute .given .0 .1 .0) (c .before .before .before .before .before .before .before .before .before .attribute .given .1), relation-moves true (c .before .before .before .before .before .before .before .before .before .before .before .before .before .before .before .before .before .args .s .now) (c .before .before .before .before .before .before .before .before .before .attribute .given .0 .1 .0) (c .before .before .before .before .before .before .before .relation-next .result) (c .before .before .before .before .before .before .before .relation-next .ensures) (c .before .before .before .before .before .relation .given .0 .0) (c .before .before .before .before .before .relation .given .0 .1 .0) (c .before .before .before .before .before .relation .given .1), value-moves false (c .before .before .before .before .before .before .before .before .before .before .before .before .before .before .before .before .before .args .s .now) (c .before .before .before .before .before .relation .given .0 .1 .0) (c .before .before .before .value-next .result) (c .before .before .before .value-next .ensures) (c .before .value .given .0 .0) (c .before .value .given .0 .1 .0) (c .before .value .given .0 .1 .1 .0) (c .before .value .given .1)); stands = mark-stands false true (c .before .before .before .before .before .before .before .before .before .before .before .before .before .before .before .before .before .args .s .now) (c .before .before .before .before .before .before .before .before .before .before .before .before .before .before .before .before .before .args .from) 46 (c .before .before .before .before .before .before .before .before .before .before .before .before .before .before .before .mark-next .result) (c .before .before .before .before .before .before .before .before .before .before .before .before .before .before .before .mark-next .ensures) (c .before .before .before .before .before .before .before .before .before .before .before .before .before .a .given .0 .0) (c .before .before .before .before .before .before .before .before .before .before .before .before .before .a .given .1) none ∙ name-stands false false (c .before .before .before .before .before .before .before .before .before .before .before .before .before .before .before .before .before .args .s .now) (c .before .before .before .before .before .before .before .before .before .before .before .before .before .a .given .0 .0) (c .before .before .before .before .before .before .before .before .before .before .before .name-next .result) (c .before .before .before .before .before .before .before .before .before .before .before .name-next .ensures) (c .before .before .before .before .before .before .before .before .before .attribute .given .0 .0) (c .before .before .before .before .before .before .before .before .before .attribute .given .0 .1 .0) (c .before .before .before .before .before .before .before .before .before .attribute .given .1) none ∙ relation-stands true (c .before .before .before .before .before .before .before .before .before .before .before .before .before .before .before .before .before .args .s .now) (c .before .before .before .before .before .before .before .before .before .attribute .given .0 .1 .0) (c .before .before .before .before .before .before .before .relation-next .result) (c .before .before .before .before .before .before .before .relation-next .ensures) (c .before .before .before .before .before .relation .given .0 .0) (c .before .before .before .before .before .relation .given .0 .1 .0) (c .before .before .before .before .before .relation .given .1) none ∙ value-stands false (c .before .before .before .before .before .before .before .before .before .before .before .before .before .before .before .before .before .args .s .now) (c .before .before .before .before .before .relation .given .0 .1 .0) (c .before .before .before .value-next .result) (c .before .before .before .value-next .ensures) (c .before .value .given .0 .0) (c .before .value .given .0 .1 .0) (c .before .value .given .0 .1 .1 .0) (c .before .value .given .1) }
+
+pub demand-spec : {M : Type 1} → statement M
+demand-spec =
+    tie.close
+    (tie.spec
+    mark-next-requires
+    enum-known-a
+    enum-told
+    returns
+    name-next-requires
+    enum-known-attribute
+    enum-told-2
+    returns-2
+    relation-next-requires
+    enum-known-relation
+    enum-told-3
+    returns-3
+    value-next-requires
+    enum-known-value
+    enum-told-4
+    returns-4
+    returns-5)

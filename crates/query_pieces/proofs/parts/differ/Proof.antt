@@ -1,0 +1,34 @@
+use Rattle.model.specs.Places.{none, variableAt}
+use Rattle.query_pieces.specs.Steps.{otherThen}
+use Rattle.query_pieces.proofs.PartLaws.{name-read, name-unread, name-moves, name-stands}
+use Rattle.query_pieces.specs.Steps.{stepOf, walkAt, pieceOf, spotOf, chainAt, pieceStanding}
+use Rattle.query_pieces.specs.Walk.{orStopped}
+use native.Mathlib.Omega.{arith}
+use mathlib.Core.Bool.{false}
+use mathlib.Core.Path.{ap}
+use borrow.Author.Needs.{needs}
+use Rattle.query_pieces.proofs.parts.differ.Statement.{statement}
+use Rattle.query_pieces.proofs.parts.differ.Tie as tie
+use Rattle.query_pieces.proofs.parts.differ.Reads as reads
+use Rattle.query_pieces.proofs.parts.differ.Lts as lts
+use Rattle.query_signs.proofs.expected.name_next.Reads as name-next-reads
+
+name-next-requires : tie.Need-name-next-requires
+name-next-requires c κs = search needs
+
+enum-known-u : tie.Need-enum-known-u
+enum-known-u c = search needs
+
+enum-told : tie.Need-enum-told
+enum-told c = search needs
+
+returns : tie.Need-returns
+unfolding stepOf walkAt pieceOf spotOf chainAt orStopped otherThen
+returns c = record { reads = ap orStopped (name-unread false false (c .before .before .before .before .args .s .now) (c .before .before .before .before .args .from) (c .before .before .name-next .result) (c .before .before .name-next .ensures) (c .enum-told .given .1) _); moves = tt; stands = tt }
+
+returns-2 : tie.Need-returns-2
+unfolding stepOf walkAt pieceOf spotOf chainAt orStopped otherThen pieceStanding variableAt
+returns-2 c = record { reads = ap orStopped (name-read false false (c .before .before .before .before .before .args .s .now) (c .before .before .before .before .before .args .from) (c .before .before .before .name-next .result) (c .before .before .before .name-next .ensures) (c .before .u .given .0 .0) (c .before .u .given .0 .1 .0) (c .before .u .given .1) _); moves = omega (arith, name-moves false false (c .before .before .before .before .before .args .s .now) (c .before .before .before .before .before .args .from) (c .before .before .before .name-next .result) (c .before .before .before .name-next .ensures) (c .before .u .given .0 .0) (c .before .u .given .0 .1 .0) (c .before .u .given .1)); stands = name-stands false false (c .before .before .before .before .before .args .s .now) (c .before .before .before .before .before .args .from) (c .before .before .before .name-next .result) (c .before .before .before .name-next .ensures) (c .before .u .given .0 .0) (c .before .u .given .0 .1 .0) (c .before .u .given .1) none }
+
+pub differ-spec : {M : Type 1} → statement M
+differ-spec = tie.close (tie.spec name-next-requires enum-known-u enum-told returns returns-2)

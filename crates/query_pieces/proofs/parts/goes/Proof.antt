@@ -1,0 +1,24 @@
+use Rattle.query_pieces.proofs.StepLaws.{link-by}
+use Rattle.query_signs.specs.Reads.{signsFrom}
+use Rattle.query_signs.specs.Marks.{markBytes}
+use Rattle.model.specs.Grammar.{goes, spotAfter}
+use Rattle.model.specs.Bytes.{bytesOf}
+use Rattle.query_pieces.specs.Steps.{linkPiece}
+use mathlib.Core.Bool.{true, false}
+use mathlib.Core.Path.{refl, _∙_}
+use borrow.Author.Needs.{needs}
+use Rattle.query_pieces.proofs.parts.goes.Statement.{statement}
+use Rattle.query_pieces.proofs.parts.goes.Tie as tie
+use Rattle.query_pieces.proofs.parts.goes.Reads as reads
+use Rattle.query_pieces.proofs.parts.goes.Lts as lts
+use Rattle.query_pieces.proofs.parts.link.Reads as link-reads
+
+link-requires : tie.Need-link-requires
+link-requires c κs = search needs
+
+returns : tie.Need-returns
+unfolding linkPiece markBytes spotAfter
+returns c = record { reads = link-by goes (bytesOf "->") (λ e l v. refl) (signsFrom true false (c .before .before .args .s .now) (c .before .before .args .from)) ∙ c .link .ensures .reads; moves = c .link .ensures .moves; stands = c .link .ensures .stands }
+
+pub goes-spec : {M : Type 1} → statement M
+goes-spec = tie.close (tie.spec link-requires returns)

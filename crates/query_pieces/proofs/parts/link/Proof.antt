@@ -1,0 +1,155 @@
+use Rattle.model.specs.Places.{none, square, edge, bracketOf, variableAt}
+use Rattle.model.specs.Signs.{isMark}
+use Rattle.model.specs.Bytes.{same}
+use mathlib.Core.List.{_∷_, _++_}
+use Rattle.query_pieces.specs.Steps.{linkThen, stepOf, walkAt, spotOf, chainAt}
+use Rattle.query_pieces.specs.Walk.{orStopped, ahead, walk}
+use Rattle.model.specs.Grammar.{inChain}
+use Rattle.query_pieces.proofs.PartLaws.{mark-read, mark-unread, mark-moves, name-read, name-unread, name-moves, vertex-read, vertex-unread, vertex-moves, mark-stands, name-stands, vertex-stands}
+use Rattle.query_signs.specs.Marks.{markBytes}
+use Rattle.query_signs.specs.Reads.{signsFrom, standingsFrom}
+use native.Mathlib.Omega.{arith}
+use mathlib.Core.Bool.{true, false}
+use mathlib.Core.Path.{sym, ap, _∙_}
+use borrow.Author.Needs.{needs}
+use Rattle.query_pieces.proofs.parts.link.Statement.{statement}
+use Rattle.query_pieces.proofs.parts.link.Tie as tie
+use Rattle.query_pieces.proofs.parts.link.Reads as reads
+use Rattle.query_pieces.proofs.parts.link.Lts as lts
+use Rattle.query_pieces.proofs.parts.linked.Reads as linked-reads
+use Rattle.query_pieces.proofs.parts.vertex.Reads as vertex-reads
+use Rattle.query_signs.proofs.expected.mark_next.Reads as mark-next-reads
+use Rattle.query_signs.proofs.expected.name_next.Reads as name-next-reads
+
+mark-next-requires : tie.Need-mark-next-requires
+mark-next-requires c κs = search needs
+
+enum-known-a : tie.Need-enum-known-a
+enum-known-a c = search needs
+
+enum-told : tie.Need-enum-told
+enum-told c = search needs
+
+returns : tie.Need-returns
+unfolding linkThen stepOf orStopped markBytes
+returns c = record { reads = ap orStopped (mark-unread true false (c .before .before .before .before .args .s .now) (c .before .before .before .before .args .from) 91 (c .before .before .mark-next .result) (c .before .before .mark-next .ensures) (c .enum-told .given .1) _); moves = tt; stands = tt }
+
+name-next-requires : tie.Need-name-next-requires
+name-next-requires c κs = search needs
+
+enum-known-edge : tie.Need-enum-known-edge
+enum-known-edge c = search needs
+
+enum-told-2 : tie.Need-enum-told-2
+enum-told-2 c = search needs
+
+returns-2 : tie.Need-returns-2
+unfolding linkThen stepOf orStopped markBytes
+returns-2 c = record { reads = ap orStopped (mark-read true false (c .before .before .before .before .before .before .before .before .args .s .now) (c .before .before .before .before .before .before .before .before .args .from) 91 (c .before .before .before .before .before .before .mark-next .result) (c .before .before .before .before .before .before .mark-next .ensures) (c .before .before .before .before .a .given .0 .0) (c .before .before .before .before .a .given .1) _ ∙ name-unread true false (c .before .before .before .before .before .before .before .before .args .s .now) (c .before .before .before .before .a .given .0 .0) (c .before .before .name-next .result) (c .before .before .name-next .ensures) (c .enum-told2 .given .1) _); moves = tt; stands = tt }
+
+mark-next-requires-2 : tie.Need-mark-next-requires-2
+mark-next-requires-2 c κs = search needs
+
+enum-known-c : tie.Need-enum-known-c
+enum-known-c c = search needs
+
+enum-told-3 : tie.Need-enum-told-3
+enum-told-3 c = search needs
+
+returns-3 : tie.Need-returns-3
+unfolding linkThen stepOf orStopped markBytes
+returns-3 c = record { reads = ap orStopped (mark-read true false (c .before .before .before .before .before .before .before .before .before .before .before .before .args .s .now) (c .before .before .before .before .before .before .before .before .before .before .before .before .args .from) 91 (c .before .before .before .before .before .before .before .before .before .before .mark-next .result) (c .before .before .before .before .before .before .before .before .before .before .mark-next .ensures) (c .before .before .before .before .before .before .before .before .a .given .0 .0) (c .before .before .before .before .before .before .before .before .a .given .1) _ ∙ name-read true false (c .before .before .before .before .before .before .before .before .before .before .before .before .args .s .now) (c .before .before .before .before .before .before .before .before .a .given .0 .0) (c .before .before .before .before .before .before .name-next .result) (c .before .before .before .before .before .before .name-next .ensures) (c .before .before .before .before .edge .given .0 .0) (c .before .before .before .before .edge .given .0 .1 .0) (c .before .before .before .before .edge .given .1) _ ∙ mark-unread true true (c .before .before .before .before .before .before .before .before .before .before .before .before .args .s .now) (c .before .before .before .before .edge .given .0 .1 .0) 58 (c .before .before .mark-next2 .result) (c .before .before .mark-next2 .ensures) (c .enum-told3 .given .1) _); moves = tt; stands = tt }
+
+name-next-requires-2 : tie.Need-name-next-requires-2
+name-next-requires-2 c κs = search needs
+
+enum-known-label : tie.Need-enum-known-label
+enum-known-label c = search needs
+
+enum-told-4 : tie.Need-enum-told-4
+enum-told-4 c = search needs
+
+returns-4 : tie.Need-returns-4
+unfolding linkThen stepOf orStopped markBytes
+returns-4 c = record { reads = ap orStopped (mark-read true false (c .before .before .before .before .before .before .before .before .before .before .before .before .before .before .before .before .args .s .now) (c .before .before .before .before .before .before .before .before .before .before .before .before .before .before .before .before .args .from) 91 (c .before .before .before .before .before .before .before .before .before .before .before .before .before .before .mark-next .result) (c .before .before .before .before .before .before .before .before .before .before .before .before .before .before .mark-next .ensures) (c .before .before .before .before .before .before .before .before .before .before .before .before .a .given .0 .0) (c .before .before .before .before .before .before .before .before .before .before .before .before .a .given .1) _ ∙ name-read true false (c .before .before .before .before .before .before .before .before .before .before .before .before .before .before .before .before .args .s .now) (c .before .before .before .before .before .before .before .before .before .before .before .before .a .given .0 .0) (c .before .before .before .before .before .before .before .before .before .before .name-next .result) (c .before .before .before .before .before .before .before .before .before .before .name-next .ensures) (c .before .before .before .before .before .before .before .before .edge .given .0 .0) (c .before .before .before .before .before .before .before .before .edge .given .0 .1 .0) (c .before .before .before .before .before .before .before .before .edge .given .1) _ ∙ mark-read true true (c .before .before .before .before .before .before .before .before .before .before .before .before .before .before .before .before .args .s .now) (c .before .before .before .before .before .before .before .before .edge .given .0 .1 .0) 58 (c .before .before .before .before .before .before .mark-next2 .result) (c .before .before .before .before .before .before .mark-next2 .ensures) (c .before .before .before .before .c .given .0 .0) (c .before .before .before .before .c .given .1) _ ∙ name-unread true false (c .before .before .before .before .before .before .before .before .before .before .before .before .before .before .before .before .args .s .now) (c .before .before .before .before .c .given .0 .0) (c .before .before .name-next2 .result) (c .before .before .name-next2 .ensures) (c .enum-told4 .given .1) _); moves = tt; stands = tt }
+
+mark-next-requires-3 : tie.Need-mark-next-requires-3
+mark-next-requires-3 c κs = search needs
+
+enum-known-e : tie.Need-enum-known-e
+enum-known-e c = search needs
+
+enum-told-5 : tie.Need-enum-told-5
+enum-told-5 c = search needs
+
+returns-5 : tie.Need-returns-5
+unfolding linkThen stepOf orStopped markBytes
+returns-5 c = record { reads = ap orStopped (mark-read true false (c .before .before .before .before .before .before .before .before .before .before .before .before .before .before .before .before .before .before .before .before .args .s .now) (c .before .before .before .before .before .before .before .before .before .before .before .before .before .before .before .before .before .before .before .before .args .from) 91 (c .before .before .before .before .before .before .before .before .before .before .before .before .before .before .before .before .before .before .mark-next .result) (c .before .before .before .before .before .before .before .before .before .before .before .before .before .before .before .before .before .before .mark-next .ensures) (c .before .before .before .before .before .before .before .before .before .before .before .before .before .before .before .before .a .given .0 .0) (c .before .before .before .before .before .before .before .before .before .before .before .before .before .before .before .before .a .given .1) _ ∙ name-read true false (c .before .before .before .before .before .before .before .before .before .before .before .before .before .before .before .before .before .before .before .before .args .s .now) (c .before .before .before .before .before .before .before .before .before .before .before .before .before .before .before .before .a .given .0 .0) (c .before .before .before .before .before .before .before .before .before .before .before .before .before .before .name-next .result) (c .before .before .before .before .before .before .before .before .before .before .before .before .before .before .name-next .ensures) (c .before .before .before .before .before .before .before .before .before .before .before .before .edge .given .0 .0) (c .before .before .before .before .before .before .before .before .before .before .before .before .edge .given .0 .1 .0) (c .before .before .before .before .before .before .before .before .before .before .before .before .edge .given .1) _ ∙ mark-read true true (c .before .before .before .before .before .before .before .before .before .before .before .before .before .before .before .before .before .before .before .before .args .s .now) (c .before .before .before .before .before .before .before .before .before .before .before .before .edge .given .0 .1 .0) 58 (c .before .before .before .before .before .before .before .before .before .before .mark-next2 .result) (c .before .before .before .before .before .before .before .before .before .before .mark-next2 .ensures) (c .before .before .before .before .before .before .before .before .c .given .0 .0) (c .before .before .before .before .before .before .before .before .c .given .1) _ ∙ name-read true false (c .before .before .before .before .before .before .before .before .before .before .before .before .before .before .before .before .before .before .before .before .args .s .now) (c .before .before .before .before .before .before .before .before .c .given .0 .0) (c .before .before .before .before .before .before .name-next2 .result) (c .before .before .before .before .before .before .name-next2 .ensures) (c .before .before .before .before .label .given .0 .0) (c .before .before .before .before .label .given .0 .1 .0) (c .before .before .before .before .label .given .1) _ ∙ mark-unread true true (c .before .before .before .before .before .before .before .before .before .before .before .before .before .before .before .before .before .before .before .before .args .s .now) (c .before .before .before .before .label .given .0 .1 .0) 93 (c .before .before .mark-next3 .result) (c .before .before .mark-next3 .ensures) (c .enum-told5 .given .1) _); moves = tt; stands = tt }
+
+mark-next-requires-4 : tie.Need-mark-next-requires-4
+mark-next-requires-4 c κs = c .before .before .before .before .before .before .before .before .before .before .before .before .before .before .before .before .before .before .before .before .before .pre
+
+enum-known-f : tie.Need-enum-known-f
+enum-known-f c = search needs
+
+enum-told-6 : tie.Need-enum-told-6
+enum-told-6 c = search needs
+
+returns-6 : tie.Need-returns-6
+unfolding linkThen stepOf orStopped markBytes
+returns-6 c = record { reads = ap orStopped (mark-read true false (c .before .before .before .before .before .before .before .before .before .before .before .before .before .before .before .before .before .before .before .before .before .before .before .before .args .s .now) (c .before .before .before .before .before .before .before .before .before .before .before .before .before .before .before .before .before .before .before .before .before .before .before .before .args .from) 91 (c .before .before .before .before .before .before .before .before .before .before .before .before .before .before .before .before .before .before .before .before .before .before .mark-next .result) (c .before .before .before .before .before .before .before .before .before .before .before .before .before .before .before .before .before .before .before .before .before .before .mark-next .ensures) (c .before .before .before .before .before .before .before .before .before .before .before .before .before .before .before .before .before .before .before .before .a .given .0 .0) (c .before .before .before .before .before .before .before .before .before .before .before .before .before .before .before .before .before .before .before .before .a .given .1) _ ∙ name-read true false (c .before .before .before .before .before .before .before .before .before .before .before .before .before .before .before .before .before .before .before .before .before .before .before .before .args .s .now) (c .before .before .before .before .before .before .before .before .before .before .before .before .before .before .before .before .before .before .before .before .a .given .0 .0) (c .before .before .before .before .before .before .before .before .before .before .before .before .before .before .before .before .before .before .name-next .result) (c .before .before .before .before .before .before .before .before .before .before .before .before .before .before .before .before .before .before .name-next .ensures) (c .before .before .before .before .before .before .before .before .before .before .before .before .before .before .before .before .edge .given .0 .0) (c .before .before .before .before .before .before .before .before .before .before .before .before .before .before .before .before .edge .given .0 .1 .0) (c .before .before .before .before .before .before .before .before .before .before .before .before .before .before .before .before .edge .given .1) _ ∙ mark-read true true (c .before .before .before .before .before .before .before .before .before .before .before .before .before .before .before .before .before .before .before .before .before .before .before .before .args .s .now) (c .before .before .before .before .before .before .before .before .before .before .before .before .before .before .before .before .edge .given .0 .1 .0) 58 (c .before .before .before .before .before .before .before .before .before .before .before .before .before .before .mark-next2 .result) (c .before .before .before .before .before .before .before .before .before .before .before .before .before .before .mark-next2 .ensures) (c .before .before .before .before .before .before .before .before .before .before .before .before .c .given .0 .0) (c .before .before .before .before .before .before .before .before .before .before .before .before .c .given .1) _ ∙ name-read true false (c .before .before .before .before .before .before .before .before .before .before .before .before .before .before .before .before .before .before .before .before .before .before .before .before .args .s .now) (c .before .before .before .before .before .before .before .before .before .before .before .before .c .given .0 .0) (c .before .before .before .before .before .before .before .before .before .before .name-next2 .result) (c .before .before .before .before .before .before .before .before .before .before .name-next2 .ensures) (c .before .before .before .before .before .before .before .before .label .given .0 .0) (c .before .before .before .before .before .before .before .before .label .given .0 .1 .0) (c .before .before .before .before .before .before .before .before .label .given .1) _ ∙ mark-read true true (c .before .before .before .before .before .before .before .before .before .before .before .before .before .before .before .before .before .before .before .before .before .before .before .before .args .s .now) (c .before .before .before .before .before .before .before .before .label .given .0 .1 .0) 93 (c .before .before .before .before .before .before .mark-next3 .result) (c .before .before .before .before .before .before .mark-next3 .ensures) (c .before .before .before .before .e .given .0 .0) (c .before .before .before .before .e .given .1) _ ∙ mark-unread true false (c .before .before .before .before .before .before .before .before .before .before .before .before .before .before .before .before .before .before .before .before .before .before .before .before .args .s .now) (c .before .before .before .before .e .given .0 .0) (c .before .before .before .before .before .before .before .before .before .before .before .before .before .before .before .before .before .before .before .before .before .before .before .before .args .arrow) (c .before .before .mark-next4 .result) (c .before .before .mark-next4 .ensures) (c .enum-told6 .given .1) _); moves = tt; stands = tt }
+
+vertex-requires : tie.Need-vertex-requires
+vertex-requires c κs = search needs
+
+enum-known-vertex : tie.Need-enum-known-vertex
+enum-known-vertex c = search needs
+
+enum-told-7 : tie.Need-enum-told-7
+enum-told-7 c = search needs
+
+returns-7 : tie.Need-returns-7
+unfolding linkThen stepOf orStopped markBytes
+returns-7 c = record { reads = ap orStopped (mark-read true false (c .before .before .before .before .before .before .before .before .before .before .before .before .before .before .before .before .before .before .before .before .before .before .before .before .before .before .before .before .args .s .now) (c .before .before .before .before .before .before .before .before .before .before .before .before .before .before .before .before .before .before .before .before .before .before .before .before .before .before .before .before .args .from) 91 (c .before .before .before .before .before .before .before .before .before .before .before .before .before .before .before .before .before .before .before .before .before .before .before .before .before .before .mark-next .result) (c .before .before .before .before .before .before .before .before .before .before .before .before .before .before .before .before .before .before .before .before .before .before .before .before .before .before .mark-next .ensures) (c .before .before .before .before .before .before .before .before .before .before .before .before .before .before .before .before .before .before .before .before .before .before .before .before .a .given .0 .0) (c .before .before .before .before .before .before .before .before .before .before .before .before .before .before .before .before .before .before .before .before .before .before .before .before .a .given .1) _ ∙ name-read true false (c .before .before .before .before .before .before .before .before .before .before .before .before .before .before .before .before .before .before .before .before .before .before .before .before .before .before .before .before .args .s .now) (c .before .before .before .before .before .before .before .before .before .before .before .before .before .before .before .before .before .before .before .before .before .before .before .before .a .given .0 .0) (c .before .before .before .before .before .before .before .before .before .before .before .before .before .before .before .before .before .before .before .before .before .before .name-next .result) (c .before .before .before .before .before .before .before .before .before .before .before .before .before .before .before .before .before .before .before .before .before .before .name-next .ensures) (c .before .before .before .before .before .before .before .before .before .before .before .before .before .before .before .before .before .before .before .before .edge .given .0 .0) (c .before .before .before .before .before .before .before .before .before .before .before .before .before .before .before .before .before .before .before .before .edge .given .0 .1 .0) (c .before .before .before .before .before .before .before .before .before .before .before .before .before .before .before .before .before .before .before .before .edge .given .1) _ ∙ mark-read true true (c .before .before .before .before .before .before .before .before .before .before .before .before .before .before .before .before .before .before .before .before .before .before .before .before .before .before .before .before .args .s .now) (c .before .before .before .before .before .before .before .before .before .before .before .before .before .before .before .before .before .before .before .before .edge .given .0 .1 .0) 58 (c .before .before .before .before .before .before .before .before .before .before .before .before .before .before .before .before .before .before .mark-next2 .result) (c .before .before .before .before .before .before .before .before .before .before .before .before .before .before .before .before .before .before .mark-next2 .ensures) (c .before .before .before .before .before .before .before .before .before .before .before .before .before .before .before .before .c .given .0 .0) (c .before .before .before .before .before .before .before .before .before .before .before .before .before .before .before .before .c .given .1) _ ∙ name-read true false (c .before .before .before .before .before .before .before .before .before .before .before .before .before .before .before .before .before .before .before .before .before .before .before .before .before .before .before .before .args .s .now) (c .before .before .before .before .before .before .before .before .before .before .before .before .before .before .before .before .c .given .0 .0) (c .before .before .before .before .before .before .before .before .before .before .before .before .before .before .name-next2 .result) (c .before .before .before .before .before .before .before .before .before .before .before .before .before .before .name-next2 .ensures) (c .before .before .before .before .before .before .before .before .before .before .before .before .label .given .0 .0) (c .before .before .before .before .before .before .before .before .before .before .before .before .label .given .0 .1 .0) (c .before .before .before .before .before .before .before .before .before .before .before .before .label .given .1) _ ∙ mark-read true true (c .before .before .before .before .before .before .before .before .before .before .before .before .before .before .before .before .before .before .before .before .before .before .before .before .before .before .before .before .args .s .now) (c .before .before .before .before .before .before .before .before .before .before .before .before .label .given .0 .1 .0) 93 (c .before .before .before .before .before .before .before .before .before .before .mark-next3 .result) (c .before .before .before .before .before .before .before .before .before .before .mark-next3 .ensures) (c .before .before .before .before .before .before .before .before .e .given .0 .0) (c .before .before .before .before .before .before .before .before .e .given .1) _ ∙ mark-read true false (c .before .before .before .before .before .before .before .before .before .before .before .before .before .before .before .before .before .before .before .before .before .before .before .before .before .before .before .before .args .s .now) (c .before .before .before .before .before .before .before .before .e .given .0 .0) (c .before .before .before .before .before .before .before .before .before .before .before .before .before .before .before .before .before .before .before .before .before .before .before .before .before .before .before .before .args .arrow) (c .before .before .before .before .before .before .mark-next4 .result) (c .before .before .before .before .before .before .mark-next4 .ensures) (c .before .before .before .before .f .given .0 .0) (c .before .before .before .before .f .given .1) _ ∙ vertex-unread false (c .before .before .before .before .before .before .before .before .before .before .before .before .before .before .before .before .before .before .before .before .before .before .before .before .before .before .before .before .args .s .now) (c .before .before .before .before .f .given .0 .0) (c .before .before .vertex .result) (c .before .before .vertex .ensures) (c .enum-told7 .given .1) _); moves = tt; stands = tt }
+
+linked-requires : tie.Need-linked-requires
+linked-requires c κs = search needs
+
+returns-8 : tie.Need-returns-8
+unfolding linkThen stepOf walkAt spotOf chainAt orStopped markBytes bracketOf isMark same variableAt
+returns-8 c = record { reads = ap orStopped (mark-read true false (c .before .before .before .before .before .before .before .before .before .before .before .before .before .before .before .before .before .before .before .before .before .before .before .before .before .before .before .before .before .before .args .s .now) (c .before .before .before .before .before .before .before .before .before .before .before .before .before .before .before .before .before .before .before .before .before .before .before .before .before .before .before .before .before .before .args .from) 91 (c .before .before .before .before .before .before .before .before .before .before .before .before .before .before .before .before .before .before .before .before .before .before .before .before .before .before .before .before .mark-next .result) (c .before .before .before .before .before .before .before .before .before .before .before .before .before .before .before .before .before .before .before .before .before .before .before .before .before .before .before .before .mark-next .ensures) (c .before .before .before .before .before .before .before .before .before .before .before .before .before .before .before .before .before .before .before .before .before .before .before .before .before .before .a .given .0 .0) (c .before .before .before .before .before .before .before .before .before .before .before .before .before .before .before .before .before .before .before .before .before .before .before .before .before .before .a .given .1) _ ∙ name-read true false (c .before .before .before .before .before .before .before .before .before .before .before .before .before .before .before .before .before .before .before .before .before .before .before .before .before .before .before .before .before .before .args .s .now) (c .before .before .before .before .before .before .before .before .before .before .before .before .before .before .before .before .before .before .before .before .before .before .before .before .before .before .a .given .0 .0) (c .before .before .before .before .before .before .before .before .before .before .before .before .before .before .before .before .before .before .before .before .before .before .before .before .name-next .result) (c .before .before .before .before .before .before .before .before .before .before .before .before .before .before .before .before .before .before .before .before .before .before .before .before .name-next .ensures) (c .before .before .before .before .before .before .before .before .before .before .before .before .before .before .before .before .before .before .before .before .before .before .edge .given .0 .0) (c .before .before .before .before .before .before .before .before .before .before .before .before .before .before .before .before .before .before .before .before .before .before .edge .given .0 .1 .0) (c .before .before .before .before .before .before .before .before .before .before .before .before .before .before .before .before .before .before .before .before .before .before .edge .given .1) _ ∙ mark-read true true (c .before .before .before .before .before .before .before .before .before .before .before .before .before .before .before .before .before .before .before .before .before .before .before .before .before .before .before .before .before .before .args .s .now) (c .before .before .before .before .before .before .before .before .before .before .before .before .before .before .before .before .before .before .before .before .before .before .edge .given .0 .1 .0) 58 (c .before .before .before .before .before .before .before .before .before .before .before .before .before .before .before .before .before .before .before .before .mark-next2 .result) (c .before .before .before .before .before .before .before .before .before .before .before .before .before .before .before .before .before .before .before .before .mark-next2 .ensures) (c .before .before .before .before .before .before .before .before .before .before .before .before .before .before .before .before .before .before .c .given .0 .0) (c .before .before .before .before .before .before .before .before .before .before .before .before .before .before .before .before .before .before .c .given .1) _ ∙ name-read true false (c .before .before .before .before .before .before .before .before .before .before .before .before .before .before .before .before .before .before .before .before .before .before .before .before .before .before .before .before .before .before .args .s .now) (c .before .before .before .before .before .before .before .before .before .before .before .before .before .before .before .before .before .before .c .given .0 .0) (c .before .before .before .before .before .before .before .before .before .before .before .before .before .before .before .before .name-next2 .result) (c .before .before .before .before .before .before .before .before .before .before .before .before .before .before .before .before .name-next2 .ensures) (c .before .before .before .before .before .before .before .before .before .before .before .before .before .before .label .given .0 .0) (c .before .before .before .before .before .before .before .before .before .before .before .before .before .before .label .given .0 .1 .0) (c .before .before .before .before .before .before .before .before .before .before .before .before .before .before .label .given .1) _ ∙ mark-read true true (c .before .before .before .before .before .before .before .before .before .before .before .before .before .before .before .before .before .before .before .before .before .before .before .before .before .before .before .before .before .before .args .s .now) (c .before .before .before .before .before .before .before .before .before .before .before .before .before .before .label .given .0 .1 .0) 93 (c .before .before .before .before .before .before .before .before .before .before .before .before .mark-next3 .result) (c .before .before .before .before .before .before .before .before .before .before .before .before .mark-next3 .ensures) (c .before .before .before .before .before .before .before .before .before .before .e .given .0 .0) (c .before .before .before .before .before .before .before .before .before .before .e .given .1) _ ∙ mark-read true false (c .before .before .before .before .before .before .before .before .before .before .before .before .before .before .before .before .before .before .before .before .before .before .before .before .before .before .before .before .before .before .args .s .now) (c .before .before .before .before .before .before .before .before .before .before .e .given .0 .0) (c .before .before .before .before .before .before .before .before .before .before .before .before .before .before .before .before .before .before .before .before .before .before .before .before .before .before .before .before .before .before .args .arrow) (c .before .before .before .before .before .before .before .before .mark-next4 .result) (c .before .before .before .before .before .before .before .before .mark-next4 .ensures) (c .before .before .before .before .before .before .f .given .0 .0) (c .before .before .before .before .before .before .f .given .1) _ ∙ vertex-read false (c .before .before .before .before .before .before .before .before .before .before .before .before .before .before .before .before .before .before .before .before .before .before .before .before .before .before .before .before .before .before .args .s .now) (c .before .before .before .before .before .before .f .given .0 .0) (c .before .before .before .before .vertex .result) (c .before .before .before .before .vertex .ensures) (c .before .before .vertex2 .given .0 .0) (c .before .before .vertex2 .given .0 .1 .0) (c .before .before .vertex2 .given .1) _) ∙ ap (λ p. ahead p (walk inChain 0 (signsFrom true false (c .before .before .before .before .before .before .before .before .before .before .before .before .before .before .before .before .before .before .before .before .before .before .before .before .before .before .before .before .before .before .args .s .now) (c .before .before .vertex2 .given .0 .1 .0)))) (c .linked .ensures .reads (c .before .before .before .before .before .before .before .before .before .before .before .before .before .before .before .before .before .before .before .before .before .before .before .before .before .before .before .before .before .before .args .s .now)); moves = omega (arith, mark-moves true false (c .before .before .before .before .before .before .before .before .before .before .before .before .before .before .before .before .before .before .before .before .before .before .before .before .before .before .before .before .before .before .args .s .now) (c .before .before .before .before .before .before .before .before .before .before .before .before .before .before .before .before .before .before .before .before .before .before .before .before .before .before .before .before .before .before .args .from) 91 (c .before .before .before .before .before .before .before .before .before .before .before .before .before .before .before .before .before .before .before .before .before .before .before .before .before .before .before .before .mark-next .result) (c .before .before .before .before .before .before .before .before .before .before .before .before .before .before .before .before .before .before .before .before .before .before .before .before .before .before .before .before .mark-next .ensures) (c .before .before .before .before .before .before .before .before .before .before .before .before .before .before .before .before .before .before .before .before .before .before .before .before .before .before .a .given .0 .0) (c .before .before .before .before .before .before .before .before .before .before .before .before .before .before .before .before .before .before .before .before .before .before .before .before .before .before .a .given .1), name-moves true false (c .before .before .before .before .before .before .before .before .before .before .before .before .before .before .before .before .before .before .before .before .before .before .before .before .before .before .before .before .before .before .args .s .now) (c .before .before .before .before .before .before .before .before .before .before .before .before .before .before .before .before .before .before .before .before .before .before .before .before .before .before .a .given .0 .0) (c .before .before .before .before .before .before .before .before .before .before .before .before .before .before .before .before .before .before .before .before .before .before .before .before .name-next .result) (c .before .before .before .before .before .before .before .before .before .before .before .before .before .before .before .before .before .before .before .before .before .before .before .before .name-next .ensures) (c .before .before .before .before .before .before .before .before .before .before .before .before .before .before .before .before .before .before .before .before .before .before .edge .given .0 .0) (c .before .before .before .before .before .before .before .before .before .before .before .before .before .before .before .before .before .before .before .before .before .before .edge .given .0 .1 .0) (c .before .before .before .before .before .before .before .before .before .before .before .before .before .before .before .before .before .before .before .before .before .before .edge .given .1), mark-moves true true (c .before .before .before .before .before .before .before .before .before .before .before .before .before .before .before .before .before .before .before .before .before .before .before .before .before .before .before .before .before .before .args .s .now) (c .before .before .before .before .before .before .before .before .before .before .before .before .before .before .before .before .before .before .before .before .before .before .edge .given .0 .1 .0) 58 (c .before .before .before .before .before .before .before .before .before .before .before .before .before .before .before .before .before .before .before .before .mark-next2 .result) (c .before .before .before .before .before .before .before .before .before .before .before .before .before .before .before .before .before .before .before .before .mark-next2 .ensures) (c .before .before .before .before .before .before .before .before .before .before .before .before .before .before .before .before .before .before .c .given .0 .0) (c .before .before .before .before .before .before .before .before .before .before .before .before .before .before .before .before .before .before .c .given .1), name-moves true false (c .before .before .before .before .before .before .before .before .before .before .before .before .before .before .before .before .before .before .before .before .before .before .before .before .before .before .before .before .before .before .args .s .now) (c .before .before .before .before .before .before .before .before .before .before .before .before .before .before .before .before .before .before .c .given .0 .0) (c .before .before .before .before .before .before .before .before .before .before .before .before .before .before .before .before .name-next2 .result) (c .before .before .before .before .before .before .before .before .before .before .before .before .before .before .before .before .name-next2 .ensures) (c .before .before .before .before .before .before .before .before .before .before .before .before .before .before .label .given .0 .0) (c .before .before .before .before .before .before .before .before .before .before .before .before .before .before .label .given .0 .1 .0) (c .before .before .before .before .before .before .before .before .before .before .before .before .before .before .label .given .1), mark-moves true true (c .before .before .before .before .before .before .before .before .before .before .before .before .before .before .before .before .before .before .before .before .before .before .before .before .before .before .before .before .before .before .args .s .now) (c .before .before .before .before .before .before .before .before .before .before .before .before .before .before .label .given .0 .1 .0) 93 (c .before .before .before .before .before .before .before .before .before .before .before .before .mark-next3 .result) (c .before .before .before .before .before .before .before .before .before .before .before .before .mark-next3 .ensures) (c .before .before .before .before .before .before .before .before .before .before .e .given .0 .0) (c .before .before .before .before .before .before .before .before .before .before .e .given .1), mark-moves true false (c .before .before .before .before .before .before .before .before .before .before .before .before .before .before .before .before .before .before .before .before .before .before .before .before .before .before .before .before .before .before .args .s .now) (c .before .before .before .before .before .before .before .before .before .before .e .given .0 .0) (c .before .before .before .before .before .before .before .before .before .before .before .before .before .before .before .before .before .before .before .before .before .before .before .before .before .before .before .before .before .before .args .arrow) (c .before .before .before .before .before .before .before .before .mark-next4 .result) (c .before .before .before .before .before .before .before .before .mark-next4 .ensures) (c .before .before .before .before .before .before .f .given .0 .0) (c .before .before .before .before .before .before .f .given .1), vertex-moves false (c .before .before .before .before .before .before .before .before .before .before .before .before .before .before .before .before .before .before .before .before .before .before .before .before .before .before .before .before .before .before .args .s .now) (c .before .before .before .before .before .before .f .given .0 .0) (c .before .before .before .before .vertex .result) (c .before .before .before .before .vertex .ensures) (c .before .before .vertex2 .given .0 .0) (c .before .before .vertex2 .given .0 .1 .0) (c .before .before .vertex2 .given .1)); stands = mark-stands true false (c .before .before .before .before .before .before .before .before .before .before .before .before .before .before .before .before .before .before .before .before .before .before .before .before .before .before .before .before .before .before .args .s .now) (c .before .before .before .before .before .before .before .before .before .before .before .before .before .before .before .before .before .before .before .before .before .before .before .before .before .before .before .before .before .before .args .from) 91 (c .before .before .before .before .before .before .before .before .before .before .before .before .before .before .before .before .before .before .before .before .before .before .before .before .before .before .before .before .mark-next .result) (c .before .before .before .before .before .before .before .before .before .before .before .before .before .before .before .before .before .before .before .before .before .before .before .before .before .before .before .before .mark-next .ensures) (c .before .before .before .before .before .before .before .before .before .before .before .before .before .before .before .before .before .before .before .before .before .before .before .before .before .before .a .given .0 .0) (c .before .before .before .before .before .before .before .before .before .before .before .before .before .before .before .before .before .before .before .before .before .before .before .before .before .before .a .given .1) none ∙ name-stands true false (c .before .before .before .before .before .before .before .before .before .before .before .before .before .before .before .before .before .before .before .before .before .before .before .before .before .before .before .before .before .before .args .s .now) (c .before .before .before .before .before .before .before .before .before .before .before .before .before .before .before .before .before .before .before .before .before .before .before .before .before .before .a .given .0 .0) (c .before .before .before .before .before .before .before .before .before .before .before .before .before .before .before .before .before .before .before .before .before .before .before .before .name-next .result) (c .before .before .before .before .before .before .before .before .before .before .before .before .before .before .before .before .before .before .before .before .before .before .before .before .name-next .ensures) (c .before .before .before .before .before .before .before .before .before .before .before .before .before .before .before .before .before .before .before .before .before .before .edge .given .0 .0) (c .before .before .before .before .before .before .before .before .before .before .before .before .before .before .before .before .before .before .before .before .before .before .edge .given .0 .1 .0) (c .before .before .before .before .before .before .before .before .before .before .before .before .before .before .before .before .before .before .before .before .before .before .edge .given .1) square ∙ ap (λ l. edge (c .before .before .before .before .before .before .before .before .before .before .before .before .before .before .before .before .before .before .before .before .before .before .edge .given .0 .0) ∷ l) (mark-stands true true (c .before .before .before .before .before .before .before .before .before .before .before .before .before .before .before .before .before .before .before .before .before .before .before .before .before .before .before .before .before .before .args .s .now) (c .before .before .before .before .before .before .before .before .before .before .before .before .before .before .before .before .before .before .before .before .before .before .edge .given .0 .1 .0) 58 (c .before .before .before .before .before .before .before .before .before .before .before .before .before .before .before .before .before .before .before .before .mark-next2 .result) (c .before .before .before .before .before .before .before .before .before .before .before .before .before .before .before .before .before .before .before .before .mark-next2 .ensures) (c .before .before .before .before .before .before .before .before .before .before .before .before .before .before .before .before .before .before .c .given .0 .0) (c .before .before .before .before .before .before .before .before .before .before .before .before .before .before .before .before .before .before .c .given .1) none ∙ name-stands true false (c .before .before .before .before .before .before .before .before .before .before .before .before .before .before .before .before .before .before .before .before .before .before .before .before .before .before .before .before .before .before .args .s .now) (c .before .before .before .before .before .before .before .before .before .before .before .before .before .before .before .before .before .before .c .given .0 .0) (c .before .before .before .before .before .before .before .before .before .before .before .before .before .before .before .before .name-next2 .result) (c .before .before .before .before .before .before .before .before .before .before .before .before .before .before .before .before .name-next2 .ensures) (c .before .before .before .before .before .before .before .before .before .before .before .before .before .before .label .given .0 .0) (c .before .before .before .before .before .before .before .before .before .before .before .before .before .before .label .given .0 .1 .0) (c .before .before .before .before .before .before .before .before .before .before .before .before .before .before .label .given .1) none ∙ mark-stands true true (c .before .before .before .before .before .before .before .before .before .before .before .before .before .before .before .before .before .before .before .before .before .before .before .before .before .before .before .before .before .before .args .s .now) (c .before .before .before .before .before .before .before .before .before .before .before .before .before .before .label .given .0 .1 .0) 93 (c .before .before .before .before .before .before .before .before .before .before .before .before .mark-next3 .result) (c .before .before .before .before .before .before .before .before .before .before .before .before .mark-next3 .ensures) (c .before .before .before .before .before .before .before .before .before .before .e .given .0 .0) (c .before .before .before .before .before .before .before .before .before .before .e .given .1) none ∙ mark-stands true false (c .before .before .before .before .before .before .before .before .before .before .before .before .before .before .before .before .before .before .before .before .before .before .before .before .before .before .before .before .before .before .args .s .now) (c .before .before .before .before .before .before .before .before .before .before .e .given .0 .0) (c .before .before .before .before .before .before .before .before .before .before .before .before .before .before .before .before .before .before .before .before .before .before .before .before .before .before .before .before .before .before .args .arrow) (c .before .before .before .before .before .before .before .before .mark-next4 .result) (c .before .before .before .before .before .before .before .before .mark-next4 .ensures) (c .before .before .before .before .before .before .f .given .0 .0) (c .before .before .before .before .before .before .f .given .1) none ∙ vertex-stands false (c .before .before .before .before .before .before .before .before .before .before .before .before .before .before .before .before .before .before .before .before .before .before .before .before .before .before .before .before .before .before .args .s .now) (c .before .before .before .before .before .before .f .given .0 .0) (c .before .before .before .before .vertex .result) (c .before .before .before .before .vertex .ensures) (c .before .before .vertex2 .given .0 .0) (c .before .before .vertex2 .given .0 .1 .0) (c .before .before .vertex2 .given .1) _) ∙ ap (λ l. l ++ standingsFrom none true false (c .before .before .before .before .before .before .before .before .before .before .before .before .before .before .before .before .before .before .before .before .before .before .before .before .before .before .before .before .before .before .args .s .now) (c .before .before .vertex2 .given .0 .1 .0)) (sym (c .linked .ensures .stands)) }
+
+pub link-spec : {M : Type 1} → statement M
+link-spec =
+    tie.close
+    (tie.spec
+    mark-next-requires
+    enum-known-a
+    enum-told
+    returns
+    name-next-requires
+    enum-known-edge
+    enum-told-2
+    returns-2
+    mark-next-requires-2
+    enum-known-c
+    enum-told-3
+    returns-3
+    name-next-requires-2
+    enum-known-label
+    enum-told-4
+    returns-4
+    mark-next-requires-3
+    enum-known-e
+    enum-told-5
+    returns-5
+    mark-next-requires-4
+    enum-known-f
+    enum-told-6
+    returns-6
+    vertex-requires
+    enum-known-vertex
+    enum-told-7
+    returns-7
+    linked-requires
+    returns-8)

@@ -1,0 +1,35 @@
+use Rattle.model.specs.Places.{none, variableAt}
+use Rattle.query_pieces.proofs.StepLaws.{return-by}
+use Rattle.query_signs.specs.Reads.{signsFrom}
+use Rattle.query_pieces.proofs.PartLaws.{name-read, name-unread, name-moves, name-stands}
+use Rattle.query_pieces.specs.Steps.{stepOf, walkAt, pieceOf, spotOf, chainAt, pieceStanding}
+use Rattle.query_pieces.specs.Walk.{orStopped}
+use native.Mathlib.Omega.{arith}
+use mathlib.Core.Bool.{false}
+use mathlib.Core.Path.{ap, _∙_}
+use borrow.Author.Needs.{needs}
+use Rattle.query_pieces.proofs.parts.returned.Statement.{statement}
+use Rattle.query_pieces.proofs.parts.returned.Tie as tie
+use Rattle.query_pieces.proofs.parts.returned.Reads as reads
+use Rattle.query_pieces.proofs.parts.returned.Lts as lts
+use Rattle.query_signs.proofs.expected.name_next.Reads as name-next-reads
+
+name-next-requires : tie.Need-name-next-requires
+name-next-requires c κs = search needs
+
+enum-known-v : tie.Need-enum-known-v
+enum-known-v c = search needs
+
+enum-told : tie.Need-enum-told
+enum-told c = search needs
+
+returns : tie.Need-returns
+unfolding stepOf walkAt pieceOf spotOf chainAt orStopped
+returns c = record { reads = return-by (signsFrom false (c .before .before .before .before .args .close) (c .before .before .before .before .args .s .now) (c .before .before .before .before .args .from)) ∙ ap orStopped (name-unread false (c .before .before .before .before .args .close) (c .before .before .before .before .args .s .now) (c .before .before .before .before .args .from) (c .before .before .name-next .result) (c .before .before .name-next .ensures) (c .enum-told .given .1) _); moves = tt; stands = tt }
+
+returns-2 : tie.Need-returns-2
+unfolding stepOf walkAt pieceOf spotOf chainAt orStopped pieceStanding variableAt
+returns-2 c = record { reads = return-by (signsFrom false (c .before .before .before .before .before .args .close) (c .before .before .before .before .before .args .s .now) (c .before .before .before .before .before .args .from)) ∙ ap orStopped (name-read false (c .before .before .before .before .before .args .close) (c .before .before .before .before .before .args .s .now) (c .before .before .before .before .before .args .from) (c .before .before .before .name-next .result) (c .before .before .before .name-next .ensures) (c .before .v .given .0 .0) (c .before .v .given .0 .1 .0) (c .before .v .given .1) _); moves = omega (arith, name-moves false (c .before .before .before .before .before .args .close) (c .before .before .before .before .before .args .s .now) (c .before .before .before .before .before .args .from) (c .before .before .before .name-next .result) (c .before .before .before .name-next .ensures) (c .before .v .given .0 .0) (c .before .v .given .0 .1 .0) (c .before .v .given .1)); stands = name-stands false (c .before .before .before .before .before .args .close) (c .before .before .before .before .before .args .s .now) (c .before .before .before .before .before .args .from) (c .before .before .before .name-next .result) (c .before .before .before .name-next .ensures) (c .before .v .given .0 .0) (c .before .v .given .0 .1 .0) (c .before .v .given .1) none }
+
+pub returned-spec : {M : Type 1} → statement M
+returned-spec = tie.close (tie.spec name-next-requires enum-known-v enum-told returns returns-2)

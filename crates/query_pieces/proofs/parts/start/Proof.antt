@@ -1,0 +1,35 @@
+use Rattle.model.specs.Places.{none}
+use Rattle.query_pieces.proofs.StepLaws.{start-by}
+use Rattle.query_signs.specs.Reads.{signsFrom}
+use Rattle.query_pieces.proofs.PartLaws.{vertex-read, vertex-unread, vertex-moves, vertex-stands}
+use Rattle.query_pieces.specs.Steps.{stepOf, walkAt, pieceOf, spotOf, chainAt, pieceStanding}
+use Rattle.query_pieces.specs.Walk.{orStopped}
+use native.Mathlib.Omega.{arith}
+use mathlib.Core.Bool.{true}
+use mathlib.Core.Path.{ap, _∙_}
+use borrow.Author.Needs.{needs}
+use Rattle.query_pieces.proofs.parts.start.Statement.{statement}
+use Rattle.query_pieces.proofs.parts.start.Tie as tie
+use Rattle.query_pieces.proofs.parts.start.Reads as reads
+use Rattle.query_pieces.proofs.parts.start.Lts as lts
+use Rattle.query_pieces.proofs.parts.vertex.Reads as vertex-reads
+
+vertex-requires : tie.Need-vertex-requires
+vertex-requires c κs = search needs
+
+enum-known-v : tie.Need-enum-known-v
+enum-known-v c = search needs
+
+enum-told : tie.Need-enum-told
+enum-told c = search needs
+
+returns : tie.Need-returns
+unfolding stepOf walkAt pieceOf spotOf chainAt orStopped
+returns c = record { reads = start-by (signsFrom true true (c .before .before .before .before .args .s .now) (c .before .before .before .before .args .from)) ∙ ap orStopped (vertex-unread true (c .before .before .before .before .args .s .now) (c .before .before .before .before .args .from) (c .before .before .vertex .result) (c .before .before .vertex .ensures) (c .enum-told .given .1) _); moves = tt; stands = tt }
+
+returns-2 : tie.Need-returns-2
+unfolding stepOf walkAt pieceOf spotOf chainAt orStopped pieceStanding
+returns-2 c = record { reads = start-by (signsFrom true true (c .before .before .before .before .before .args .s .now) (c .before .before .before .before .before .args .from)) ∙ ap orStopped (vertex-read true (c .before .before .before .before .before .args .s .now) (c .before .before .before .before .before .args .from) (c .before .before .before .vertex .result) (c .before .before .before .vertex .ensures) (c .before .v .given .0 .0) (c .before .v .given .0 .1 .0) (c .before .v .given .1) _); moves = omega (arith, vertex-moves true (c .before .before .before .before .before .args .s .now) (c .before .before .before .before .before .args .from) (c .before .before .before .vertex .result) (c .before .before .before .vertex .ensures) (c .before .v .given .0 .0) (c .before .v .given .0 .1 .0) (c .before .v .given .1)); stands = vertex-stands true (c .before .before .before .before .before .args .s .now) (c .before .before .before .before .before .args .from) (c .before .before .before .vertex .result) (c .before .before .before .vertex .ensures) (c .before .v .given .0 .0) (c .before .v .given .0 .1 .0) (c .before .v .given .1) none }
+
+pub start-spec : {M : Type 1} → statement M
+start-spec = tie.close (tie.spec vertex-requires enum-known-v enum-told returns returns-2)

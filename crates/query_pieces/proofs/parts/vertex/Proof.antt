@@ -1,0 +1,78 @@
+use Rattle.model.specs.Places.{none, round, vertex, bracketOf, variableAt}
+use Rattle.model.specs.Signs.{isMark}
+use Rattle.model.specs.Bytes.{same}
+use mathlib.Core.List.{_∷_}
+use Rattle.query_pieces.specs.Steps.{vertexThen, onVertex}
+use Rattle.query_pieces.proofs.PartLaws.{mark-read, mark-unread, mark-moves, name-read, name-unread, name-moves, mark-stands, name-stands}
+use Rattle.query_signs.specs.Marks.{markBytes}
+use native.Mathlib.Omega.{arith}
+use mathlib.Core.Bool.{true, false}
+use mathlib.Core.Path.{ap, _∙_}
+use borrow.Author.Needs.{needs}
+use Rattle.query_pieces.proofs.parts.vertex.Statement.{statement}
+use Rattle.query_pieces.proofs.parts.vertex.Tie as tie
+use Rattle.query_pieces.proofs.parts.vertex.Reads as reads
+use Rattle.query_pieces.proofs.parts.vertex.Lts as lts
+use Rattle.query_signs.proofs.expected.mark_next.Reads as mark-next-reads
+use Rattle.query_signs.proofs.expected.name_next.Reads as name-next-reads
+
+mark-next-requires : tie.Need-mark-next-requires
+mark-next-requires c κs = search needs
+
+enum-known-a : tie.Need-enum-known-a
+enum-known-a c = search needs
+
+enum-told : tie.Need-enum-told
+enum-told c = search needs
+
+returns : tie.Need-returns
+unfolding vertexThen onVertex markBytes
+returns c = record { reads = λ f. mark-unread true (c .before .before .before .before .args .close) (c .before .before .before .before .args .s .now) (c .before .before .before .before .args .from) 40 (c .before .before .mark-next .result) (c .before .before .mark-next .ensures) (c .enum-told .given .1) _; moves = tt; stands = λ o. tt }
+
+name-next-requires : tie.Need-name-next-requires
+name-next-requires c κs = search needs
+
+enum-known-v : tie.Need-enum-known-v
+enum-known-v c = search needs
+
+enum-told-2 : tie.Need-enum-told-2
+enum-told-2 c = search needs
+
+returns-2 : tie.Need-returns-2
+unfolding vertexThen onVertex markBytes
+returns-2 c = record { reads = λ f. mark-read true (c .before .before .before .before .before .before .before .before .args .close) (c .before .before .before .before .before .before .before .before .args .s .now) (c .before .before .before .before .before .before .before .before .args .from) 40 (c .before .before .before .before .before .before .mark-next .result) (c .before .before .before .before .before .before .mark-next .ensures) (c .before .before .before .before .a .given .0 .0) (c .before .before .before .before .a .given .1) _ ∙ name-unread true false (c .before .before .before .before .before .before .before .before .args .s .now) (c .before .before .before .before .a .given .0 .0) (c .before .before .name-next .result) (c .before .before .name-next .ensures) (c .enum-told2 .given .1) _; moves = tt; stands = λ o. tt }
+
+mark-next-requires-2 : tie.Need-mark-next-requires-2
+mark-next-requires-2 c κs = search needs
+
+enum-known-q : tie.Need-enum-known-q
+enum-known-q c = search needs
+
+enum-told-3 : tie.Need-enum-told-3
+enum-told-3 c = search needs
+
+returns-3 : tie.Need-returns-3
+unfolding vertexThen onVertex markBytes
+returns-3 c = record { reads = λ f. mark-read true (c .before .before .before .before .before .before .before .before .before .before .before .before .args .close) (c .before .before .before .before .before .before .before .before .before .before .before .before .args .s .now) (c .before .before .before .before .before .before .before .before .before .before .before .before .args .from) 40 (c .before .before .before .before .before .before .before .before .before .before .mark-next .result) (c .before .before .before .before .before .before .before .before .before .before .mark-next .ensures) (c .before .before .before .before .before .before .before .before .a .given .0 .0) (c .before .before .before .before .before .before .before .before .a .given .1) _ ∙ name-read true false (c .before .before .before .before .before .before .before .before .before .before .before .before .args .s .now) (c .before .before .before .before .before .before .before .before .a .given .0 .0) (c .before .before .before .before .before .before .name-next .result) (c .before .before .before .before .before .before .name-next .ensures) (c .before .before .before .before .v .given .0 .0) (c .before .before .before .before .v .given .0 .1 .0) (c .before .before .before .before .v .given .1) _ ∙ mark-unread true true (c .before .before .before .before .before .before .before .before .before .before .before .before .args .s .now) (c .before .before .before .before .v .given .0 .1 .0) 41 (c .before .before .mark-next2 .result) (c .before .before .mark-next2 .ensures) (c .enum-told3 .given .1) _; moves = tt; stands = λ o. tt }
+
+returns-4 : tie.Need-returns-4
+unfolding vertexThen onVertex markBytes bracketOf isMark same variableAt
+returns-4 c = record { reads = λ f. mark-read true (c .before .before .before .before .before .before .before .before .before .before .before .before .before .args .close) (c .before .before .before .before .before .before .before .before .before .before .before .before .before .args .s .now) (c .before .before .before .before .before .before .before .before .before .before .before .before .before .args .from) 40 (c .before .before .before .before .before .before .before .before .before .before .before .mark-next .result) (c .before .before .before .before .before .before .before .before .before .before .before .mark-next .ensures) (c .before .before .before .before .before .before .before .before .before .a .given .0 .0) (c .before .before .before .before .before .before .before .before .before .a .given .1) _ ∙ name-read true false (c .before .before .before .before .before .before .before .before .before .before .before .before .before .args .s .now) (c .before .before .before .before .before .before .before .before .before .a .given .0 .0) (c .before .before .before .before .before .before .before .name-next .result) (c .before .before .before .before .before .before .before .name-next .ensures) (c .before .before .before .before .before .v .given .0 .0) (c .before .before .before .before .before .v .given .0 .1 .0) (c .before .before .before .before .before .v .given .1) _ ∙ mark-read true true (c .before .before .before .before .before .before .before .before .before .before .before .before .before .args .s .now) (c .before .before .before .before .before .v .given .0 .1 .0) 41 (c .before .before .before .mark-next2 .result) (c .before .before .before .mark-next2 .ensures) (c .before .q .given .0 .0) (c .before .q .given .1) _; moves = omega (arith, mark-moves true (c .before .before .before .before .before .before .before .before .before .before .before .before .before .args .close) (c .before .before .before .before .before .before .before .before .before .before .before .before .before .args .s .now) (c .before .before .before .before .before .before .before .before .before .before .before .before .before .args .from) 40 (c .before .before .before .before .before .before .before .before .before .before .before .mark-next .result) (c .before .before .before .before .before .before .before .before .before .before .before .mark-next .ensures) (c .before .before .before .before .before .before .before .before .before .a .given .0 .0) (c .before .before .before .before .before .before .before .before .before .a .given .1), name-moves true false (c .before .before .before .before .before .before .before .before .before .before .before .before .before .args .s .now) (c .before .before .before .before .before .before .before .before .before .a .given .0 .0) (c .before .before .before .before .before .before .before .name-next .result) (c .before .before .before .before .before .before .before .name-next .ensures) (c .before .before .before .before .before .v .given .0 .0) (c .before .before .before .before .before .v .given .0 .1 .0) (c .before .before .before .before .before .v .given .1), mark-moves true true (c .before .before .before .before .before .before .before .before .before .before .before .before .before .args .s .now) (c .before .before .before .before .before .v .given .0 .1 .0) 41 (c .before .before .before .mark-next2 .result) (c .before .before .before .mark-next2 .ensures) (c .before .q .given .0 .0) (c .before .q .given .1)); stands = λ o. mark-stands true (c .before .before .before .before .before .before .before .before .before .before .before .before .before .args .close) (c .before .before .before .before .before .before .before .before .before .before .before .before .before .args .s .now) (c .before .before .before .before .before .before .before .before .before .before .before .before .before .args .from) 40 (c .before .before .before .before .before .before .before .before .before .before .before .mark-next .result) (c .before .before .before .before .before .before .before .before .before .before .before .mark-next .ensures) (c .before .before .before .before .before .before .before .before .before .a .given .0 .0) (c .before .before .before .before .before .before .before .before .before .a .given .1) o ∙ name-stands true false (c .before .before .before .before .before .before .before .before .before .before .before .before .before .args .s .now) (c .before .before .before .before .before .before .before .before .before .a .given .0 .0) (c .before .before .before .before .before .before .before .name-next .result) (c .before .before .before .before .before .before .before .name-next .ensures) (c .before .before .before .before .before .v .given .0 .0) (c .before .before .before .before .before .v .given .0 .1 .0) (c .before .before .before .before .before .v .given .1) round ∙ ap (λ l. vertex (c .before .before .before .before .before .v .given .0 .0) ∷ l) (mark-stands true true (c .before .before .before .before .before .before .before .before .before .before .before .before .before .args .s .now) (c .before .before .before .before .before .v .given .0 .1 .0) 41 (c .before .before .before .mark-next2 .result) (c .before .before .before .mark-next2 .ensures) (c .before .q .given .0 .0) (c .before .q .given .1) none) }
+
+pub vertex-spec : {M : Type 1} → statement M
+vertex-spec =
+    tie.close
+    (tie.spec
+    mark-next-requires
+    enum-known-a
+    enum-told
+    returns
+    name-next-requires
+    enum-known-v
+    enum-told-2
+    returns-2
+    mark-next-requires-2
+    enum-known-q
+    enum-told-3
+    returns-3
+    returns-4)

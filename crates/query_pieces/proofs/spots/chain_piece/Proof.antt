@@ -1,0 +1,93 @@
+use Rattle.query_pieces.proofs.SpotLaws.{step-same, chain-goes, chain-comes, chain-where, chain-match, chain-return, chain-none}
+use Rattle.query_pieces.specs.Steps.{stepOf}
+use mathlib.Core.Path.{sym, _∙_}
+use borrow.Author.Needs.{needs}
+use Rattle.query_pieces.proofs.spots.chain_piece.Statement.{statement}
+use Rattle.query_pieces.proofs.spots.chain_piece.Tie as tie
+use Rattle.query_pieces.proofs.spots.chain_piece.Reads as reads
+use Rattle.query_pieces.proofs.spots.chain_piece.Lts as lts
+use Rattle.query_pieces.proofs.parts.comes.Reads as comes-reads
+use Rattle.query_pieces.proofs.parts.condition.Reads as condition-reads
+use Rattle.query_pieces.proofs.parts.goes.Reads as goes-reads
+use Rattle.query_pieces.proofs.parts.returned.Reads as returned-reads
+use Rattle.query_pieces.proofs.parts.start.Reads as start-reads
+use Rattle.query_pieces.proofs.spots.is_word.Reads as is-word-reads
+use Rattle.query_signs.proofs.expected.mark_code.Reads as mark-code-reads
+
+mark-code-requires : tie.Need-mark-code-requires
+mark-code-requires c κs = search needs
+
+goes-requires : tie.Need-goes-requires
+goes-requires c κs = search needs
+
+returns : tie.Need-returns
+returns c = step-same _ _ (c .before .before .before .before .args .s .now) (c .before .before .before .before .args .q) (c .goes .result) (chain-goes (c .before .before .before .before .args .s .now) (c .before .before .before .before .args .t) (c .before .before .before .before .args .q) (sym (c .before .before .mark-code .ensures) ∙ c .before .if1 .taken)) (c .goes .ensures)
+
+comes-requires : tie.Need-comes-requires
+comes-requires c κs = search needs
+
+returns-2 : tie.Need-returns-2
+returns-2 c = step-same _ _ (c .before .before .before .before .before .args .s .now) (c .before .before .before .before .before .args .q) (c .comes .result) (chain-comes (c .before .before .before .before .before .args .s .now) (c .before .before .before .before .before .args .t) (c .before .before .before .before .before .args .q) (sym (c .before .before .before .mark-code .ensures) ∙ c .before .if2 .taken)) (c .comes .ensures)
+
+slice-aggregate-is-word : tie.Need-slice-aggregate-is-word
+slice-aggregate-is-word c = search needs
+
+is-word-requires : tie.Need-is-word-requires
+is-word-requires c κs = search needs
+
+condition-requires : tie.Need-condition-requires
+condition-requires c κs = search needs
+
+returns-3 : tie.Need-returns-3
+returns-3 c = step-same _ _ (c .before .before .before .before .before .before .before .before .args .s .now) (c .before .before .before .before .before .before .before .before .args .q) (c .condition .result) (chain-where (c .before .before .before .before .before .before .before .before .args .s .now) (c .before .before .before .before .before .before .before .before .args .t) (c .before .before .before .before .before .before .before .before .args .q) (sym (c .before .before .is-word .ensures) ∙ c .before .if3 .taken)) (c .condition .ensures)
+
+slice-aggregate-is-word-2 : tie.Need-slice-aggregate-is-word-2
+slice-aggregate-is-word-2 c = search needs
+
+is-word-requires-2 : tie.Need-is-word-requires-2
+is-word-requires-2 c κs = search needs
+
+start-requires : tie.Need-start-requires
+start-requires c κs = search needs
+
+returns-4 : tie.Need-returns-4
+returns-4 c = step-same _ _ (c .before .before .before .before .before .before .before .before .before .before .before .args .s .now) (c .before .before .before .before .before .before .before .before .before .before .before .args .q) (c .start .result) (chain-match (c .before .before .before .before .before .before .before .before .before .before .before .args .s .now) (c .before .before .before .before .before .before .before .before .before .before .before .args .t) (c .before .before .before .before .before .before .before .before .before .before .before .args .q) (sym (c .before .before .is-word2 .ensures) ∙ c .before .if4 .taken)) (c .start .ensures)
+
+slice-aggregate-is-word-3 : tie.Need-slice-aggregate-is-word-3
+slice-aggregate-is-word-3 c = search needs
+
+is-word-requires-3 : tie.Need-is-word-requires-3
+is-word-requires-3 c κs = search needs
+
+returned-requires : tie.Need-returned-requires
+returned-requires c κs = search needs
+
+returns-5 : tie.Need-returns-5
+returns-5 c = step-same _ _ (c .before .before .before .before .before .before .before .before .before .before .before .before .before .before .args .s .now) (c .before .before .before .before .before .before .before .before .before .before .before .before .before .before .args .q) (c .returned .result) (chain-return (c .before .before .before .before .before .before .before .before .before .before .before .before .before .before .args .s .now) (c .before .before .before .before .before .before .before .before .before .before .before .before .before .before .args .t) (c .before .before .before .before .before .before .before .before .before .before .before .before .before .before .args .q) (sym (c .before .before .is-word3 .ensures) ∙ c .before .if5 .taken)) (c .returned .ensures)
+
+returns-6 : tie.Need-returns-6
+unfolding stepOf
+returns-6 c = record { reads = chain-none (c .before .before .before .before .before .before .before .before .before .before .before .before .before .args .s .now) (c .before .before .before .before .before .before .before .before .before .before .before .before .before .args .t) (c .before .before .before .before .before .before .before .before .before .before .before .before .before .args .q) (λ z. c .before .before .before .before .before .before .before .before .before .before .if1 .left (c .before .before .before .before .before .before .before .before .before .before .before .mark-code .ensures ∙ z)) (λ z. c .before .before .before .before .before .before .before .before .before .if2 .left (c .before .before .before .before .before .before .before .before .before .before .before .mark-code .ensures ∙ z)) (sym (c .before .before .before .before .before .before .before .is-word .ensures) ∙ c .before .before .before .before .before .before .if3 .left) (sym (c .before .before .before .before .is-word2 .ensures) ∙ c .before .before .before .if4 .left) (sym (c .before .is-word3 .ensures) ∙ c .if5 .left); moves = tt; stands = tt }
+
+pub chain-piece-spec : {M : Type 1} → statement M
+chain-piece-spec =
+    tie.close
+    (tie.spec
+    mark-code-requires
+    goes-requires
+    returns
+    comes-requires
+    returns-2
+    slice-aggregate-is-word
+    is-word-requires
+    condition-requires
+    returns-3
+    slice-aggregate-is-word-2
+    is-word-requires-2
+    start-requires
+    returns-4
+    slice-aggregate-is-word-3
+    is-word-requires-3
+    returned-requires
+    returns-5
+    returns-6)

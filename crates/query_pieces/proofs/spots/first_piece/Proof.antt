@@ -1,0 +1,30 @@
+use Rattle.query_pieces.proofs.SpotLaws.{step-same, first-match, first-none}
+use Rattle.query_pieces.specs.Steps.{stepOf}
+use mathlib.Core.Path.{sym, _∙_}
+use borrow.Author.Needs.{needs}
+use Rattle.query_pieces.proofs.spots.first_piece.Statement.{statement}
+use Rattle.query_pieces.proofs.spots.first_piece.Tie as tie
+use Rattle.query_pieces.proofs.spots.first_piece.Reads as reads
+use Rattle.query_pieces.proofs.spots.first_piece.Lts as lts
+use Rattle.query_pieces.proofs.parts.start.Reads as start-reads
+use Rattle.query_pieces.proofs.spots.is_word.Reads as is-word-reads
+
+slice-aggregate-is-word : tie.Need-slice-aggregate-is-word
+slice-aggregate-is-word c = search needs
+
+is-word-requires : tie.Need-is-word-requires
+is-word-requires c κs = search needs
+
+start-requires : tie.Need-start-requires
+start-requires c κs = search needs
+
+returns : tie.Need-returns
+returns c = step-same _ _ (c .before .before .before .before .before .args .s .now) (c .before .before .before .before .before .args .q) (c .start .result) (first-match (c .before .before .before .before .before .args .s .now) (c .before .before .before .before .before .args .t) (c .before .before .before .before .before .args .q) (sym (c .before .before .is-word .ensures) ∙ c .before .if1 .taken)) (c .start .ensures)
+
+returns-2 : tie.Need-returns-2
+unfolding stepOf
+returns-2 c = record { reads = first-none (c .before .before .before .before .args .s .now) (c .before .before .before .before .args .t) (c .before .before .before .before .args .q) (sym (c .before .is-word .ensures) ∙ c .if1 .left); moves = tt; stands = tt }
+
+pub first-piece-spec : {M : Type 1} → statement M
+first-piece-spec =
+    tie.close (tie.spec slice-aggregate-is-word is-word-requires start-requires returns returns-2)

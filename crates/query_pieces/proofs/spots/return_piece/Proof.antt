@@ -1,0 +1,26 @@
+use Rattle.query_pieces.proofs.SpotLaws.{step-same, return-comma, return-none}
+use Rattle.query_pieces.specs.Steps.{stepOf}
+use mathlib.Core.Path.{sym, _∙_}
+use borrow.Author.Needs.{needs}
+use Rattle.query_pieces.proofs.spots.return_piece.Statement.{statement}
+use Rattle.query_pieces.proofs.spots.return_piece.Tie as tie
+use Rattle.query_pieces.proofs.spots.return_piece.Reads as reads
+use Rattle.query_pieces.proofs.spots.return_piece.Lts as lts
+use Rattle.query_pieces.proofs.parts.returned.Reads as returned-reads
+use Rattle.query_signs.proofs.expected.mark_code.Reads as mark-code-reads
+
+mark-code-requires : tie.Need-mark-code-requires
+mark-code-requires c κs = search needs
+
+returned-requires : tie.Need-returned-requires
+returned-requires c κs = search needs
+
+returns : tie.Need-returns
+returns c = step-same _ _ (c .before .before .before .before .args .s .now) (c .before .before .before .before .args .q) (c .returned .result) (return-comma (c .before .before .before .before .args .s .now) (c .before .before .before .before .args .t) (c .before .before .before .before .args .q) (sym (c .before .before .mark-code .ensures) ∙ c .before .if1 .taken)) (c .returned .ensures)
+
+returns-2 : tie.Need-returns-2
+unfolding stepOf
+returns-2 c = record { reads = return-none (c .before .before .before .args .s .now) (c .before .before .before .args .t) (c .before .before .before .args .q) (λ z. c .if1 .left (c .before .mark-code .ensures ∙ z)); moves = tt; stands = tt }
+
+pub return-piece-spec : {M : Type 1} → statement M
+return-piece-spec = tie.close (tie.spec mark-code-requires returned-requires returns returns-2)

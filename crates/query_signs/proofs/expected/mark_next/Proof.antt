@@ -1,0 +1,51 @@
+-- `signs::expected::mark_next` meets its contract.
+use Rattle.query_signs.proofs.ExpectLaws.{mark-end}
+use Rattle.query_signs.proofs.FrontLaws.{mark-other, mark-number, mark-next}
+use Rattle.query_signs.proofs.SignLaws.{none-left, mark-small}
+use Rattle.query_signs.specs.Marks.{markGot}
+use native.Mathlib.Omega.{arith}
+use mathlib.Core.Path.{sym, ap, _∙_}
+use borrow.Author.Needs.{needs}
+use Rattle.query_signs.proofs.expected.mark_next.Statement.{statement}
+use Rattle.query_signs.proofs.expected.mark_next.Tie as tie
+
+blanks-end-requires : tie.Need-blanks-end-requires
+blanks-end-requires c κs = search needs
+
+returns : tie.Need-returns
+returns c = mark-end (c .before .before .before .args .chain) (c .before .before .before .args .close) (c .before .before .before .args .s .now) (c .before .before .before .args .from) (c .before .before .before .args .code) (none-left (c .before .before .before .args .chain) (c .before .before .before .args .close) (c .before .before .before .args .s .now) (c .before .before .before .args .from) (c .before .blanks-end .result) (c .before .blanks-end .ensures) (c .if1 .taken))
+
+mark-at-requires : tie.Need-mark-at-requires
+mark-at-requires c κs = search needs
+
+returns-2 : tie.Need-returns-2
+returns-2 c = mark-other (c .before .before .before .before .before .args .chain) (c .before .before .before .before .before .args .close) (c .before .before .before .before .before .args .s .now) (c .before .before .before .before .before .args .from) (c .before .before .before .blanks-end .result) (c .before .before .before .blanks-end .ensures) (c .before .before .if1 .left) (c .before .before .before .before .before .args .code) (c .before .mark-at .result) (c .before .mark-at .ensures) (c .if2 .taken)
+
+starts-number-requires : tie.Need-starts-number-requires
+starts-number-requires c κs = search needs
+
+returns-3 : tie.Need-returns-3
+returns-3 c = mark-number (c .before .before .before .before .before .before .before .args .chain) (c .before .before .before .before .before .before .before .args .close) (c .before .before .before .before .before .before .before .args .s .now) (c .before .before .before .before .before .before .before .args .from) (c .before .before .before .before .before .blanks-end .result) (c .before .before .before .before .before .blanks-end .ensures) (c .before .before .before .before .if1 .left) (c .before .before .before .before .before .before .before .args .code) (sym (c .before .starts-number .ensures) ∙ c .if3 .taken)
+
+mark-size-requires : tie.Need-mark-size-requires
+mark-size-requires c κs = search needs
+
+add-t10 : tie.Need-add-t10
+add-t10 c = omega (arith, c .mark-size .ensures, mark-small (c .before .before .before .before .before .before .before .before .args .code))
+
+returns-4 : tie.Need-returns-4
+returns-4 c = mark-next (c .before .before .before .before .before .before .before .before .args .chain) (c .before .before .before .before .before .before .before .before .args .close) (c .before .before .before .before .before .before .before .before .args .s .now) (c .before .before .before .before .before .before .before .before .args .from) (c .before .before .before .before .before .before .blanks-end .result) (c .before .before .before .before .before .before .blanks-end .ensures) (c .before .before .before .before .before .if1 .left) (c .before .before .before .before .before .before .before .before .args .code) (c .before .before .before .before .before .before .before .before .pre) (c .mark-size .result) (ap markGot (sym (c .before .before .before .if2 .left)) ∙ c .before .before .before .before .mark-at .ensures) (sym (c .before .before .starts-number .ensures) ∙ c .before .if3 .left) (c .mark-size .ensures)
+
+pub mark-next-spec : {M : Type 1} → statement M
+mark-next-spec =
+    tie.close
+    (tie.spec
+    blanks-end-requires
+    returns
+    mark-at-requires
+    returns-2
+    starts-number-requires
+    returns-3
+    mark-size-requires
+    add-t10
+    returns-4)

@@ -1,0 +1,85 @@
+-- `signs::expected::name_next` meets its contract.
+use Rattle.query_signs.proofs.FrontLaws.{name-other, name-long, name-within, name-close, name-found, name-reserved}
+use Rattle.model.specs.Answers.{partOf}
+use Rattle.model.specs.Words.{isLetter}
+use native.Mathlib.Omega.{arith}
+use borrow.Author.Tests.{not-true, not-false}
+use mathlib.Core.Path.{sym, ap, _∙_}
+use borrow.Author.Needs.{needs}
+use Rattle.query_signs.proofs.expected.name_next.Statement.{statement}
+use Rattle.query_signs.proofs.expected.name_next.Tie as tie
+
+blanks-end-requires : tie.Need-blanks-end-requires
+blanks-end-requires c κs = search needs
+
+peek-requires : tie.Need-peek-requires
+peek-requires c κs = search needs
+
+is-letter-requires : tie.Need-is-letter-requires
+is-letter-requires c κs = search needs
+
+returns : tie.Need-returns
+returns c = name-other (c .before .before .before .before .before .args .chain) (c .before .before .before .before .before .args .close) (c .before .before .before .before .before .args .s .now) (c .before .before .before .before .before .args .from) (c .before .before .before .blanks-end .result) (c .before .before .before .blanks-end .ensures) (ap isLetter (sym (c .before .before .peek .ensures)) ∙ sym (c .before .is-letter .ensures) ∙ not-true (c .before .is-letter .result) (c .if1 .taken))
+
+word-requires : tie.Need-word-requires
+word-requires c κs = search needs
+
+enum-known-q : tie.Need-enum-known-q
+enum-known-q c = search needs
+
+enum-told : tie.Need-enum-told
+enum-told c = search needs
+
+returns-2 : tie.Need-returns-2
+returns-2 c = name-long (c .before .before .before .before .before .before .before .before .args .chain) (c .before .before .before .before .before .before .before .before .args .close) (c .before .before .before .before .before .before .before .before .args .s .now) (c .before .before .before .before .before .before .before .before .args .from) (c .before .before .before .before .before .before .blanks-end .result) (c .before .before .before .before .before .before .blanks-end .ensures) (ap isLetter (sym (c .before .before .before .before .before .peek .ensures)) ∙ sym (c .before .before .before .before .is-letter .ensures) ∙ not-false (c .before .before .before .before .is-letter .result) (c .before .before .before .if1 .left)) (sym (c .enum-told .given .1) ∙ c .before .before .word .ensures)
+
+touches-requires : tie.Need-touches-requires
+touches-requires c κs = search needs
+
+returns-3 : tie.Need-returns-3
+returns-3 c = name-close (c .before .before .before .before .before .before .before .before .before .before .before .args .chain) (c .before .before .before .before .before .before .before .before .before .before .before .args .close) (c .before .before .before .before .before .before .before .before .before .before .before .args .s .now) (c .before .before .before .before .before .before .before .before .before .before .before .args .from) (c .before .before .before .before .before .before .before .before .before .blanks-end .result) (c .before .before .before .before .before .before .before .before .before .blanks-end .ensures) (ap isLetter (sym (c .before .before .before .before .before .before .before .before .peek .ensures)) ∙ sym (c .before .before .before .before .before .before .before .is-letter .ensures) ∙ not-false (c .before .before .before .before .before .before .before .is-letter .result) (c .before .before .before .before .before .before .if1 .left)) (c .before .before .before .q .given .0 .0) (sym (c .before .before .before .q .given .1) ∙ c .before .before .before .before .before .word .ensures) (sym (c .before .touches .ensures) ∙ c .if2 .taken)
+
+sub-is-name : tie.Need-sub-is-name
+sub-is-name c = omega (arith, name-within (c .before .before .before .before .before .before .before .before .before .before .before .args .chain) (c .before .before .before .before .before .before .before .before .before .before .before .args .close) (c .before .before .before .before .before .before .before .before .before .before .before .args .s .now) (c .before .before .before .before .before .before .before .before .before .before .before .args .from) (c .before .before .before .before .before .before .before .before .before .blanks-end .result) (c .before .before .before .before .before .before .before .before .before .blanks-end .ensures) (ap isLetter (sym (c .before .before .before .before .before .before .before .before .peek .ensures)) ∙ sym (c .before .before .before .before .before .before .before .is-letter .ensures) ∙ not-false (c .before .before .before .before .before .before .before .is-letter .result) (c .before .before .before .before .before .before .if1 .left)) (c .before .before .before .q .given .0 .0) (sym (c .before .before .before .q .given .1) ∙ c .before .before .before .before .before .word .ensures))
+
+part-is-name-start : tie.Need-part-is-name-start
+part-is-name-start c = omega (arith, name-within (c .before .before .before .before .before .before .before .before .before .before .before .args .chain) (c .before .before .before .before .before .before .before .before .before .before .before .args .close) (c .before .before .before .before .before .before .before .before .before .before .before .args .s .now) (c .before .before .before .before .before .before .before .before .before .before .before .args .from) (c .before .before .before .before .before .before .before .before .before .blanks-end .result) (c .before .before .before .before .before .before .before .before .before .blanks-end .ensures) (ap isLetter (sym (c .before .before .before .before .before .before .before .before .peek .ensures)) ∙ sym (c .before .before .before .before .before .before .before .is-letter .ensures) ∙ not-false (c .before .before .before .before .before .before .before .is-letter .result) (c .before .before .before .before .before .before .if1 .left)) (c .before .before .before .q .given .0 .0) (sym (c .before .before .before .q .given .1) ∙ c .before .before .before .before .before .word .ensures))
+
+part-is-name-end : tie.Need-part-is-name-end
+part-is-name-end c = omega (arith, name-within (c .before .before .before .before .before .before .before .before .before .before .before .args .chain) (c .before .before .before .before .before .before .before .before .before .before .before .args .close) (c .before .before .before .before .before .before .before .before .before .before .before .args .s .now) (c .before .before .before .before .before .before .before .before .before .before .before .args .from) (c .before .before .before .before .before .before .before .before .before .blanks-end .result) (c .before .before .before .before .before .before .before .before .before .blanks-end .ensures) (ap isLetter (sym (c .before .before .before .before .before .before .before .before .peek .ensures)) ∙ sym (c .before .before .before .before .before .before .before .is-letter .ensures) ∙ not-false (c .before .before .before .before .before .before .before .is-letter .result) (c .before .before .before .before .before .before .if1 .left)) (c .before .before .before .q .given .0 .0) (sym (c .before .before .before .q .given .1) ∙ c .before .before .before .before .before .word .ensures))
+
+is-name-requires : tie.Need-is-name-requires
+is-name-requires c κs = search needs
+
+sub-t16 : tie.Need-sub-t16
+sub-t16 c = omega (arith, name-within (c .before .before .before .before .before .before .before .before .before .before .before .before .before .before .args .chain) (c .before .before .before .before .before .before .before .before .before .before .before .before .before .before .args .close) (c .before .before .before .before .before .before .before .before .before .before .before .before .before .before .args .s .now) (c .before .before .before .before .before .before .before .before .before .before .before .before .before .before .args .from) (c .before .before .before .before .before .before .before .before .before .before .before .before .blanks-end .result) (c .before .before .before .before .before .before .before .before .before .before .before .before .blanks-end .ensures) (ap isLetter (sym (c .before .before .before .before .before .before .before .before .before .before .before .peek .ensures)) ∙ sym (c .before .before .before .before .before .before .before .before .before .before .is-letter .ensures) ∙ not-false (c .before .before .before .before .before .before .before .before .before .before .is-letter .result) (c .before .before .before .before .before .before .before .before .before .if1 .left)) (c .before .before .before .before .before .before .q .given .0 .0) (sym (c .before .before .before .before .before .before .q .given .1) ∙ c .before .before .before .before .before .before .before .before .word .ensures))
+
+returns-4 : tie.Need-returns-4
+unfolding partOf
+returns-4 c = name-found (c .before .before .before .before .before .before .before .before .before .before .before .before .before .before .args .chain) (c .before .before .before .before .before .before .before .before .before .before .before .before .before .before .args .close) (c .before .before .before .before .before .before .before .before .before .before .before .before .before .before .args .s .now) (c .before .before .before .before .before .before .before .before .before .before .before .before .before .before .args .from) (c .before .before .before .before .before .before .before .before .before .before .before .before .blanks-end .result) (c .before .before .before .before .before .before .before .before .before .before .before .before .blanks-end .ensures) (ap isLetter (sym (c .before .before .before .before .before .before .before .before .before .before .before .peek .ensures)) ∙ sym (c .before .before .before .before .before .before .before .before .before .before .is-letter .ensures) ∙ not-false (c .before .before .before .before .before .before .before .before .before .before .is-letter .result) (c .before .before .before .before .before .before .before .before .before .if1 .left)) (c .before .before .before .before .before .before .q .given .0 .0) (sym (c .before .before .before .before .before .before .q .given .1) ∙ c .before .before .before .before .before .before .before .before .word .ensures) (sym (c .before .before .before .before .touches .ensures) ∙ c .before .before .before .if2 .left) (sym (c .before .is-name .ensures) ∙ c .if3 .taken)
+
+returns-5 : tie.Need-returns-5
+unfolding partOf
+returns-5 c = name-reserved (c .before .before .before .before .before .before .before .before .before .before .before .before .before .before .args .chain) (c .before .before .before .before .before .before .before .before .before .before .before .before .before .before .args .close) (c .before .before .before .before .before .before .before .before .before .before .before .before .before .before .args .s .now) (c .before .before .before .before .before .before .before .before .before .before .before .before .before .before .args .from) (c .before .before .before .before .before .before .before .before .before .before .before .before .blanks-end .result) (c .before .before .before .before .before .before .before .before .before .before .before .before .blanks-end .ensures) (ap isLetter (sym (c .before .before .before .before .before .before .before .before .before .before .before .peek .ensures)) ∙ sym (c .before .before .before .before .before .before .before .before .before .before .is-letter .ensures) ∙ not-false (c .before .before .before .before .before .before .before .before .before .before .is-letter .result) (c .before .before .before .before .before .before .before .before .before .if1 .left)) (c .before .before .before .before .before .before .q .given .0 .0) (sym (c .before .before .before .before .before .before .q .given .1) ∙ c .before .before .before .before .before .before .before .before .word .ensures) (sym (c .before .before .before .before .touches .ensures) ∙ c .before .before .before .if2 .left) (sym (c .before .is-name .ensures) ∙ c .if3 .left)
+
+pub name-next-spec : {M : Type 1} → statement M
+name-next-spec =
+    tie.close
+    (tie.spec
+    blanks-end-requires
+    peek-requires
+    is-letter-requires
+    returns
+    word-requires
+    enum-known-q
+    enum-told
+    returns-2
+    touches-requires
+    returns-3
+    sub-is-name
+    part-is-name-start
+    part-is-name-end
+    is-name-requires
+    sub-t16
+    returns-4
+    returns-5)

@@ -1,0 +1,69 @@
+use Rattle.query_signs.proofs.SignLaws.{part-long, part-none}
+use Rattle.model.specs.Answers.{partOf}
+use denote.Ref.{now}
+use lib.ListN.{take, drop}
+use native.Mathlib.Nat.{add-sub-cancel-left}
+use Prim.Native.Nat.{ℕ}
+use mathlib.Core.Path.{ap}
+use borrow.Author.Needs.{needs}
+use Rattle.query_signs.proofs.expected.part.Statement.{statement}
+use Rattle.query_signs.proofs.expected.part.Tie as tie
+use Rattle.query_signs.proofs.expected.part.Reads as reads
+use Rattle.query_signs.proofs.expected.part.Lts as lts
+
+sub-if2 : tie.Need-sub-if2
+sub-if2 c = search needs
+
+add-result : tie.Need-add-result
+add-result c = search needs
+
+sub-result : tie.Need-sub-result
+sub-result c = search needs
+
+part-result-start : tie.Need-part-result-start
+part-result-start c = search needs
+
+part-result-end : tie.Need-part-result-end
+part-result-end c = search needs
+
+sub-result-2 : tie.Need-sub-result-2
+sub-result-2 c = search needs
+
+part-result-start-2 : tie.Need-part-result-start-2
+part-result-start-2 c = search needs
+
+part-result-end-2 : tie.Need-part-result-end-2
+part-result-end-2 c = search needs
+
+slice-aggregate-result : tie.Need-slice-aggregate-result
+slice-aggregate-result c = search needs
+
+returns : tie.Need-returns
+unfolding partOf
+returns c = let a = c .before .before .before .args in
+    ap (λ (k : ℕ). take k (drop (a .start) (now (a .s)))) (add-sub-cancel-left (a .start) (a .length))
+
+returns-2 : tie.Need-returns-2
+unfolding partOf
+returns-2 c = part-long (c .before .before .before .args .s .now) (c .before .before .before .args .start) (c .before .before .before .args .length) (c .before .if2 .left)
+
+returns-3 : tie.Need-returns-3
+unfolding partOf
+returns-3 c = part-none (c .before .before .args .s .now) (c .before .before .args .start) (c .before .before .args .length) (c .before .if1 .left)
+
+pub part-spec : {M : Type 1} → statement M
+part-spec =
+    tie.close
+    (tie.spec
+    sub-if2
+    add-result
+    sub-result
+    part-result-start
+    part-result-end
+    sub-result-2
+    part-result-start-2
+    part-result-end-2
+    slice-aggregate-result
+    returns
+    returns-2
+    returns-3)

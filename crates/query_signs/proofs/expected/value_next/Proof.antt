@@ -1,0 +1,69 @@
+use Rattle.query_signs.proofs.ExpectLaws.{value-end, value-mark, value-whole, value-text, value-word}
+use Rattle.query_signs.specs.Expected.{ValueNext}
+use Rattle.query_signs.specs.declared.Sign.{Sign}
+use Rattle.query_signs.specs.declared.SignRead.the-variants.{Found}
+use mathlib.Core.Path.{sym, ap, subst, _∙_}
+use borrow.Author.Needs.{needs}
+use Rattle.query_signs.proofs.expected.value_next.Statement.{statement}
+use Rattle.query_signs.proofs.expected.value_next.Tie as tie
+use Rattle.query_signs.proofs.expected.value_next.Reads as reads
+use Rattle.query_signs.proofs.expected.value_next.Lts as lts
+use Rattle.query_signs.proofs.expected.truth_or.Reads as truth-or-reads
+use Rattle.query_signs.proofs.reading.next_sign.Reads as next-sign-reads
+
+next-sign-requires : tie.Need-next-sign-requires
+next-sign-requires c κs = search needs
+
+enum-known-t : tie.Need-enum-known-t
+enum-known-t c = search needs
+
+enum-told : tie.Need-enum-told
+enum-told c = search needs
+
+returns : tie.Need-returns
+returns c = value-end (c .before .before .before .before .args .close) (c .before .before .before .before .args .s .now) (c .before .before .before .before .args .from) (c .before .before .next-sign .result) (c .before .before .next-sign .ensures) (c .enum-told .given .1)
+
+enum-known-t-2 : tie.Need-enum-known-t-2
+enum-known-t-2 c = search needs
+
+truth-or-requires : tie.Need-truth-or-requires
+truth-or-requires c κs = search needs
+
+enum-known-t-3 : tie.Need-enum-known-t-3
+enum-known-t-3 c = search needs
+
+enum-known-t-4 : tie.Need-enum-known-t-4
+enum-known-t-4 c = search needs
+
+enum-told-2 : tie.Need-enum-told-2
+enum-told-2 c = search needs
+
+returns-2 : tie.Need-returns-2
+returns-2 c = subst (λ r. ValueNext (c .before .before .before .before .before .before .before .before .before .args .close) (c .before .before .before .before .before .before .before .before .before .args .s .now) (c .before .before .before .before .before .before .before .before .before .args .from) r) (sym (c .truth-or .ensures)) (value-word (c .before .before .before .before .before .before .before .before .before .args .close) (c .before .before .before .before .before .before .before .before .before .args .s .now) (c .before .before .before .before .before .before .before .before .before .args .from) (c .before .before .before .before .before .before .before .next-sign .result) (c .before .before .before .before .before .before .before .next-sign .ensures) (c .before .before .before .before .before .t .given .0 .1 .0) (c .before .before .t2 .given .0 .0) (c .before .before .before .before .before .t .given .1 ∙ ap (λ (t : Sign). Found t (c .before .before .before .before .before .t .given .0 .1 .0)) (c .before .before .t2 .given .1)))
+
+returns-3 : tie.Need-returns-3
+returns-3 c = value-whole (c .before .before .before .before .before .before .before .before .args .close) (c .before .before .before .before .before .before .before .before .args .s .now) (c .before .before .before .before .before .before .before .before .args .from) (c .before .before .before .before .before .before .next-sign .result) (c .before .before .before .before .before .before .next-sign .ensures) (c .before .before .before .before .t .given .0 .1 .0) (c .before .t3 .given .0 .0) (c .before .before .before .before .t .given .1 ∙ ap (λ (t : Sign). Found t (c .before .before .before .before .t .given .0 .1 .0)) (c .before .t3 .given .1))
+
+returns-4 : tie.Need-returns-4
+returns-4 c = value-text (c .before .before .before .before .before .before .before .before .args .close) (c .before .before .before .before .before .before .before .before .args .s .now) (c .before .before .before .before .before .before .before .before .args .from) (c .before .before .before .before .before .before .next-sign .result) (c .before .before .before .before .before .before .next-sign .ensures) (c .before .before .before .before .t .given .0 .1 .0) (c .before .t4 .given .0 .0) (c .before .before .before .before .t .given .1 ∙ ap (λ (t : Sign). Found t (c .before .before .before .before .t .given .0 .1 .0)) (c .before .t4 .given .1))
+
+returns-5 : tie.Need-returns-5
+returns-5 c = value-mark (c .before .before .before .before .before .before .before .args .close) (c .before .before .before .before .before .before .before .args .s .now) (c .before .before .before .before .before .before .before .args .from) (c .before .before .before .before .before .next-sign .result) (c .before .before .before .before .before .next-sign .ensures) (c .before .before .before .t .given .0 .1 .0) (c .enum-told2 .given .0 .0) (c .before .before .before .t .given .1 ∙ ap (λ (t : Sign). Found t (c .before .before .before .t .given .0 .1 .0)) (c .enum-told2 .given .1))
+
+pub value-next-spec : {M : Type 1} → statement M
+value-next-spec =
+    tie.close
+    (tie.spec
+    next-sign-requires
+    enum-known-t
+    enum-told
+    returns
+    enum-known-t-2
+    truth-or-requires
+    enum-known-t-3
+    enum-known-t-4
+    enum-told-2
+    returns-2
+    returns-3
+    returns-4
+    returns-5)

@@ -1,0 +1,46 @@
+use Rattle.query_signs.proofs.SignLaws.{number-digit, number-none, number-minus}
+use mathlib.Core.Path.{sym, _∙_}
+use borrow.Author.Needs.{needs}
+use Rattle.query_signs.proofs.kinds.starts_number.Statement.{statement}
+use Rattle.query_signs.proofs.kinds.starts_number.Tie as tie
+use Rattle.query_signs.proofs.kinds.starts_number.Reads as reads
+use Rattle.query_signs.proofs.kinds.starts_number.Lts as lts
+use Rattle.text.proofs.bytes.is_digit.Reads as is-digit-reads
+use Rattle.text.proofs.bytes.peek.Reads as peek-reads
+
+peek-requires : tie.Need-peek-requires
+peek-requires c κs = search needs
+
+is-digit-requires : tie.Need-is-digit-requires
+is-digit-requires c κs = search needs
+
+returns : tie.Need-returns
+returns c = number-digit (c .before .before .before .before .args .s .now) (c .before .before .before .before .args .at) (c .before .before .peek .result) (c .before .before .peek .ensures) (sym (c .before .is-digit .ensures) ∙ c .if1 .taken)
+
+returns-2 : tie.Need-returns-2
+returns-2 c = number-none (c .before .before .before .before .before .args .s .now) (c .before .before .before .before .before .args .at) (c .before .before .before .peek .result) (c .before .before .before .peek .ensures) (sym (c .before .before .is-digit .ensures) ∙ c .before .if1 .left) (c .if2 .taken)
+
+add-peek : tie.Need-add-peek
+add-peek c = search needs
+
+peek-requires-2 : tie.Need-peek-requires-2
+peek-requires-2 c κs = search needs
+
+is-digit-requires-2 : tie.Need-is-digit-requires-2
+is-digit-requires-2 c κs = search needs
+
+returns-3 : tie.Need-returns-3
+returns-3 c = number-minus (c .before .before .before .before .before .before .before .args .s .now) (c .before .before .before .before .before .before .before .args .at) (c .before .before .before .before .before .peek .result) (c .before .before .before .before .before .peek .ensures) (sym (c .before .before .before .before .is-digit .ensures) ∙ c .before .before .before .if1 .left) (c .before .before .if2 .left) (c .before .peek2 .result) (c .before .peek2 .ensures) (c .is-digit2 .result) (c .is-digit2 .ensures)
+
+pub starts-number-spec : {M : Type 1} → statement M
+starts-number-spec =
+    tie.close
+    (tie.spec
+    peek-requires
+    is-digit-requires
+    returns
+    returns-2
+    add-peek
+    peek-requires-2
+    is-digit-requires-2
+    returns-3)

@@ -1,0 +1,66 @@
+use Rattle.query_signs.proofs.MarkLaws.{peek-bound, mark-arrow, mark-pair, mark-one, mark-none}
+use native.Mathlib.Omega.{arith}
+use Prim.Native.Nat.{_+_}
+use mathlib.Core.Path.{sym, _∙_}
+use borrow.Author.Needs.{needs}
+use Rattle.query_signs.proofs.marks.mark_at.Statement.{statement}
+use Rattle.query_signs.proofs.marks.mark_at.Tie as tie
+use Rattle.query_signs.proofs.marks.mark_at.Reads as reads
+use Rattle.query_signs.proofs.marks.mark_at.Lts as lts
+use Rattle.query_signs.proofs.marks.is_arrow.Reads as is-arrow-reads
+use Rattle.query_signs.proofs.marks.is_pair.Reads as is-pair-reads
+use Rattle.query_signs.proofs.marks.is_single.Reads as is-single-reads
+use Rattle.text.proofs.bytes.peek.Reads as peek-reads
+
+peek-requires : tie.Need-peek-requires
+peek-requires c κs = search needs
+
+mul-pair : tie.Need-mul-pair
+mul-pair c = omega (arith, c .peek .ensures, peek-bound (c .before .before .args .s .now) (c .before .before .args .at) (c .before .shared-slice-known .given (c .before .before .args .at) .fits))
+
+add-peek : tie.Need-add-peek
+add-peek c = search needs
+
+peek-requires-2 : tie.Need-peek-requires-2
+peek-requires-2 c κs = search needs
+
+add-pair : tie.Need-add-pair
+add-pair c = omega (arith, c .before .peek .ensures, peek-bound (c .before .before .before .args .s .now) (c .before .before .before .args .at) (c .before .before .shared-slice-known .given (c .before .before .before .args .at) .fits), c .peek2 .ensures, peek-bound (c .before .before .before .args .s .now) (c .before .before .before .args .at + 1) (c .before .before .shared-slice-known .given (c .before .before .before .args .at + 1) .fits))
+
+is-arrow-requires : tie.Need-is-arrow-requires
+is-arrow-requires c κs = search needs
+
+returns : tie.Need-returns
+returns c = mark-arrow (c .before .before .before .before .before .args .s .now) (c .before .before .before .before .before .args .at) (c .before .before .before .before .before .pre) (λ i. c .before .before .before .before .shared-slice-known .given i .fits) (c .before .before .before .peek .result) (c .before .before .peek2 .result) (c .before .before .before .peek .ensures) (c .before .before .peek2 .ensures) (c .before .before .before .before .before .args .chain) (sym (c .before .is-arrow .ensures) ∙ c .if1 .taken)
+
+is-pair-requires : tie.Need-is-pair-requires
+is-pair-requires c κs = search needs
+
+returns-2 : tie.Need-returns-2
+returns-2 c = mark-pair (c .before .before .before .before .before .before .before .args .s .now) (c .before .before .before .before .before .before .before .args .at) (c .before .before .before .before .before .before .before .pre) (λ i. c .before .before .before .before .before .before .shared-slice-known .given i .fits) (c .before .before .before .before .before .peek .result) (c .before .before .before .before .peek2 .result) (c .before .before .before .before .before .peek .ensures) (c .before .before .before .before .peek2 .ensures) (c .before .before .before .before .before .before .before .args .chain) (sym (c .before .before .before .is-arrow .ensures) ∙ c .before .before .if1 .left) (sym (c .before .is-pair .ensures) ∙ c .if2 .taken)
+
+is-single-requires : tie.Need-is-single-requires
+is-single-requires c κs = search needs
+
+returns-3 : tie.Need-returns-3
+returns-3 c = mark-one (c .before .before .before .before .before .before .before .before .before .args .s .now) (c .before .before .before .before .before .before .before .before .before .args .at) (c .before .before .before .before .before .before .before .before .before .pre) (λ i. c .before .before .before .before .before .before .before .before .shared-slice-known .given i .fits) (c .before .before .before .before .before .before .before .peek .result) (c .before .before .before .before .before .before .peek2 .result) (c .before .before .before .before .before .before .before .peek .ensures) (c .before .before .before .before .before .before .peek2 .ensures) (c .before .before .before .before .before .before .before .before .before .args .chain) (sym (c .before .before .before .before .before .is-arrow .ensures) ∙ c .before .before .before .before .if1 .left) (sym (c .before .before .before .is-pair .ensures) ∙ c .before .before .if2 .left) (sym (c .before .is-single .ensures) ∙ c .if3 .taken)
+
+returns-4 : tie.Need-returns-4
+returns-4 c = mark-none (c .before .before .before .before .before .before .before .before .before .args .s .now) (c .before .before .before .before .before .before .before .before .before .args .at) (c .before .before .before .before .before .before .before .before .before .pre) (λ i. c .before .before .before .before .before .before .before .before .shared-slice-known .given i .fits) (c .before .before .before .before .before .before .before .peek .result) (c .before .before .before .before .before .before .peek2 .result) (c .before .before .before .before .before .before .before .peek .ensures) (c .before .before .before .before .before .before .peek2 .ensures) (c .before .before .before .before .before .before .before .before .before .args .chain) (sym (c .before .before .before .before .before .is-arrow .ensures) ∙ c .before .before .before .before .if1 .left) (sym (c .before .before .before .is-pair .ensures) ∙ c .before .before .if2 .left) (sym (c .before .is-single .ensures) ∙ c .if3 .left)
+
+pub mark-at-spec : {M : Type 1} → statement M
+mark-at-spec =
+    tie.close
+    (tie.spec
+    peek-requires
+    mul-pair
+    add-peek
+    peek-requires-2
+    add-pair
+    is-arrow-requires
+    returns
+    is-pair-requires
+    returns-2
+    is-single-requires
+    returns-3
+    returns-4)

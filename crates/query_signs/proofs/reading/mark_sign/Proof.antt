@@ -1,0 +1,27 @@
+use Rattle.query_signs.proofs.SignLaws.{mark-found, mark-missing, mark-small}
+use native.Mathlib.Omega.{arith}
+use borrow.Author.Needs.{needs}
+use Rattle.query_signs.proofs.reading.mark_sign.Statement.{statement}
+use Rattle.query_signs.proofs.reading.mark_sign.Tie as tie
+use Rattle.query_signs.proofs.reading.mark_sign.Reads as reads
+use Rattle.query_signs.proofs.reading.mark_sign.Lts as lts
+use Rattle.query_signs.proofs.marks.mark_at.Reads as mark-at-reads
+use Rattle.query_signs.proofs.marks.mark_size.Reads as mark-size-reads
+
+mark-at-requires : tie.Need-mark-at-requires
+mark-at-requires c κs = search needs
+
+returns : tie.Need-returns
+returns c = record { got = mark-missing (c .before .before .before .args .s .now) (c .before .before .before .args .at) (c .before .before .before .args .chain) (c .before .mark-at .result) (c .before .mark-at .ensures) (c .if1 .taken); part = tt }
+
+mark-size-requires : tie.Need-mark-size-requires
+mark-size-requires c κs = search needs
+
+add-t8 : tie.Need-add-t8
+add-t8 c = omega (arith, c .mark-size .ensures, mark-small (c .before .before .mark-at .result))
+
+returns-2 : tie.Need-returns-2
+returns-2 c = record { got = mark-found (c .before .before .before .before .args .s .now) (c .before .before .before .before .args .at) (c .before .before .before .before .args .chain) (c .before .before .mark-at .result) (c .mark-size .result) (c .before .before .mark-at .ensures) (c .mark-size .ensures) (c .before .if1 .left); part = tt }
+
+pub mark-sign-spec : {M : Type 1} → statement M
+mark-sign-spec = tie.close (tie.spec mark-at-requires returns mark-size-requires add-t8 returns-2)

@@ -1,0 +1,57 @@
+use Rattle.query_signs.proofs.PlacedLaws.{next-found}
+use Rattle.query_signs.specs.declared.SignRead.{SignRead}
+use Rattle.query_signs.proofs.SignLaws.{none-left, sign-none, sign-close}
+use Rattle.query_signs.specs.Reads.{gotOf, ReadPartAt, firstOf}
+use mathlib.Core.Path.{sym, ap, _∙_, subst}
+use borrow.Author.Needs.{needs}
+use Rattle.query_signs.proofs.reading.next_sign.Statement.{statement}
+use Rattle.query_signs.proofs.reading.next_sign.Tie as tie
+use Rattle.query_signs.proofs.reading.next_sign.Reads as reads
+use Rattle.query_signs.proofs.reading.next_sign.Lts as lts
+use Rattle.query_signs.proofs.kinds.adjoins.Reads as adjoins-reads
+use Rattle.query_signs.proofs.kinds.blanks_end.Reads as blanks-end-reads
+use Rattle.query_signs.proofs.reading.sign_at.Reads as sign-at-reads
+
+blanks-end-requires : tie.Need-blanks-end-requires
+blanks-end-requires c κs = search needs
+
+returns : tie.Need-returns
+unfolding firstOf
+returns c = record { reads = none-left (c .before .before .before .args .chain) (c .before .before .before .args .close) (c .before .before .before .args .s .now) (c .before .before .before .args .from) (c .before .blanks-end .result) (c .before .blanks-end .ensures) (c .if1 .taken); moves = tt; stands = λ o. tt }
+
+sign-at-requires : tie.Need-sign-at-requires
+sign-at-requires c κs = search needs
+
+enum-known-t : tie.Need-enum-known-t
+enum-known-t c = search needs
+
+enum-told : tie.Need-enum-told
+enum-told c = search needs
+
+returns-2 : tie.Need-returns-2
+unfolding firstOf
+returns-2 c = record { reads = sign-none (c .before .before .before .before .before .before .args .chain) (c .before .before .before .before .before .before .args .close) (c .before .before .before .before .before .before .args .s .now) (c .before .before .before .before .before .before .args .from) (c .before .before .before .before .blanks-end .result) (c .before .before .before .before .blanks-end .ensures) (c .before .before .before .if1 .left) (ap (gotOf (c .before .before .before .before .before .before .args .s .now) (c .before .before .before .before .blanks-end .result)) (sym (c .enum-told .given .1)) ∙ c .before .before .sign-at .ensures .got); moves = tt; stands = λ o. tt }
+
+adjoins-requires : tie.Need-adjoins-requires
+adjoins-requires c κs = search needs
+
+returns-3 : tie.Need-returns-3
+unfolding firstOf
+returns-3 c = record { reads = sign-close (c .before .before .before .before .before .before .before .before .before .args .chain) (c .before .before .before .before .before .before .before .before .before .args .close) (c .before .before .before .before .before .before .before .before .before .args .s .now) (c .before .before .before .before .before .before .before .before .before .args .from) (c .before .before .before .before .before .before .before .blanks-end .result) (c .before .before .before .before .before .before .before .blanks-end .ensures) (c .before .before .before .before .before .before .if1 .left) (c .before .before .before .t .given .0 .0) (c .before .before .before .t .given .0 .1 .0) (ap (gotOf (c .before .before .before .before .before .before .before .before .before .args .s .now) (c .before .before .before .before .before .before .before .blanks-end .result)) (sym (c .before .before .before .t .given .1)) ∙ c .before .before .before .before .before .sign-at .ensures .got) (sym (c .before .adjoins .ensures) ∙ c .if2 .taken); moves = tt; stands = λ o. tt }
+
+returns-4 : tie.Need-returns-4
+returns-4 c = next-found (c .before .before .before .before .before .before .before .before .before .args .chain) (c .before .before .before .before .before .before .before .before .before .args .close) (c .before .before .before .before .before .before .before .before .before .args .s .now) (c .before .before .before .before .before .before .before .before .before .args .from) (c .before .before .before .before .before .before .before .blanks-end .result) (c .before .before .before .before .before .before .before .blanks-end .ensures) (c .before .before .before .before .before .before .if1 .left) (c .before .before .before .t .given .0 .0) (c .before .before .before .t .given .0 .1 .0) (ap (gotOf (c .before .before .before .before .before .before .before .before .before .args .s .now) (c .before .before .before .before .before .before .before .blanks-end .result)) (sym (c .before .before .before .t .given .1)) ∙ c .before .before .before .before .before .sign-at .ensures .got) (sym (c .before .adjoins .ensures) ∙ c .if2 .left) (subst (λ (r : SignRead). ReadPartAt (c .before .before .before .before .before .before .before .before .before .args .s .now) (c .before .before .before .before .before .before .before .blanks-end .result) r) (c .before .before .before .t .given .1) (c .before .before .before .before .before .sign-at .ensures .part))
+
+pub next-sign-spec : {M : Type 1} → statement M
+next-sign-spec =
+    tie.close
+    (tie.spec
+    blanks-end-requires
+    returns
+    sign-at-requires
+    enum-known-t
+    enum-told
+    returns-2
+    adjoins-requires
+    returns-3
+    returns-4)

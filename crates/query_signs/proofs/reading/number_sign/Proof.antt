@@ -1,0 +1,26 @@
+use Rattle.query_signs.proofs.SignLaws.{whole-found, whole-none}
+use mathlib.Core.Path.{sym, _∙_}
+use borrow.Author.Needs.{needs}
+use Rattle.query_signs.proofs.reading.number_sign.Statement.{statement}
+use Rattle.query_signs.proofs.reading.number_sign.Tie as tie
+use Rattle.query_signs.proofs.reading.number_sign.Reads as reads
+use Rattle.query_signs.proofs.reading.number_sign.Lts as lts
+use Rattle.text.proofs.numbers.whole.Reads as whole-reads
+
+whole-requires : tie.Need-whole-requires
+whole-requires c κs = search needs
+
+enum-known-n : tie.Need-enum-known-n
+enum-known-n c = search needs
+
+enum-told : tie.Need-enum-told
+enum-told c = search needs
+
+returns : tie.Need-returns
+returns c = record { got = whole-none (c .before .before .before .before .args .s .now) (c .before .before .before .before .args .at) (sym (c .enum-told .given .1) ∙ c .before .before .whole .ensures); part = tt }
+
+returns-2 : tie.Need-returns-2
+returns-2 c = record { got = whole-found (c .before .before .before .before .before .args .s .now) (c .before .before .before .before .before .args .at) (c .before .n .given .0 .0) (c .before .n .given .0 .1 .0) (sym (c .before .n .given .1) ∙ c .before .before .before .whole .ensures); part = tt }
+
+pub number-sign-spec : {M : Type 1} → statement M
+number-sign-spec = tie.close (tie.spec whole-requires enum-known-n enum-told returns returns-2)

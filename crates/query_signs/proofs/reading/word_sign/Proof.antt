@@ -1,0 +1,30 @@
+use Rattle.query_signs.proofs.PlacedLaws.{word-part}
+use Rattle.query_signs.proofs.SignLaws.{word-found, word-none, end-behind}
+use mathlib.Core.Path.{sym, _∙_}
+use borrow.Author.Needs.{needs}
+use Rattle.query_signs.proofs.reading.word_sign.Statement.{statement}
+use Rattle.query_signs.proofs.reading.word_sign.Tie as tie
+use Rattle.query_signs.proofs.reading.word_sign.Reads as reads
+use Rattle.query_signs.proofs.reading.word_sign.Lts as lts
+use Rattle.text.proofs.words.word.Reads as word-reads
+
+word-requires : tie.Need-word-requires
+word-requires c κs = search needs
+
+enum-known-q : tie.Need-enum-known-q
+enum-known-q c = search needs
+
+enum-told : tie.Need-enum-told
+enum-told c = search needs
+
+returns : tie.Need-returns
+returns c = record { got = word-none (c .before .before .before .before .args .s .now) (c .before .before .before .before .args .at) (sym (c .enum-told .given .1) ∙ c .before .before .word .ensures); part = tt }
+
+sub-t5 : tie.Need-sub-t5
+sub-t5 c = end-behind (c .before .before .before .before .before .args .at) (c .before .q .given .0 .0) _ (sym (c .before .q .given .1) ∙ c .before .before .before .word .ensures)
+
+returns-2 : tie.Need-returns-2
+returns-2 c = record { got = word-found (c .before .before .before .before .before .args .s .now) (c .before .before .before .before .before .args .at) (c .before .q .given .0 .0) (sym (c .before .q .given .1) ∙ c .before .before .before .word .ensures); part = word-part (c .before .before .before .before .before .args .s .now) (c .before .before .before .before .before .args .at) (c .before .q .given .0 .0) (sym (c .before .q .given .1) ∙ c .before .before .before .word .ensures) }
+
+pub word-sign-spec : {M : Type 1} → statement M
+word-sign-spec = tie.close (tie.spec word-requires enum-known-q enum-told returns sub-t5 returns-2)

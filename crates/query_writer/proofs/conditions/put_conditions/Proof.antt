@@ -1,0 +1,70 @@
+-- `put_conditions` meets its contract. The loop's invariant: the first i are put. Assumes nothing.
+use Prim.Native.Nat.{_≤_, _-_}
+use mathlib.Core.Path.{_≡_, ap}
+use lib.ListN.{length}
+use native.Mathlib.Omega.{arith}
+use borrow.Author.Needs.{needs}
+use Rattle.model.specs.Bytes.{bytesOf}
+use Rattle.query_writer.specs.Putting.{Puts}
+use Rattle.query_writer.specs.Pieces.{noClause, conditionPiece, conditionsText}
+use Rattle.query_writer.proofs.PuttingLaws.{puts-same, puts-then, puts-keeps-length}
+use Rattle.query_writer.proofs.PieceLaws.{puts-none, puts-one-more}
+use Rattle.query_writer.proofs.conditions.put_conditions.Statement.{statement}
+use Rattle.query_writer.proofs.conditions.put_conditions.Tie as tie
+
+abbrev Inv-loop : tie.InvT-loop
+Inv-loop book words query vertices edges count out₀ at clauses next₀ i₀ out next i = (i ≤ count) × Puts out₀ at (conditionsText book words query vertices edges clauses i) out next
+
+abbrev μ-loop : tie.MeasureT-loop
+μ-loop book words query vertices edges count out₀ at clauses next₀ i₀ out next i = count - i
+
+loop-holds : tie.Need-loop-holds Inv-loop μ-loop
+unfolding conditionsText
+loop-holds c = let a = c .before .before .before .before .args in (omega arith, puts-none (bytesOf " Where ") (bytesOf " AND ") (a .out .now) (a .at))
+
+mul-clause : tie.Need-mul-clause Inv-loop μ-loop
+mul-clause c = search needs
+
+array-copy-out-clause : tie.Need-array-copy-out-clause Inv-loop μ-loop
+array-copy-out-clause c = search needs
+
+put-where-requires : tie.Need-put-where-requires Inv-loop μ-loop
+put-where-requires c κs = search needs
+
+put-condition-requires : tie.Need-put-condition-requires Inv-loop μ-loop
+put-condition-requires c κs = (c .before .before .before .before .before .before .before .before .before .before .before .before .pre .0 .each (c .before .before .before .before .before .before .before .loop .i) (omega arith), c .before .before .before .before .before .before .before .before .before .before .before .before .pre .1)
+
+add-i : tie.Need-add-i Inv-loop μ-loop
+add-i c = search needs
+
+loop-less : tie.Need-loop-less Inv-loop μ-loop
+loop-less c = search needs
+
+loop-again : tie.Need-loop-again Inv-loop μ-loop
+unfolding conditionsText
+loop-again c = let a = c .before .before .before .before .before .before .before .before .before .before .before .before .before .before .before .args in
+    let all : length (a .t6) ≡ 32 = search needs in
+    (omega arith, puts-one-more (bytesOf " Where ") (bytesOf " AND ") (λ x. conditionPiece (a .book .now) (a .words .now) (a .query .now) (a .vertices) (a .edges) (x .condition)) (a .t6) noClause (c .before .before .before .before .before .before .before .before .before .before .loop .i) (omega arith) (c .before .before .before .before .before .before .before .before .before .before .loop .inv .1) (puts-then (c .before .before .before .before .before .before .put-where .ensures) (c .before .before .put-condition .ensures)))
+
+same-length : tie.Need-same-length Inv-loop μ-loop
+same-length c = puts-keeps-length (c .before .loop .inv .1)
+
+returns : tie.Need-returns Inv-loop μ-loop
+returns c = let a = c .before .before .before .before .before .before .args in let e : c .before .loop .i ≡ a .count = omega arith in puts-same (ap (λ n. conditionsText (a .book .now) (a .words .now) (a .query .now) (a .vertices) (a .edges) (a .t6) n) e) (c .before .loop .inv .1)
+
+pub put-conditions-spec : {M : Type 1} → statement M
+put-conditions-spec =
+    tie.close
+    (tie.spec
+    Inv-loop
+    μ-loop
+    loop-holds
+    mul-clause
+    array-copy-out-clause
+    put-where-requires
+    put-condition-requires
+    add-i
+    loop-less
+    loop-again
+    same-length
+    returns)

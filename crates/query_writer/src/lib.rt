@@ -1,0 +1,82 @@
+// The query writer: a pattern's text into a lent buffer, or its refusal where the text does not fit.
+ghost use Prim.Native.Nat.{_≤_};
+ghost use lib.ListN.{length};
+ghost use Rattle.model.specs.Answers.{patternIn};
+ghost use Rattle.model.specs.Writing.{writtenQuery};
+ghost use Rattle.book_tables.specs.View.{bookAt};
+ghost use Rattle.query_writer.specs.Putting.{Puts};
+ghost use Rattle.query_writer.specs.Pieces.{patternText};
+ghost use Rattle.query_writer.specs.Writable.{arrayLimits, PatternFits, Writable, Writes};
+use model::Pattern;
+use model::limits::MAX_QUERY_BYTES;
+use book_tables::BookCounts;
+
+pub mod bytes; // bytes.rt: putting bytes, texts and names
+mod conditions;
+mod matches;
+mod returns;
+pub mod values; // values.rt: putting numbers, texts and truth values
+
+// What writing a query gives: the length of its text, or that the text does not fit.
+pub enum Written {
+    Length(usize),
+    TooLong,
+}
+
+// Writes the query of a pattern in front of a buffer; a text that does not fit leaves the buffer as it is.
+pub fn write_query(
+    book: &[u8],
+    words: &[u32],
+    counts: BookCounts,
+    query: &[u8],
+    pattern: Pattern,
+    out: &mut [u8],
+) -> Written
+    requires { ⌜ Writable (now book) (now words) counts pattern ⌝ }
+    ensures { λ r. ⌜ Writes (writtenQuery (patternIn (bookAt (now (book .entry)) (now (words .entry)) counts) (now (query .entry)) pattern))
+        (now (out .entry)) (now (out .exit)) r ⌝ }
+{
+    let length = put_query(book, words, query, pattern, &mut out[..0], 0);
+    if MAX_QUERY_BYTES < length {
+        return Written::TooLong;
+    }
+    if out.len() < length {
+        return Written::TooLong;
+    }
+    put_query(book, words, query, pattern, out, 0);
+    Written::Length(length)
+}
+
+// Puts the whole text: Matches, conditions, Return.
+fn put_query(
+    book: &[u8],
+    words: &[u32],
+    query: &[u8],
+    pattern: Pattern,
+    out: &mut [u8],
+    at: usize,
+) -> usize
+    requires { ⌜ PatternFits arrayLimits pattern × (160 ≤ length (now words)) ⌝ }
+    ensures { λ r. ⌜ Puts (now (out .entry)) at (patternText (now (book .entry)) (now (words .entry)) (now (query .entry)) pattern) (now (out .exit)) r ⌝ }
+{
+    let vertices = pattern.vertices;
+    let edges = pattern.edges;
+    let clauses = pattern.clauses;
+    let names = pattern.returns;
+    let counts = pattern.counts;
+    let at = matches::put_vertices(query, vertices, counts.vertices, out, at);
+    let at = matches::put_edges(book, words, query, vertices, edges, counts.edges, out, at);
+    let at = conditions::put_conditions(
+        book,
+        words,
+        query,
+        vertices,
+        edges,
+        clauses,
+        counts.clauses,
+        out,
+        at,
+    );
+    let at = bytes::put_bytes(b" Return ", out, at);
+    returns::put_returns(query, vertices, names, counts.returns, out, at)
+}

@@ -1,0 +1,46 @@
+-- `ranks::policies::lacks_policy` meets its contract. Assumes nothing.
+use mathlib.Core.Path.{_∙_}
+use borrow.Author.Tests.{eq-eqb, ne-eqb}
+use borrow.Author.Needs.{needs}
+use Rattle.rules_tables.proofs.PolicyLaws.{at-least}
+use Rattle.rules_tables.specs.Layout.{overCountAt}
+use Rattle.book_tables.specs.View.{wordAt}
+use Rattle.rules_tables.proofs.policies.lacks_policy.Statement.{statement}
+use Rattle.rules_tables.proofs.policies.lacks_policy.Tie as tie
+
+mul-if1 : tie.Need-mul-if1
+mul-if1 c = search needs
+
+add-if1 : tie.Need-add-if1
+add-if1 c = search needs
+
+add-if1-2 : tie.Need-add-if1-2
+add-if1-2 c = search needs
+
+mul-if1-2 : tie.Need-mul-if1-2
+mul-if1-2 c = search needs
+
+shared-slice-read-if1 : tie.Need-shared-slice-read-if1
+shared-slice-read-if1 c = search needs
+
+policy-place-requires : tie.Need-policy-place-requires
+policy-place-requires c κs = search needs
+
+returns : tie.Need-returns
+returns c = at-least (c .before .before .before .before .before .args .counts .policies) (c .before .policy-place .result) ∙ rw (c .before .policy-place .ensures, eq-eqb (wordAt (c .before .before .before .before .before .args .words .now) (overCountAt (c .before .before .before .before .before .args .k))) 0 (c .before .before .if1 .taken))
+
+returns-2 : tie.Need-returns-2
+returns-2 c = rw (ne-eqb (wordAt (c .before .before .before .args .words .now) (overCountAt (c .before .before .before .args .k))) 0 (c .if1 .left))
+
+pub lacks-policy-spec : {M : Type 1} → statement M
+lacks-policy-spec =
+    tie.close
+    (tie.spec
+    mul-if1
+    add-if1
+    add-if1-2
+    mul-if1-2
+    shared-slice-read-if1
+    policy-place-requires
+    returns
+    returns-2)

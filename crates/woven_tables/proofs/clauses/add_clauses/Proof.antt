@@ -1,0 +1,112 @@
+-- `add_clauses` meets its contract. The loop's invariant: the first i clauses are woven. Assumes nothing.
+use Rattle.woven_tables.proofs.ClauseTable.{ClausesSoFar, clauses-start, clauses-more}
+use Rattle.woven_tables.specs.ClauseSteps.{ClausesAdded}
+use lib.ListN.{length, length-set}
+use native.Mathlib.Omega.{arith}
+use mathlib.Core.Path.{_≡_, subst}
+use Prim.Native.Nat.{_-_, _≤_}
+use borrow.Author.Needs.{needs}
+use Rattle.woven_tables.proofs.clauses.add_clauses.Statement.{statement}
+use Rattle.woven_tables.proofs.clauses.add_clauses.Tie as tie
+
+abbrev Inv-loop : tie.InvT-loop
+Inv-loop k base count numbers before words₀ woven clauses i₀ words i = (i ≤ count) × ClausesSoFar base k clauses i numbers before words₀ words woven
+
+abbrev μ-loop : tie.MeasureT-loop
+μ-loop k base count numbers before words₀ woven clauses i₀ words i = count - i
+
+loop-holds : tie.Need-loop-holds Inv-loop μ-loop
+loop-holds c = (omega arith, clauses-start (c .before .args .base) (c .before .args .k) (c .before .args .t3) (c .before .args .numbers) (c .before .args .before) (c .before .args .words .now) (c .before .args .woven))
+
+mul-c : tie.Need-mul-c Inv-loop μ-loop
+mul-c c = search needs
+
+array-copy-out-c : tie.Need-array-copy-out-c Inv-loop μ-loop
+array-copy-out-c c = search needs
+
+clause-words-requires : tie.Need-clause-words-requires Inv-loop μ-loop
+clause-words-requires c κs = (c .before .before .before .before .pre .0 .few-texts, c .before .before .before .before .pre .0 .fit (c .before .before .loop .i) (omega arith))
+
+add-at : tie.Need-add-at Inv-loop μ-loop
+add-at c = search needs
+
+mul-at : tie.Need-mul-at Inv-loop μ-loop
+mul-at c = search needs
+
+add-at-2 : tie.Need-add-at-2 Inv-loop μ-loop
+add-at-2 c = search needs
+
+mul-words : tie.Need-mul-words Inv-loop μ-loop
+mul-words c = search needs
+
+slice-write-words : tie.Need-slice-write-words Inv-loop μ-loop
+slice-write-words c = omega (arith, c .before .before .before .loop .inv .1 .size, c .before .before .before .before .before .pre .0 .room, c .before .before .before .before .before .pre .1)
+
+add-words : tie.Need-add-words Inv-loop μ-loop
+add-words c = search needs
+
+mul-words-2 : tie.Need-mul-words-2 Inv-loop μ-loop
+mul-words-2 c = search needs
+
+slice-write-words-2 : tie.Need-slice-write-words-2 Inv-loop μ-loop
+slice-write-words-2 c = simp length-set (omega (arith, c .before .before .before .loop .inv .1 .size, c .before .before .before .before .before .pre .0 .room, c .before .before .before .before .before .pre .1))
+
+add-words-2 : tie.Need-add-words-2 Inv-loop μ-loop
+add-words-2 c = search needs
+
+mul-words-3 : tie.Need-mul-words-3 Inv-loop μ-loop
+mul-words-3 c = search needs
+
+slice-write-words-3 : tie.Need-slice-write-words-3 Inv-loop μ-loop
+slice-write-words-3 c = simp length-set (omega (arith, c .before .before .before .loop .inv .1 .size, c .before .before .before .before .before .pre .0 .room, c .before .before .before .before .before .pre .1))
+
+add-i : tie.Need-add-i Inv-loop μ-loop
+add-i c = search needs
+
+loop-less : tie.Need-loop-less Inv-loop μ-loop
+loop-less c = search needs
+
+loop-again : tie.Need-loop-again Inv-loop μ-loop
+loop-again c =
+    let a = c .before .before .before .before .before .args in
+    let all : length (a .t3) ≡ 32 = search needs in (
+      omega arith,
+      clauses-more (a .base) (a .k) (a .t3) (c .before .before .before .loop .i) (a .numbers) (a .before) (a .words .now) (c .before .before .before .loop .words) (a .woven) (c .clause-words .result) (c .before .before .before .loop .inv .1) (omega (arith, c .before .before .before .before .before .pre .0 .few)) (omega (arith, c .before .before .before .before .before .pre .0 .room)) (omega (arith, c .before .before .before .loop .inv .1 .size, c .before .before .before .before .before .pre .1))
+          (c .clause-words .ensures),
+    )
+
+same-length : tie.Need-same-length Inv-loop μ-loop
+same-length c = c .before .loop .inv .1 .size
+
+returns : tie.Need-returns Inv-loop μ-loop
+returns c =
+    let a = c .before .before .before .args in
+    let e : c .before .loop .i ≡ a .count = omega arith in
+    subst (λ n. ClausesAdded (a .base) (a .k) (a .t3) n (a .numbers) (a .before) (a .words .now) (c .before .loop .words) (a .woven)) e (c .before .loop .inv .1 .added)
+
+pub add-clauses-spec : {M : Type 1} → statement M
+add-clauses-spec =
+    tie.close
+    (tie.spec
+    Inv-loop
+    μ-loop
+    loop-holds
+    mul-c
+    array-copy-out-c
+    clause-words-requires
+    add-at
+    mul-at
+    add-at-2
+    mul-words
+    slice-write-words
+    add-words
+    mul-words-2
+    slice-write-words-2
+    add-words-2
+    mul-words-3
+    slice-write-words-3
+    add-i
+    loop-less
+    loop-again
+    same-length
+    returns)

@@ -1,0 +1,120 @@
+-- `add_edges` meets its contract. The loop's invariant: the first i edges are woven. Assumes nothing.
+use Rattle.woven_tables.proofs.EdgeLaws.{EdgesSoFar, edges-start, edges-more}
+use Rattle.woven_tables.specs.Steps.{EdgesAdded}
+use lib.ListN.{length, length-set}
+use native.Mathlib.Omega.{arith}
+use mathlib.Core.Path.{_≡_, subst}
+use Prim.Native.Nat.{_-_, _≤_}
+use borrow.Author.Needs.{needs}
+use Rattle.woven_tables.proofs.edges.add_edges.Statement.{statement}
+use Rattle.woven_tables.proofs.edges.add_edges.Tie as tie
+
+abbrev Inv-loop : tie.InvT-loop
+Inv-loop k base count words₀ woven edges numbers i₀ words i = (i ≤ count) × EdgesSoFar base k edges i numbers words₀ words woven
+
+abbrev μ-loop : tie.MeasureT-loop
+μ-loop k base count words₀ woven edges numbers i₀ words i = count - i
+
+loop-holds : tie.Need-loop-holds Inv-loop μ-loop
+loop-holds c = (omega arith, edges-start (c .before .args .base) (c .before .args .k) (c .before .args .t3) (c .before .args .t5) (c .before .args .words .now) (c .before .args .woven))
+
+mul-e : tie.Need-mul-e Inv-loop μ-loop
+mul-e c = search needs
+
+array-copy-out-e : tie.Need-array-copy-out-e Inv-loop μ-loop
+array-copy-out-e c = search needs
+
+add-at : tie.Need-add-at Inv-loop μ-loop
+add-at c = search needs
+
+mul-edge-word : tie.Need-mul-edge-word Inv-loop μ-loop
+mul-edge-word c = let f = c .before .before .before .before .before .pre .0 .fit (c .before .before .before .loop .i) (omega arith) in omega (arith, f .from)
+
+array-read-edge-word : tie.Need-array-read-edge-word Inv-loop μ-loop
+array-read-edge-word c = let f = c .before .before .before .before .before .pre .0 .fit (c .before .before .before .loop .i) (omega arith) in omega (arith, f .from)
+
+mul-edge-word-2 : tie.Need-mul-edge-word-2 Inv-loop μ-loop
+mul-edge-word-2 c = let f = c .before .before .before .before .before .pre .0 .fit (c .before .before .before .loop .i) (omega arith) in omega (arith, f .to)
+
+array-read-edge-word-2 : tie.Need-array-read-edge-word-2 Inv-loop μ-loop
+array-read-edge-word-2 c = let f = c .before .before .before .before .before .pre .0 .fit (c .before .before .before .loop .i) (omega arith) in omega (arith, f .to)
+
+edge-word-requires : tie.Need-edge-word-requires Inv-loop μ-loop
+edge-word-requires c κs = let f = c .before .before .before .before .before .pre .0 .fit (c .before .before .before .loop .i) (omega arith) in omega (arith, f .label, f .woven-from, f .woven-to)
+
+add-words : tie.Need-add-words Inv-loop μ-loop
+add-words c = search needs
+
+mul-words : tie.Need-mul-words Inv-loop μ-loop
+mul-words c = search needs
+
+slice-write-words : tie.Need-slice-write-words Inv-loop μ-loop
+slice-write-words c = omega (arith, c .before .before .before .before .loop .inv .1 .size, c .before .before .before .before .before .before .pre .0 .room, c .before .before .before .before .before .before .pre .1)
+
+add-name-word : tie.Need-add-name-word Inv-loop μ-loop
+add-name-word c = let f = c .before .before .before .before .before .before .before .pre .0 .fit (c .before .before .before .before .before .loop .i) (omega arith) in omega (arith, f .name .0)
+
+name-word-requires : tie.Need-name-word-requires Inv-loop μ-loop
+name-word-requires c κs = let f = c .before .before .before .before .before .before .before .pre .0 .fit (c .before .before .before .before .before .loop .i) (omega arith) in (c .before .before .before .before .before .before .before .pre .0 .few-texts, f .name .0, f .name .1)
+
+add-words-2 : tie.Need-add-words-2 Inv-loop μ-loop
+add-words-2 c = search needs
+
+mul-words-2 : tie.Need-mul-words-2 Inv-loop μ-loop
+mul-words-2 c = search needs
+
+slice-write-words-2 : tie.Need-slice-write-words-2 Inv-loop μ-loop
+slice-write-words-2 c = simp length-set (omega (arith, c .before .before .before .before .before .before .loop .inv .1 .size, c .before .before .before .before .before .before .before .before .pre .0 .room, c .before .before .before .before .before .before .before .before .pre .1))
+
+add-i : tie.Need-add-i Inv-loop μ-loop
+add-i c = search needs
+
+loop-less : tie.Need-loop-less Inv-loop μ-loop
+loop-less c = search needs
+
+loop-again : tie.Need-loop-again Inv-loop μ-loop
+loop-again c =
+    let a = c .before .before .before .before .before .before .before .before .args in
+    let all : length (a .t3) ≡ 16 = search needs in (
+      omega arith,
+      edges-more (a .base) (a .k) (a .t3) (c .before .before .before .before .before .before .loop .i) (a .t5) (a .words .now) (c .before .before .before .before .before .before .loop .words) (a .woven) (c .before .before .edge-word .result) (c .name-word .result) (c .before .before .before .before .before .before .loop .inv .1) (omega (arith, c .before .before .before .before .before .before .before .before .pre .0 .few)) (omega (arith, c .before .before .before .before .before .before .before .before .pre .0 .room)) (omega (arith, c .before .before .before .before .before .before .loop .inv .1 .size, c .before .before .before .before .before .before .before .before .pre .1))
+          (c .before .before .before .before .before .before .before .before .pre .0 .fit (c .before .before .before .before .before .before .loop .i) (omega arith)) (c .before .before .edge-word .ensures) (c .name-word .ensures),
+    )
+
+same-length : tie.Need-same-length Inv-loop μ-loop
+same-length c = c .before .loop .inv .1 .size
+
+returns : tie.Need-returns Inv-loop μ-loop
+returns c =
+    let a = c .before .before .before .args in
+    let e : c .before .loop .i ≡ a .count = omega arith in
+    subst (λ n. EdgesAdded (a .base) (a .k) (a .t3) n (a .t5) (a .words .now) (c .before .loop .words) (a .woven)) e (c .before .loop .inv .1 .added)
+
+pub add-edges-spec : {M : Type 1} → statement M
+add-edges-spec =
+    tie.close
+    (tie.spec
+    Inv-loop
+    μ-loop
+    loop-holds
+    mul-e
+    array-copy-out-e
+    add-at
+    mul-edge-word
+    array-read-edge-word
+    mul-edge-word-2
+    array-read-edge-word-2
+    edge-word-requires
+    add-words
+    mul-words
+    slice-write-words
+    add-name-word
+    name-word-requires
+    add-words-2
+    mul-words-2
+    slice-write-words-2
+    add-i
+    loop-less
+    loop-again
+    same-length
+    returns)

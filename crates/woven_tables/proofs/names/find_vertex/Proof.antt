@@ -1,0 +1,65 @@
+-- `find_vertex` meets its contract: none of the vertices passed is the same. Assumes nothing.
+use Rattle.woven_tables.specs.Tables.{vertexOfWord, verticesAt}
+use Rattle.book_tables.proofs.ListedLaws.{scan-none, scan-on, scan-place, scan-absent}
+use Rattle.book_tables.specs.Listed.{listed}
+use Rattle.model.specs.Lists.{any}
+use Rattle.model.specs.Weave.{sameVertex, placeVertex}
+use lib.ListN.{getD}
+use native.Mathlib.Omega.{arith}
+use Prim.Native.Nat.{_-_, _≤_}
+use mathlib.Core.Bool.{false}
+use mathlib.Core.Path.{_≡_, sym, ap, _∙_}
+use borrow.Author.Needs.{needs}
+use Rattle.woven_tables.proofs.names.find_vertex.Statement.{statement}
+use Rattle.woven_tables.proofs.names.find_vertex.Tie as tie
+
+abbrev Inv-loop : tie.InvT-loop
+Inv-loop query rules words count word i₀ i = (i ≤ count) × (any (sameVertex (vertexOfWord query rules word)) (listed (λ j. vertexOfWord query rules (getD words j 0)) i) ≡ false)
+
+abbrev μ-loop : tie.MeasureT-loop
+μ-loop query rules words count word i₀ i = count - i
+
+loop-holds : tie.Need-loop-holds Inv-loop μ-loop
+loop-holds c = (omega arith, scan-none _ (λ j. vertexOfWord (c .before .before .before .args .query .now) (c .before .before .before .args .rules .now) (getD (c .before .before .before .args .words .now) j 0)))
+
+mul-same-vertex : tie.Need-mul-same-vertex Inv-loop μ-loop
+mul-same-vertex c = search needs
+
+shared-slice-read-same-vertex : tie.Need-shared-slice-read-same-vertex Inv-loop μ-loop
+shared-slice-read-same-vertex c = search needs
+
+same-vertex-requires : tie.Need-same-vertex-requires Inv-loop μ-loop
+same-vertex-requires c κs = search needs
+
+returns : tie.Need-returns Inv-loop μ-loop
+unfolding placeVertex verticesAt
+returns c = sym (scan-place (sameVertex (vertexOfWord (c .before .before .before .before .before .before .before .before .args .query .now) (c .before .before .before .before .before .before .before .before .args .rules .now) (c .before .before .before .before .before .before .before .before .args .word))) (λ j. vertexOfWord (c .before .before .before .before .before .before .before .before .args .query .now) (c .before .before .before .before .before .before .before .before .args .rules .now) (getD (c .before .before .before .before .before .before .before .before .args .words .now) j 0)) (c .before .before .before .before .before .before .before .before .args .count) (c .before .before .before .before .loop .i) (c .before .before .before .loop-test .taken) (c .before .before .before .before .loop .inv .1) (sym (c .before .same-vertex .ensures) ∙ c .if1 .taken))
+
+add-i : tie.Need-add-i Inv-loop μ-loop
+add-i c = search needs
+
+loop-less : tie.Need-loop-less Inv-loop μ-loop
+loop-less c = search needs
+
+loop-again : tie.Need-loop-again Inv-loop μ-loop
+loop-again c = (omega arith, scan-on (sameVertex (vertexOfWord (c .before .before .before .before .before .before .before .before .args .query .now) (c .before .before .before .before .before .before .before .before .args .rules .now) (c .before .before .before .before .before .before .before .before .args .word))) (λ j. vertexOfWord (c .before .before .before .before .before .before .before .before .args .query .now) (c .before .before .before .before .before .before .before .before .args .rules .now) (getD (c .before .before .before .before .before .before .before .before .args .words .now) j 0)) (c .before .before .before .before .loop .i) (c .before .before .before .before .loop .inv .1) (sym (c .before .same-vertex .ensures) ∙ c .if1 .left))
+
+returns-2 : tie.Need-returns-2 Inv-loop μ-loop
+unfolding placeVertex verticesAt
+returns-2 c = let e : c .before .loop .i ≡ c .before .before .before .before .before .args .count = omega arith in sym (scan-absent (sameVertex (vertexOfWord (c .before .before .before .before .before .args .query .now) (c .before .before .before .before .before .args .rules .now) (c .before .before .before .before .before .args .word))) (λ j. vertexOfWord (c .before .before .before .before .before .args .query .now) (c .before .before .before .before .before .args .rules .now) (getD (c .before .before .before .before .before .args .words .now) j 0)) (c .before .before .before .before .before .args .count) (ap (λ n. any (sameVertex (vertexOfWord (c .before .before .before .before .before .args .query .now) (c .before .before .before .before .before .args .rules .now) (c .before .before .before .before .before .args .word))) (listed (λ j. vertexOfWord (c .before .before .before .before .before .args .query .now) (c .before .before .before .before .before .args .rules .now) (getD (c .before .before .before .before .before .args .words .now) j 0)) n)) (sym e) ∙ c .before .loop .inv .1))
+
+pub find-vertex-spec : {M : Type 1} → statement M
+find-vertex-spec =
+    tie.close
+    (tie.spec
+    Inv-loop
+    μ-loop
+    loop-holds
+    mul-same-vertex
+    shared-slice-read-same-vertex
+    same-vertex-requires
+    returns
+    add-i
+    loop-less
+    loop-again
+    returns-2)
