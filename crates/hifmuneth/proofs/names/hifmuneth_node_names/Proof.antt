@@ -1,8 +1,8 @@
 -- `hifmuneth_node_names` tells what the service answers, accepted or refused.
 use Rattle.hifmuneth.proofs.AnswerLaws.{names-accepted, names-refused}
 use borrow.Author.Needs.{needs}
-use Rattle.hifmuneth.proofs.node_names.hifmuneth_node_names.Statement.{statement}
-use Rattle.hifmuneth.proofs.node_names.hifmuneth_node_names.Tie as tie
+use Rattle.hifmuneth.proofs.names.hifmuneth_node_names.Statement.{statement}
+use Rattle.hifmuneth.proofs.names.hifmuneth_node_names.Tie as tie
 
 node-names-requires : tie.Need-node-names-requires
 node-names-requires c κs = search needs
