@@ -6,10 +6,10 @@ ghost use Rattle.model.specs.Answers.{bookAnswer};
 
 pub mod load;
 
+use book_tables::BookCounts;
 use model::BookRead;
 use model::Refusal;
 use model::limits::WORK_WORDS;
-use book_tables::BookCounts;
 
 // What reading a book into the working memory gives: the counts of its tables, or a refusal.
 pub enum BookLoad {

@@ -10,10 +10,10 @@ ghost use Rattle.book_lines.specs.Steps.{Stepped};
 ghost use Rattle.book.specs.Loaded.{LineAsked, Loaded};
 use crate::BookLoad;
 use book_lines::LineStep;
-use model::Refusal;
-use model::limits::MAX_BOOK_BYTES;
 use book_tables::BookCounts;
 use book_tables::no_counts;
+use model::Refusal;
+use model::limits::MAX_BOOK_BYTES;
 use text::BytesRead;
 
 // The book is text 1.

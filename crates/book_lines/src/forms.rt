@@ -18,10 +18,10 @@ use crate::LineStep;
 use crate::owners;
 use crate::pieces;
 use crate::steps;
+use book_tables::BookCounts;
 use items::Piece;
 use items::places;
 use model::Part;
-use book_tables::BookCounts;
 use text::End;
 
 // "grammar broken".

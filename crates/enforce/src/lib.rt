@@ -3,6 +3,7 @@ ghost use Rattle.rules_tables.specs.View.{actorsAt};
 ghost use Rattle.weave.specs.Adding.{TextAdded};
 ghost use Rattle.enforce.specs.Ready.{TextReady, AskedReady};
 ghost use Rattle.enforce.specs.Woven.{AskedAnswer};
+use book_tables::BookCounts;
 use model::Identity;
 use model::Pattern;
 use model::limits::MAX_IDENTITIES;
@@ -10,7 +11,6 @@ use rules_tables::ACTORS;
 use rules_tables::CATEGORIES;
 use rules_tables::CATEGORY_WORDS;
 use rules_tables::RulesCounts;
-use book_tables::BookCounts;
 use weave::Added;
 use woven_tables::WovenCounts;
 

@@ -15,11 +15,11 @@ ghost use Rattle.request.specs.Claims.{claimsFrom, isUnknown};
 ghost use Rattle.request.specs.Faults.{FaultTold};
 use crate::ClaimAt;
 use crate::claims;
+use book_tables::BookCounts;
 use rules_tables::ACTORS;
 use rules_tables::CATEGORIES;
 use rules_tables::CATEGORY_WORDS;
 use rules_tables::RulesCounts;
-use book_tables::BookCounts;
 
 // The faults of a line, in the paper's numbers.
 pub const NOT_DECLARED: u32 = 4;

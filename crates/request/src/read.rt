@@ -10,6 +10,7 @@ ghost use Rattle.request.specs.RequestReads.{refusedRead, Reads, LineRea
 use crate::faults;
 use crate::forms;
 use crate::stores;
+use book_tables::BookCounts;
 use items::Piece;
 use model::Refusal;
 use model::RequestRead;
@@ -18,7 +19,6 @@ use model::limits::MAX_IDENTITIES;
 use model::limits::MAX_REQUEST_BYTES;
 use rules_tables::CATEGORY_NAMES;
 use rules_tables::RulesCounts;
-use book_tables::BookCounts;
 use text::BytesRead;
 
 // The request is text 4.

@@ -20,12 +20,12 @@ use crate::RulesStep;
 use crate::forms;
 use crate::policies::NO_FORM;
 use crate::steps;
-use query_faults::faulty;
+use book_tables::BookCounts;
 use model::Refusal;
 use model::limits::MAX_RULES_BYTES;
+use query_faults::faulty;
 use rules_tables::RulesCounts;
 use rules_tables::no_counts;
-use book_tables::BookCounts;
 use text::BytesRead;
 
 // The rules are text 2.

@@ -21,10 +21,10 @@ ghost use Rattle.rules.specs.Forms.{between};
 ghost use Rattle.rules.specs.Faults.{faultOf};
 use items::Piece;
 use items::places;
-use name_lists::LIST_DEPTH;
-use name_lists::scans;
 use model::limits::MAX_ACTORS;
 use model::limits::MAX_CATEGORIES;
+use name_lists::LIST_DEPTH;
+use name_lists::scans;
 use rules_tables::ACTORS;
 use rules_tables::CATEGORIES;
 use rules_tables::CATEGORY_NAMES;
@@ -119,7 +119,11 @@ fn lacks_of_lower(text: &[u8], words: &[u32], k: usize, s: &[u8], a: usize, o: u
     ensures { λ r. ⌜ ((x y : NamesRead) → namesBehind (now (s .entry)) a ≡ just x → namesBehind (now (s .entry)) o ≡ just y
         → r ≡ (mem (nameOf (now (text .entry)) (now (words .entry)) names k) (y .names) && not (all (λ w. mem w (x .names)) (actorsAt (now (text .entry)) (now (words .entry)) k)))) ⌝ }
 {
-    if scans::has_name(s, o, rules_tables::names::name_at(text, words, CATEGORY_NAMES + k)) {
+    if scans::has_name(
+        s,
+        o,
+        rules_tables::names::name_at(text, words, CATEGORY_NAMES + k),
+    ) {
         return lacks_one_of(text, words, k, s, a);
     }
     false
