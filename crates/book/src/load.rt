@@ -10,21 +10,15 @@ ghost use Rattle.book_lines.specs.Steps.{Stepped};
 ghost use Rattle.book.specs.Loaded.{LineAsked, Loaded};
 use crate::BookLoad;
 use book_lines::LineStep;
-use model::Refusal;
-use model::limits::MAX_BOOK_BYTES;
 use book_tables::BookCounts;
 use book_tables::no_counts;
+use model::Refusal;
+use model::limits::MAX_BOOK_BYTES;
+use model::refusals::BOOK;
+use model::refusals::BROKEN;
+use model::refusals::NOT_ALLOWED;
+use model::refusals::TOO_LONG;
 use text::BytesRead;
-
-// The book is text 1.
-pub const BOOK: u32 = 1;
-
-// Refusals in the paper's numbers: the text is too long, a byte is not allowed, the grammar is broken.
-pub const TOO_LONG: u32 = 1;
-
-pub const NOT_ALLOWED: u32 = 2;
-
-pub const BROKEN: u32 = 3;
 
 // Reads a book into the tables; on a refusal they are all ones.
 pub fn load(text: &[u8], words: &mut [u32]) -> BookLoad

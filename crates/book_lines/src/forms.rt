@@ -18,14 +18,12 @@ use crate::LineStep;
 use crate::owners;
 use crate::pieces;
 use crate::steps;
+use book_tables::BookCounts;
 use items::Piece;
 use items::places;
 use model::Part;
-use book_tables::BookCounts;
+use model::refusals::BROKEN;
 use text::End;
-
-// "grammar broken".
-pub const BROKEN: u32 = 3;
 
 // Reads a line, which begins at the base in the text, and adds it.
 pub fn read_line(

@@ -5,8 +5,8 @@ pub mod pieces;
 pub mod steps;
 
 use book_entries::EntriesRead;
-use model::Part;
 use book_tables::BookCounts;
+use model::Part;
 
 // What one line gives: its fault, in the paper's numbers, or the counts with it.
 pub enum LineStep {

@@ -14,18 +14,18 @@ ghost use Rattle.book_lines.specs.Entries.{shift, Declares, EntriesDone}
 use crate::EntriesAnswer;
 use crate::LineStep;
 use crate::RelNames;
-use crate::forms::BROKEN;
 use crate::pieces::FORM_DEPTH;
 use crate::steps;
 use book_entries::EntriesRead;
+use book_tables::BookCounts;
+use book_tables::EATTR_NAMES;
+use book_tables::VATTR_NAMES;
 use items::EntryRead;
 use items::Piece;
 use items::places;
 use model::Part;
 use model::Value;
-use book_tables::BookCounts;
-use book_tables::EATTR_NAMES;
-use book_tables::VATTR_NAMES;
+use model::refusals::BROKEN;
 
 // In a list of a line's form two may still be opened.
 pub const ENTRY_DEPTH: usize = 2;

@@ -5,11 +5,11 @@ ghost use Rattle.items.specs.Pieces.{wordNext};
 ghost use Rattle.book_lines.specs.Forms.{headOf, kindRead, kindPiece};
 use crate::Head;
 use crate::KindRead;
-use items::Piece;
-use items::places;
 use book_tables::values::BOOL;
 use book_tables::values::INT;
 use book_tables::values::STR;
+use items::Piece;
+use items::places;
 use text::compare::same_bytes;
 
 // "lists nest to depth 4": in the one list of a line three may still be opened.

@@ -16,24 +16,20 @@ ghost use Rattle.book_tables.specs.Layout.{vattrNames, eattrNames};
 ghost use Rattle.book_lines.specs.Steps.{NameAsked, Stepped, stepOf, ownerFault};
 use crate::LineStep;
 use book_entries::EntriesRead;
-use model::Part;
-use model::limits::MAX_DECLARED;
-use model::limits::MAX_ENTRIES;
-use model::limits::MAX_NODES;
-use model::limits::MAX_RELATIONSHIPS;
 use book_tables::BookCounts;
 use book_tables::EATTR_NAMES;
 use book_tables::VATTR_NAMES;
 use book_tables::names::NAME_LENGTHS;
 use book_tables::relationships::NODE_PAIRS;
 use book_tables::relationships::NODES;
-
-// The faults of a line, in the paper's numbers.
-pub const NOT_DECLARED: u32 = 4;
-
-pub const SECOND_TIME: u32 = 5;
-
-pub const LIMIT_PASSED: u32 = 7;
+use model::Part;
+use model::limits::MAX_DECLARED;
+use model::limits::MAX_ENTRIES;
+use model::limits::MAX_NODES;
+use model::limits::MAX_RELATIONSHIPS;
+use model::refusals::LIMIT_PASSED;
+use model::refusals::NOT_DECLARED;
+use model::refusals::SECOND_TIME;
 
 // A name's word.
 fn name_word(name: Part) -> u32
@@ -188,7 +184,13 @@ pub fn add_node(
     if fault != 0 {
         return LineStep::Fault(fault);
     }
-    LineStep::Known(book_tables::stores::store_node(text, words, counts, name_word(name), read.count))
+    LineStep::Known(book_tables::stores::store_node(
+        text,
+        words,
+        counts,
+        name_word(name),
+        read.count,
+    ))
 }
 
 // (rel LABEL FROM TO (ATTR VALUE)...), its entries being stored behind those counted.

@@ -14,11 +14,11 @@ use crate::values::kind_of;
 use crate::values::number_of;
 use crate::values::text_of;
 use crate::values::truth_of;
-use model::Relation;
-use model::Value;
 use book_tables::BookCounts;
 use book_tables::values::INT;
 use book_tables::values::STR;
+use model::Relation;
+use model::Value;
 use text::Order;
 
 // Whether a node's attribute meets a requirement whose text value is part of `text`.

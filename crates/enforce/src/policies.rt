@@ -4,6 +4,7 @@ ghost use Rattle.enforce.specs.Ready.{CategoryReady, PoliciesReady};
 ghost use Rattle.enforce.specs.Woven.{CategoryWoven, PoliciesWoven};
 use crate::TextPlace;
 use crate::weave_text;
+use book_tables::BookCounts;
 use query::pattern::pattern_of;
 use rules_tables::CATEGORIES;
 use rules_tables::CATEGORY_WORDS;
@@ -12,7 +13,6 @@ use rules_tables::POLICIES;
 use rules_tables::POLICY_WORDS;
 use rules_tables::RulesCounts;
 use rules_tables::policies::policy_place;
-use book_tables::BookCounts;
 use weave::Added;
 use woven_tables::WovenCounts;
 

@@ -13,8 +13,8 @@ ghost use Rattle.rows.specs.Buffer.{rowsIn};
 ghost use Rattle.query_writer.specs.Putting.{Puts};
 ghost use Rattle.list_lines.specs.Printing.{headerText, nameIn, namesText};
 use book_lookup::names;
-use model::Refusal;
 use book_tables::BookCounts;
+use model::Refusal;
 use query_writer::bytes;
 use query_writer::values;
 

@@ -6,10 +6,10 @@ ghost use Rattle.model.specs.Bytes.{Bytes};
 ghost use Rattle.model.specs.Names.{mem};
 ghost use Rattle.model.specs.Answers.{nameAt};
 ghost use Rattle.names_met.specs.Table.{Names, wordsFrom, namesMet, Entries, Holds};
+use book_tables::names::NAME_LENGTHS;
 use chains::slots;
 use chains::slots::SLOTS;
 use model::Part;
-use book_tables::names::NAME_LENGTHS;
 use text::compare;
 
 // What a name's word has room for: starts below 2^27.

@@ -10,11 +10,11 @@ ghost use Rattle.book_tables.specs.View.{bookAt};
 ghost use Rattle.book_tables.specs.Fits.{Fits};
 ghost use Rattle.node_names.specs.Names.{nameByte, nameBytes, namesLeft};
 use book::BookLoad;
-use book::TOO_LITTLE;
+use book_tables::BookCounts;
 use model::BookRead;
 use model::Refusal;
 use model::limits::WORK_WORDS;
-use book_tables::BookCounts;
+use model::refusals::TOO_LITTLE;
 
 // "A name is a word of 1 to 24 bytes"; here it is followed by a zero.
 pub const NAME_BYTES: usize = 25;
@@ -91,7 +91,10 @@ fn byte_of(book: &[u8], words: &[u32], counts: BookCounts, k: usize) -> u8
     if counts.nodes <= node {
         return 0;
     }
-    byte_at(book_lookup::names::node_name(book, words, node), k % NAME_BYTES)
+    byte_at(
+        book_lookup::names::node_name(book, words, node),
+        k % NAME_BYTES,
+    )
 }
 
 // A byte of a name, or 0 past it.

@@ -7,9 +7,9 @@ ghost use Rattle.book_tables.specs.View.{bookAt};
 ghost use Rattle.book_tables.specs.Fits.{Fits};
 ghost use Rattle.list_lines.specs.Printing.{Prints};
 use book::BookLoad;
+use book_tables::BookCounts;
 use model::RowsListed;
 use model::limits::WORK_WORDS;
-use book_tables::BookCounts;
 
 // "The program lends 16,384 row words."
 const ROW_WORDS: usize = 16384;

@@ -14,6 +14,8 @@ use crate::edges;
 use crate::edges::Edges;
 use crate::vertices;
 use crate::vertices::Vertices;
+use book_tables::BookCounts;
+use book_tables::names;
 use model::Clause;
 use model::Condition;
 use model::Part;
@@ -21,8 +23,6 @@ use model::Requirement;
 use model::limits::MAX_CONDITIONS;
 use query_pieces::Demand;
 use query_signs::expected;
-use book_tables::BookCounts;
-use book_tables::names;
 
 // The conditions found so far, in the order of the text.
 pub struct Clauses {

@@ -21,9 +21,9 @@ use crate::declared;
 use crate::scan;
 use crate::table;
 use crate::tallies;
+use book_tables::BookCounts;
 use model::Part;
 use query_pieces::Demand;
-use book_tables::BookCounts;
 
 // Whether one of two names stands as a vertex in none of the i pieces before.
 fn is_unknown_pair(s: &[u8], table: &[u32], n: usize, i: usize, v: Part, u: Part) -> bool

@@ -9,16 +9,16 @@ ghost use Rattle.model.specs.Answers.{nameAt, relationOf, valueOf};
 ghost use Rattle.book_tables.specs.View.{bookAt, kindIn};
 ghost use Rattle.book_tables.specs.Fits.{Fits};
 ghost use Rattle.query_faults.specs.Tests.{suits};
-use model::Part;
-use model::Relation;
-use model::Value;
-use model::limits::MAX_DECLARED;
-use query_signs::expected;
 use book_tables::BookCounts;
 use book_tables::EATTR_NAMES;
 use book_tables::VATTR_NAMES;
 use book_tables::names;
 use book_tables::values;
+use model::Part;
+use model::Relation;
+use model::Value;
+use model::limits::MAX_DECLARED;
+use query_signs::expected;
 
 // Whether a label is declared.
 pub fn label_known(book: &[u8], words: &[u32], counts: BookCounts, s: &[u8], name: Part) -> bool

@@ -9,6 +9,8 @@ ghost use Rattle.query_writer.specs.Pieces.{before, requirementPiece, co
 ghost use Rattle.query_writer.specs.Writable.{arrayLimits, ConditionFits, ClausesFit};
 use crate::bytes;
 use crate::values;
+use book_tables::EATTR_NAMES;
+use book_tables::VATTR_NAMES;
 use model::Clause;
 use model::Condition;
 use model::Edge;
@@ -17,8 +19,6 @@ use model::Requirement;
 use model::limits::MAX_CONDITIONS;
 use model::limits::MAX_EDGES;
 use model::limits::MAX_VERTICES;
-use book_tables::EATTR_NAMES;
-use book_tables::VATTR_NAMES;
 
 // Puts all conditions.
 pub fn put_conditions(

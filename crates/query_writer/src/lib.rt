@@ -7,9 +7,9 @@ ghost use Rattle.book_tables.specs.View.{bookAt};
 ghost use Rattle.query_writer.specs.Putting.{Puts};
 ghost use Rattle.query_writer.specs.Pieces.{patternText};
 ghost use Rattle.query_writer.specs.Writable.{arrayLimits, PatternFits, Writable, Writes};
+use book_tables::BookCounts;
 use model::Pattern;
 use model::limits::MAX_QUERY_BYTES;
-use book_tables::BookCounts;
 
 pub mod bytes; // bytes.rt: putting bytes, texts and names
 mod conditions;

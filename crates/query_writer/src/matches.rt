@@ -7,11 +7,11 @@ ghost use Rattle.query_writer.specs.Putting.{Puts};
 ghost use Rattle.query_writer.specs.Pieces.{before, vertexPiece, edgePiece, verticesText, edgesText};
 ghost use Rattle.query_writer.specs.Writable.{arrayLimits, EdgeFits, EdgesFit};
 use crate::bytes;
+use book_tables::LABEL_NAMES;
 use model::Edge;
 use model::Part;
 use model::limits::MAX_EDGES;
 use model::limits::MAX_VERTICES;
-use book_tables::LABEL_NAMES;
 
 // Puts a Match for each vertex.
 pub fn put_vertices(

@@ -11,10 +11,10 @@ ghost use Rattle.request.specs.Stored.{identityOn, ClaimsAsked, ClaimsSt
 use crate::ClaimAt;
 use crate::Identities;
 use crate::claims;
+use book_tables::BookCounts;
 use model::Identity;
 use model::Part;
 use model::limits::MAX_IDENTITIES;
-use book_tables::BookCounts;
 
 // No identity.
 pub const NONE: Identity = Identity {

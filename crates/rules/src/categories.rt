@@ -5,6 +5,7 @@ ghost use lib.ListN.{length};
 ghost use Rattle.model.specs.Choice.{just};
 ghost use Rattle.name_lists.specs.Names.{NamesRead, namesBehind};
 ghost use Rattle.rules.specs.Stored.{NamesRoom, NamesStored, CategoryClear, CategoryAdded};
+use book_tables::names::NAME_LENGTHS;
 use items::Piece;
 use items::places;
 use name_lists::LIST_DEPTH;
@@ -15,7 +16,6 @@ use rules_tables::OVER;
 use rules_tables::RulesCounts;
 use rules_tables::lower;
 use rules_tables::stores;
-use book_tables::names::NAME_LENGTHS;
 
 // Stores the names of a list one after another, the line beginning at the place `base` of the rules' text, and says how many they are.
 fn store_names(words: &mut [u32], at: usize, s: &[u8], from: usize, base: usize) -> usize

@@ -21,24 +21,19 @@ ghost use Rattle.rules.specs.Forms.{between};
 ghost use Rattle.rules.specs.Faults.{faultOf};
 use items::Piece;
 use items::places;
-use name_lists::LIST_DEPTH;
-use name_lists::scans;
 use model::limits::MAX_ACTORS;
 use model::limits::MAX_CATEGORIES;
+use model::refusals::ACTOR_LACKING;
+use model::refusals::LIMIT_PASSED;
+use model::refusals::NOT_DECLARED;
+use model::refusals::SECOND_TIME;
+use name_lists::LIST_DEPTH;
+use name_lists::scans;
 use rules_tables::ACTORS;
 use rules_tables::CATEGORIES;
 use rules_tables::CATEGORY_NAMES;
 use rules_tables::CATEGORY_WORDS;
 use rules_tables::RulesCounts;
-
-// The faults of a line, in the paper's numbers.
-pub const NOT_DECLARED: u32 = 4;
-
-pub const SECOND_TIME: u32 = 5;
-
-pub const LIMIT_PASSED: u32 = 7;
-
-pub const ACTOR_LACKING: u32 = 9;
 
 // Whether some name from a place on is that of no category.
 fn is_unknown(text: &[u8], words: &[u32], count: usize, s: &[u8], from: usize) -> bool
@@ -119,7 +114,11 @@ fn lacks_of_lower(text: &[u8], words: &[u32], k: usize, s: &[u8], a: usize, o: u
     ensures { λ r. ⌜ ((x y : NamesRead) → namesBehind (now (s .entry)) a ≡ just x → namesBehind (now (s .entry)) o ≡ just y
         → r ≡ (mem (nameOf (now (text .entry)) (now (words .entry)) names k) (y .names) && not (all (λ w. mem w (x .names)) (actorsAt (now (text .entry)) (now (words .entry)) k)))) ⌝ }
 {
-    if scans::has_name(s, o, rules_tables::names::name_at(text, words, CATEGORY_NAMES + k)) {
+    if scans::has_name(
+        s,
+        o,
+        rules_tables::names::name_at(text, words, CATEGORY_NAMES + k),
+    ) {
         return lacks_one_of(text, words, k, s, a);
     }
     false

@@ -9,15 +9,15 @@ ghost use Rattle.book_tables.specs.Fits.{Fits};
 ghost use Rattle.service.specs.Behind.{requestFrom};
 ghost use Rattle.service.specs.Beside.{refusedRequest, RequestSays};
 use book::BookLoad;
+use book_tables::BookCounts;
 use model::Identity;
 use model::Part;
 use model::Refusal;
 use model::RequestRead;
 use model::Verdict;
 use model::limits::MAX_IDENTITIES;
-use rules_tables::RULES_WORDS;
 use rules::RulesLoad;
-use book_tables::BookCounts;
+use rules_tables::RULES_WORDS;
 
 // Reads the book, then the rules and the request.
 pub fn from_texts(book: &[u8], rules: &[u8], request: &[u8], work: &mut [u32]) -> RequestRead

@@ -9,10 +9,10 @@ ghost use Rattle.book_tables.specs.View.{bookAt};
 ghost use Rattle.book_tables.specs.Fits.{Fits};
 ghost use Rattle.service.specs.Behind.{rulesFrom};
 use book::BookLoad;
-use model::RulesRead;
-use rules_tables::RULES_WORDS;
-use rules::RulesLoad;
 use book_tables::BookCounts;
+use model::RulesRead;
+use rules::RulesLoad;
+use rules_tables::RULES_WORDS;
 
 // Reads the book, then the rules.
 pub fn from_texts(book: &[u8], rules: &[u8], work: &mut [u32]) -> RulesRead

@@ -6,17 +6,17 @@ ghost use Rattle.model.specs.ReadBook.{readBook};
 ghost use Rattle.book_tables.specs.View.{bookAt};
 ghost use Rattle.book_tables.specs.Fits.{Fits};
 ghost use Rattle.service.specs.Behind.{textFrom, textOfRules, Wrote};
-use crate::NO_ROOM;
 use book::BookLoad;
+use book_tables::BookCounts;
 use model::QueryWritten;
 use model::Refusal;
 use model::Verdict;
-use query::read::QUERY;
-use query::read::QUERY_LINE;
-use rules_tables::RULES_WORDS;
-use rules::RulesLoad;
-use book_tables::BookCounts;
+use model::refusals::NO_ROOM;
+use model::refusals::QUERY;
+use model::refusals::QUERY_LINE;
 use query_writer::Written;
+use rules::RulesLoad;
+use rules_tables::RULES_WORDS;
 
 // Reads the book, then the rules and the query, and writes it.
 pub fn from_texts(
