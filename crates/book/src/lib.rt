@@ -10,7 +10,7 @@ use book_tables::BookCounts;
 use model::BookRead;
 use model::Refusal;
 use model::limits::WORK_WORDS;
-use model::refusals::TOO_LITTLE;
+use model::refusal_numbers::TOO_LITTLE;
 
 // What reading a book into the working memory gives: the counts of its tables, or a refusal.
 pub enum BookLoad {

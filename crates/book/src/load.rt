@@ -14,10 +14,10 @@ use book_tables::BookCounts;
 use book_tables::no_counts;
 use model::Refusal;
 use model::limits::MAX_BOOK_BYTES;
-use model::refusals::BOOK;
-use model::refusals::BROKEN;
-use model::refusals::NOT_ALLOWED;
-use model::refusals::TOO_LONG;
+use model::refusal_numbers::BOOK;
+use model::refusal_numbers::BROKEN;
+use model::refusal_numbers::NOT_ALLOWED;
+use model::refusal_numbers::TOO_LONG;
 use text::BytesRead;
 
 // Reads a book into the tables; on a refusal they are all ones.

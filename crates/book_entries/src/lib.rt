@@ -10,9 +10,9 @@ use model::Part;
 use model::Value;
 use model::limits::MAX_DECLARED;
 use model::limits::MAX_ENTRIES;
-use model::refusals::NOT_DECLARED;
-use model::refusals::OTHER_TYPE;
-use model::refusals::SECOND_TIME;
+use model::refusal_numbers::NOT_DECLARED;
+use model::refusal_numbers::OTHER_TYPE;
+use model::refusal_numbers::SECOND_TIME;
 
 // An entry's first word is its attribute's number times 4 and its type.
 pub const TYPES: usize = 4;

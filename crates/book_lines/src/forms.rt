@@ -22,7 +22,7 @@ use book_tables::BookCounts;
 use items::Piece;
 use items::places;
 use model::Part;
-use model::refusals::BROKEN;
+use model::refusal_numbers::BROKEN;
 use text::End;
 
 // Reads a line, which begins at the base in the text, and adds it.

@@ -25,7 +25,7 @@ use items::Piece;
 use items::places;
 use model::Part;
 use model::Value;
-use model::refusals::BROKEN;
+use model::refusal_numbers::BROKEN;
 
 // In a list of a line's form two may still be opened.
 pub const ENTRY_DEPTH: usize = 2;

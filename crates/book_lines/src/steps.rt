@@ -27,9 +27,9 @@ use model::limits::MAX_DECLARED;
 use model::limits::MAX_ENTRIES;
 use model::limits::MAX_NODES;
 use model::limits::MAX_RELATIONSHIPS;
-use model::refusals::LIMIT_PASSED;
-use model::refusals::NOT_DECLARED;
-use model::refusals::SECOND_TIME;
+use model::refusal_numbers::LIMIT_PASSED;
+use model::refusal_numbers::NOT_DECLARED;
+use model::refusal_numbers::SECOND_TIME;
 
 // A name's word.
 fn name_word(name: Part) -> u32

@@ -14,7 +14,7 @@ use book_tables::BookCounts;
 use model::BookRead;
 use model::Refusal;
 use model::limits::WORK_WORDS;
-use model::refusals::TOO_LITTLE;
+use model::refusal_numbers::TOO_LITTLE;
 
 // "A name is a word of 1 to 24 bytes"; here it is followed by a zero.
 pub const NAME_BYTES: usize = 25;

@@ -5,12 +5,12 @@ ghost use Prim.Native.Nat.{_-_};
 ghost use Rattle.model.specs.Choice.{pick};
 ghost use Rattle.query_faults.specs.Survey.{unseen, overLimit, verdict};
 use crate::Survey;
-use model::refusals::BROKEN;
-use model::refusals::LIMIT_PASSED;
-use model::refusals::NOT_DECLARED;
-use model::refusals::OTHER_TYPE;
-use model::refusals::SECOND_TIME;
-use model::refusals::SELF_EXCLUDED;
+use model::refusal_numbers::BROKEN;
+use model::refusal_numbers::LIMIT_PASSED;
+use model::refusal_numbers::NOT_DECLARED;
+use model::refusal_numbers::OTHER_TYPE;
+use model::refusal_numbers::SECOND_TIME;
+use model::refusal_numbers::SELF_EXCLUDED;
 
 // True where a test holds, else what was so before.
 pub fn flagged(test: bool, before: bool) -> bool

@@ -12,7 +12,7 @@ use model::RequestRead;
 use model::RowsListed;
 use model::RulesRead;
 use model::limits::WORK_WORDS;
-use model::refusals::TOO_LITTLE;
+use model::refusal_numbers::TOO_LITTLE;
 ghost use Rattle.model.specs.Demands.{ListCalled};
 ghost use Rattle.model.specs.WholeAnswers.{queryRead};
 
