@@ -10,15 +10,13 @@ use book_tables::BookCounts;
 use model::BookRead;
 use model::Refusal;
 use model::limits::WORK_WORDS;
+use model::refusal_numbers::TOO_LITTLE;
 
 // What reading a book into the working memory gives: the counts of its tables, or a refusal.
 pub enum BookLoad {
     Loaded(BookCounts),
     Refused(Refusal),
 }
-
-// "working memory is under 16,384 words".
-pub const TOO_LITTLE: u32 = 15;
 
 // The service: reads a book and answers its counts of nodes, relationships and attribute entries, or a refusal. The working memory ends all ones.
 pub fn read_book(book: &[u8], work: &mut [u32]) -> BookRead

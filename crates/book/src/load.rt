@@ -14,17 +14,11 @@ use book_tables::BookCounts;
 use book_tables::no_counts;
 use model::Refusal;
 use model::limits::MAX_BOOK_BYTES;
+use model::refusal_numbers::BOOK;
+use model::refusal_numbers::BROKEN;
+use model::refusal_numbers::NOT_ALLOWED;
+use model::refusal_numbers::TOO_LONG;
 use text::BytesRead;
-
-// The book is text 1.
-pub const BOOK: u32 = 1;
-
-// Refusals in the paper's numbers: the text is too long, a byte is not allowed, the grammar is broken.
-pub const TOO_LONG: u32 = 1;
-
-pub const NOT_ALLOWED: u32 = 2;
-
-pub const BROKEN: u32 = 3;
 
 // Reads a book into the tables; on a refusal they are all ones.
 pub fn load(text: &[u8], words: &mut [u32]) -> BookLoad

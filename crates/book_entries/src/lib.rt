@@ -10,13 +10,9 @@ use model::Part;
 use model::Value;
 use model::limits::MAX_DECLARED;
 use model::limits::MAX_ENTRIES;
-
-// The faults of an entry, in the paper's numbers: "a name is not declared", "given a second time", "value not of the declared type".
-pub const NOT_DECLARED: u32 = 4;
-
-pub const SECOND_TIME: u32 = 5;
-
-pub const OTHER_TYPE: u32 = 6;
+use model::refusal_numbers::NOT_DECLARED;
+use model::refusal_numbers::OTHER_TYPE;
+use model::refusal_numbers::SECOND_TIME;
 
 // An entry's first word is its attribute's number times 4 and its type.
 pub const TYPES: usize = 4;

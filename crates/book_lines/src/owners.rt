@@ -14,7 +14,6 @@ ghost use Rattle.book_lines.specs.Entries.{shift, Declares, EntriesDone}
 use crate::EntriesAnswer;
 use crate::LineStep;
 use crate::RelNames;
-use crate::forms::BROKEN;
 use crate::pieces::FORM_DEPTH;
 use crate::steps;
 use book_entries::EntriesRead;
@@ -26,6 +25,7 @@ use items::Piece;
 use items::places;
 use model::Part;
 use model::Value;
+use model::refusal_numbers::BROKEN;
 
 // In a list of a line's form two may still be opened.
 pub const ENTRY_DEPTH: usize = 2;

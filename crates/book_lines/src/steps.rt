@@ -27,13 +27,9 @@ use model::limits::MAX_DECLARED;
 use model::limits::MAX_ENTRIES;
 use model::limits::MAX_NODES;
 use model::limits::MAX_RELATIONSHIPS;
-
-// The faults of a line, in the paper's numbers.
-pub const NOT_DECLARED: u32 = 4;
-
-pub const SECOND_TIME: u32 = 5;
-
-pub const LIMIT_PASSED: u32 = 7;
+use model::refusal_numbers::LIMIT_PASSED;
+use model::refusal_numbers::NOT_DECLARED;
+use model::refusal_numbers::SECOND_TIME;
 
 // A name's word.
 fn name_word(name: Part) -> u32

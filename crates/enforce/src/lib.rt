@@ -7,6 +7,8 @@ use book_tables::BookCounts;
 use model::Identity;
 use model::Pattern;
 use model::limits::MAX_IDENTITIES;
+use model::refusal_numbers::NOT_TIED;
+use model::refusal_numbers::WOVEN_LIMIT_PASSED;
 use rules_tables::ACTORS;
 use rules_tables::CATEGORIES;
 use rules_tables::CATEGORY_WORDS;
@@ -15,12 +17,6 @@ use weave::Added;
 use woven_tables::WovenCounts;
 
 pub mod policies; // policies.rt: the enforced policies, one category after another
-
-// "12, 5, 0: a woven limit passed."
-const PASSED: u32 = 12;
-
-// "13, 5, 0: a woven vertex not tied to an identity."
-const NOT_TIED: u32 = 13;
 
 // The counts of the woven pattern, or the number of its refusal.
 pub enum AskedWoven {
@@ -70,7 +66,7 @@ pub fn weave_texts(
         weave::empty(),
     );
     let Added::Woven(alone) = first else {
-        return AskedWoven::Refused(PASSED);
+        return AskedWoven::Refused(WOVEN_LIMIT_PASSED);
     };
     let all = policies::weave_policies(
         book,
@@ -85,7 +81,7 @@ pub fn weave_texts(
         alone,
     );
     let Added::Woven(shape) = all else {
-        return AskedWoven::Refused(PASSED);
+        return AskedWoven::Refused(WOVEN_LIMIT_PASSED);
     };
     if weave::finish(query, rules, request, identities, count, woven, shape) {
         return AskedWoven::Woven(shape);

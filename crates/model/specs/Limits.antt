@@ -1,5 +1,13 @@
--- How much fits: a name for each limit of document 01, with its words. The constants of src/lib.rt have the same values.
+-- How much fits: a name for each limit of document 01, with its words. The constants of src/limits.rt have the same values.
 use Prim.Native.Nat.{ℕ, _-_, _^_}
+
+-- "Word: .. 1 to 24 bytes"
+abbrev pub maxWordBytes : ℕ
+maxWordBytes = 24
+
+-- "Text value: between apostrophes, 0 to 40 bytes"
+abbrev pub maxTextBytes : ℕ
+maxTextBytes = 40
 
 -- "Book 65,536 bytes"
 abbrev pub maxBookBytes : ℕ

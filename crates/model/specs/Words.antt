@@ -6,6 +6,7 @@ use lib.ListN.{length}
 use lib.Dec.{leb, eqb}
 use Rattle.model.specs.Bytes.{Bytes}
 use Rattle.model.specs.Choice.{pick, Maybe, nothing, just, andThen}
+use Rattle.model.specs.Limits.{maxWordBytes, maxTextBytes}
 use Rattle.model.specs.Lists.{isNil, any}
 
 -- what was read, and how many bytes (or signs) it took
@@ -41,7 +42,7 @@ before q (b ∷ s) = let rest = before q s in pick (eqb b q) (just []) (andThen 
 
 -- a word at the front, where a letter stands: 1 to 24 bytes
 unfoldable pub wordAt : Bytes → Maybe (Got Bytes)
-wordAt s = let w = run isWordByte s in pick (leb (length w) 24) (just (record { got = w; size = length w })) nothing
+wordAt s = let w = run isWordByte s in pick (leb (length w) maxWordBytes) (just (record { got = w; size = length w })) nothing
 
 -- a whole number z is kept as z + 2^63, so that greater numbers are greater
 unfoldable pub biased : Bool → ℕ → ℕ
@@ -74,7 +75,7 @@ wholeAt (b ∷ s) = pick (eqb b 45) (digitsAt true s) (digitsAt false (b ∷ s))
 
 -- a text value: 0 to 40 bytes, no double quote, no line feed
 unfoldable pub isText : Bytes → Bool
-isText t = leb (length t) 40 && not (any (λ b. eqb b 34 || eqb b 10) t)
+isText t = leb (length t) maxTextBytes && not (any (λ b. eqb b 34 || eqb b 10) t)
 
 -- a text value, from behind its first apostrophe on
 unfoldable pub textAt : Bytes → Maybe (Got Bytes)

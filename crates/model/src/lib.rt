@@ -2,6 +2,7 @@
 ghost use mathlib.Core.Path.{_≡_};
 
 pub mod limits; // limits.rt: how much fits
+pub mod refusal_numbers; // refusal_numbers.rt: the numbers of refusals and of texts
 
 use crate::limits::MAX_CONDITIONS;
 use crate::limits::MAX_EDGES;

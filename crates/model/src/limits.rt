@@ -1,5 +1,10 @@
 // How much fits: the limits of document 01 in code, a name for each phrase, with the values of specs/Limits.antt.
 
+// "Word: a letter, then letters, digits, underscores; 1 to 24 bytes." "Text value: between apostrophes, 0 to 40 bytes."
+pub const MAX_WORD_BYTES: usize = 24;
+
+pub const MAX_TEXT_BYTES: usize = 40;
+
 // "Book 65,536 bytes, at most 256 nodes, 1,024 relationships, 2,048 attribute entries, 32 names each of vattr, eattr and label."
 pub const MAX_BOOK_BYTES: usize = 65536;
 

@@ -53,7 +53,8 @@ module _ (s : Bytes) (table : List ℕ) (from n i : ℕ) (m : MetBefore s table 
   met-done e = left-done twice (again (m .done)) s from i (m .left) e
 
   -- r is what the look-up of the name that follows says
-  module _ (p q : ℕ) (e : piece.At p q ≡ namePlaces (nameNext 2 false s i)) (room : n < length table) (r : Bool) (is : r ≡ mem (partOf s p (q - p)) (namesMet s table n)) where
+  module _ (p q : ℕ) (e : piece.At p q ≡ namePlaces (nameNext 2 false s i)) (room : n < length table) (r : Bool)
+      (is : r ≡ mem (partOf s p (q - p)) (namesMet s table n)) where
     looked : mem (partOf s p (q - p)) (m .done) ≡ r
     looked = sym (is ∙ ap (mem (partOf s p (q - p))) (m .held .lists room .are))
 
@@ -62,7 +63,8 @@ module _ (s : Bytes) (table : List ℕ) (from n i : ℕ) (m : MetBefore s table 
     met-again t = left-found twice (again (m .done)) s from i true p q (m .left) e (λ y _. rw (looked ∙ t))
 
     pub met-more : r ≡ false → (table′ : List ℕ) (n′ : ℕ)
-        → ((names : Names) → Holds s table n names → Holds s table′ n′ (names ++ (nameAt s (record { start = p; length = q - p }) ∷ []))) → MetBefore s table′ from n′ q
+        → ((names : Names) → Holds s table n names → Holds s table′ n′ (names ++ (nameAt s (record { start = p; length = q - p }) ∷ [])))
+        → MetBefore s table′ from n′ q
     unfolding again nameAt
     met-more f table′ n′ h = record {
       done = m .done ++ (partOf s p (q - p) ∷ []);

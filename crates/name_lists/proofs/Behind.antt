@@ -27,7 +27,8 @@ use Rattle.items.specs.declared.NameRead.{NameRead}
 use Rattle.items.specs.declared.NameRead.the-variants as name
 use Rattle.items.specs.Reads.{nextAt, listEnd}
 use Rattle.items.specs.Rest.{restAt, formAt, onNext}
-use Rattle.items.specs.Pieces.{itemPlace, afterEnd, wordPiece, namePiece, readAt, namePlaces, wordNext, nameAfter, nameNext, openNext, closeAfter, closeNext, onPiece, onName, onPlace}
+use Rattle.items.specs.Pieces.{itemPlace, afterEnd, wordPiece, namePiece, readAt, namePlaces, wordNext, nameAfter, nameNext, openNext, closeAfter}
+use Rattle.items.specs.Pieces.{closeNext, onPiece, onName, onPlace}
 use Rattle.items.proofs.RestLaws.{rest-same, rest-nothing, rest-end}
 use Rattle.items.proofs.PieceLaws.{first-word, each-name}
 use Rattle.items.proofs.FormLaws.{form-list}
@@ -41,7 +42,8 @@ pub rest-on : {A B : Type 0} (d : ℕ) (free : Bool) (i : ℕ) (s : Bytes) (f : 
 unfolding restAt andThen
 rest-on {A} {B} d free i s f h = go (listAt (itemAt d) free 0 (drop i s))
   where
-    go : (o : Maybe (Got Items)) → andThen o (λ g. andThen (f (i + g .size) (itemList (g .got))) h) ≡ andThen (andThen o (λ g. f (i + g .size) (itemList (g .got)))) h
+    go : (o : Maybe (Got Items)) → andThen o (λ g. andThen (f (i + g .size) (itemList (g .got))) h)
+        ≡ andThen (andThen o (λ g. f (i + g .size) (itemList (g .got)))) h
     go nothing = refl
     go (just g) = refl
 
@@ -51,7 +53,8 @@ then-just nothing f h = refl
 then-just (just a) f h = refl
 
 module _ (s : Bytes) (i : ℕ) where
-  pub rest-names : {B : Type 0} (k : ℕ → List Bytes → Maybe B) → restAt 2 false i s (λ e is. andThen (each asName is) (k e)) ≡ andThen (namesBehind s i) (λ x. k (x .end) (x .names))
+  pub rest-names : {B : Type 0} (k : ℕ → List Bytes → Maybe B)
+      → restAt 2 false i s (λ e is. andThen (each asName is) (k e)) ≡ andThen (namesBehind s i) (λ x. k (x .end) (x .names))
   unfolding namesBehind
   rest-names k =
       rest-same 2 false i s _ _ (λ e is. then-just (each asName is) (λ ns. record { names = ns; end = e }) (λ (x : NamesRead). k (x .end) (x .names)))
@@ -63,7 +66,8 @@ module _ (s : Bytes) (i : ℕ) where
   unfolding namesBehind oneMore onName
   names-next = each-name 2 false s i (λ e ns. just (record { names = ns; end = e })) ∙ go (nameNext 2 false s i)
     where
-      go : (r : NameRead) → onName s r (λ n q. restAt 2 false q s (λ e is. andThen (each asName is) (λ ns. just (record { names = n ∷ ns; end = e })))) (λ e. just (record { names = []; end = e }))
+      go : (r : NameRead) → onName s r (λ n q. restAt 2 false q s (λ e is. andThen (each asName is) (λ ns. just (record { names = n ∷ ns; end = e }))))
+          (λ e. just (record { names = []; end = e }))
           ≡ onName s r (λ n q. oneMore n (namesBehind s q)) (λ e. just (record { names = []; end = e }))
       go (name.Name p q) = rest-names s q (λ e ns. just (record { names = partOf s p (q - p) ∷ ns; end = e }))
       go (name.Close e) = refl
@@ -80,8 +84,12 @@ module _ (s : Bytes) (i : ℕ) where
           let y = then-e (namesBehind s b) (λ (y : NamesRead). just (record { names = partOf s a (b - a) ∷ y .names; end = y .end })) x e in
           let ea : a ≡ p = cc in
           let eb : b ≡ q = cc in
-          let z : record { names = partOf s a (b - a) ∷ y .0 .names; end = y .0 .end } ≡ x = cc (y .2) in
-          (y .0, ap (namesBehind s) (sym eb) ∙ y .1, ap (λ (w : NamesRead). w .names) (sym z) ∙ ap (λ (v : ℕ). partOf s v (b - v) ∷ y .0 .names) ea ∙ ap (λ (v : ℕ). partOf s p (v - p) ∷ y .0 .names) eb)
+          let z : record { names = partOf s a (b - a) ∷ y .0 .names; end = y .0 .end } ≡ x = cc (y .2) in (
+            y .0,
+            ap (namesBehind s) (sym eb) ∙ y .1,
+            ap (λ (w : NamesRead). w .names) (sym z) ∙ ap (λ (v : ℕ). partOf s v (b - v) ∷ y .0 .names) ea
+                ∙ ap (λ (v : ℕ). partOf s p (v - p) ∷ y .0 .names) eb,
+          )
       go (name.Close a) n e = let z : _≡_ {A = ℕ} 0 1 = cc in absurd (omega arith)
       go name.None n e = let z : _≡_ {A = ℕ} 0 1 = cc in absurd (omega arith)
 
@@ -89,7 +97,8 @@ module _ (s : Bytes) (i : ℕ) where
   unfolding onName
   names-done x n e = go (nameNext 2 false s i) n (sym names-next ∙ e)
     where
-      go : (r : NameRead) → piece.None ≡ namePlaces r → onName s r (λ n q. oneMore n (namesBehind s q)) (λ e. just (record { names = []; end = e })) ≡ just x → x .names ≡ []
+      go : (r : NameRead) → piece.None ≡ namePlaces r
+          → onName s r (λ n q. oneMore n (namesBehind s q)) (λ e. just (record { names = []; end = e })) ≡ just x → x .names ≡ []
       go (name.Name a b) n e = let z : _≡_ {A = ℕ} 0 1 = cc in absurd (omega arith)
       go (name.Close a) n e = let z : record { names = []; end = a } ≡ x = cc in ap (λ (w : NamesRead). w .names) (sym z)
       go name.None n e = let z : _≡_ {A = ℕ} 0 1 = cc in absurd (omega arith)
@@ -107,7 +116,8 @@ module _ (s : Bytes) (i : ℕ) where
       more nothing n = refl
       more (just x) n = refl
 
-      go : (r : NameRead) → piece.At p q ≡ namePlaces r → namesEnd (namesBehind s q) ≡ namesEnd (onName s r (λ n q. oneMore n (namesBehind s q)) (λ e. just (record { names = []; end = e })))
+      go : (r : NameRead) → piece.At p q ≡ namePlaces r
+          → namesEnd (namesBehind s q) ≡ namesEnd (onName s r (λ n q. oneMore n (namesBehind s q)) (λ e. just (record { names = []; end = e })))
       go (name.Name a b) n = let e : q ≡ b = cc in ap (λ (z : ℕ). namesEnd (namesBehind s z)) e ∙ more (namesBehind s b) (partOf s a (b - a))
       go (name.Close a) n = let z : _≡_ {A = ℕ} 0 1 = cc in absurd (omega arith)
       go name.None n = let z : _≡_ {A = ℕ} 0 1 = cc in absurd (omega arith)
@@ -124,21 +134,28 @@ module _ (s : Bytes) (i : ℕ) where
       p : ℕ
       p = past isSpace s i
 
-      after : (o : Next) → piece.None ≡ namePlaces (nameAfter 2 s o) → (q : ℕ) → o ≡ next.Item q → end.None ≡ namesEnd (onName s (nameAfter 2 s o) (λ n q. oneMore n (namesBehind s q)) (λ e. just (record { names = []; end = e })))
+      after : (o : Next) → piece.None ≡ namePlaces (nameAfter 2 s o) → (q : ℕ) → o ≡ next.Item q
+          → end.None ≡ namesEnd (onName s (nameAfter 2 s o) (λ n q. oneMore n (namesBehind s q)) (λ e. just (record { names = []; end = e })))
       after (next.Item q) n q′ e = by (wordPiece q (readAt 2 s q)) n
         where
-          choose : (b : Bool) (u v : ℕ) → piece.None ≡ namePlaces (pick b (name.Name u v) name.None) → end.None ≡ namesEnd (onName s (pick b (name.Name u v) name.None) (λ n q. oneMore n (namesBehind s q)) (λ e. just (record { names = []; end = e })))
+          choose : (b : Bool) (u v : ℕ) → piece.None ≡ namePlaces (pick b (name.Name u v) name.None)
+              → end.None ≡ namesEnd (onName s (pick b (name.Name u v) name.None) (λ n q. oneMore n (namesBehind s q))
+              (λ e. just (record { names = []; end = e })))
           choose true u v n = let z : _≡_ {A = ℕ} 0 1 = cc in absurd (omega arith)
           choose false u v n = refl
 
-          by : (w : Piece) → piece.None ≡ namePlaces (namePiece s w) → end.None ≡ namesEnd (onName s (namePiece s w) (λ n q. oneMore n (namesBehind s q)) (λ e. just (record { names = []; end = e })))
+          by : (w : Piece) → piece.None ≡ namePlaces (namePiece s w)
+              → end.None ≡ namesEnd (onName s (namePiece s w) (λ n q. oneMore n (namesBehind s q)) (λ e. just (record { names = []; end = e })))
           by (piece.At u v) n = choose (not (mem (partOf s u (v - u)) neverNames)) u v n
           by piece.None n = refl
       after (next.Close q) n q′ e = let z : _≡_ {A = ℕ} 0 1 = cc in absurd (omega arith)
       after next.None n q′ e = refl
 
-      go : (a b c : Bool) → piece.None ≡ namePlaces (nameAfter 2 s (pick a (next.Close (p + 1)) (pick b (next.Item p) (pick (false || c) (next.Item p) next.None))))
-          → closeAfter (pick a (next.Close (p + 1)) (pick b (next.Item p) (next.Item p))) ≡ namesEnd (onName s (nameAfter 2 s (pick a (next.Close (p + 1)) (pick b (next.Item p) (pick (false || c) (next.Item p) next.None)))) (λ n q. oneMore n (namesBehind s q)) (λ e. just (record { names = []; end = e })))
+      go : (a b c : Bool) → piece.None ≡ namePlaces
+          (nameAfter 2 s (pick a (next.Close (p + 1)) (pick b (next.Item p) (pick (false || c) (next.Item p) next.None))))
+          → closeAfter (pick a (next.Close (p + 1)) (pick b (next.Item p) (next.Item p)))
+          ≡ namesEnd (onName s (nameAfter 2 s (pick a (next.Close (p + 1)) (pick b (next.Item p) (pick (false || c) (next.Item p) next.None))))
+          (λ n q. oneMore n (namesBehind s q)) (λ e. just (record { names = []; end = e })))
       go true b c n = refl
       go false true c n = after (next.Item p) n p refl
       go false false true n = after (next.Item p) n p refl
@@ -158,7 +175,8 @@ module _ (s : Bytes) (i : ℕ) where
   names-nowhere n = rw (ends-nowhere 2 false s i {B = NamesRead} (λ e is. andThen (each asName is) (λ ns. just (record { names = ns; end = e }))) n)
 
 -- what `only_closes` says where no name follows at the place j, z being the end that the list reader gave
-module _ (s : Bytes) (i z : ℕ) (l : end.At z ≡ listEnd 2 false s i) (j : ℕ) (n : piece.None ≡ namePlaces (nameNext 2 false s j)) (e : namesEnd (namesBehind s j) ≡ namesEnd (namesBehind s i)) where
+module _ (s : Bytes) (i z : ℕ) (l : end.At z ≡ listEnd 2 false s i) (j : ℕ) (n : piece.None ≡ namePlaces (nameNext 2 false s j))
+    (e : namesEnd (namesBehind s j) ≡ namesEnd (namesBehind s i)) where
   pub names-shut : true ≡ eqb (past isSpace s j) (z - 1) → end.At z ≡ namesEnd (namesBehind s i)
   names-shut t = let h = ends-shut 2 false s i z l in closes-there s j z (h .1) (h .0) t ∙ names-ended s j n ∙ e
 
@@ -198,27 +216,33 @@ module _ {B : Type 0} (head s : Bytes) (k : List Bytes → List Item → Maybe B
   abbrev goOn : NamesRead → Maybe B
   goOn x = formAt true (x .end) s (k (x .names))
 
-  headed-word : (p : ℕ) → restAt 2 true p s (λ e is. first asWord is (λ w is. andThen (pick (same w head) (each asName is) nothing) (λ ns. formAt true e s (k ns))))
+  headed-word : (p : ℕ) → restAt 2 true p s
+      (λ e is. first asWord is (λ w is. andThen (pick (same w head) (each asName is) nothing) (λ ns. formAt true e s (k ns))))
       ≡ onPlace (headPiece head s (wordNext 2 true s p)) (λ a. andThen (namesBehind s a) goOn)
   unfolding onPiece onPlace headPiece andThen
-  headed-word p = first-word 2 true s p (λ e w is. andThen (pick (same w head) (each asName is) nothing) (λ ns. formAt true e s (k ns))) ∙ go (wordNext 2 true s p)
+  headed-word p = first-word 2 true s p (λ e w is. andThen (pick (same w head) (each asName is) nothing) (λ ns. formAt true e s (k ns)))
+      ∙ go (wordNext 2 true s p)
     where
-      by : (b : Bool) (q : ℕ) → restAt 2 false q s (λ e is. andThen (pick b (each asName is) nothing) (λ ns. formAt true e s (k ns))) ≡ onPlace (pick b (end.At q) end.None) (λ a. andThen (namesBehind s a) goOn)
+      by : (b : Bool) (q : ℕ) → restAt 2 false q s (λ e is. andThen (pick b (each asName is) nothing) (λ ns. formAt true e s (k ns)))
+          ≡ onPlace (pick b (end.At q) end.None) (λ a. andThen (namesBehind s a) goOn)
       by true q = rest-names s q (λ e ns. formAt true e s (k ns))
       by false q = rest-nothing 2 false q s
 
-      go : (r : Piece) → onPiece r (λ a b. restAt 2 false b s (λ e is. andThen (pick (same (partOf s a (b - a)) head) (each asName is) nothing) (λ ns. formAt true e s (k ns))))
+      go : (r : Piece) → onPiece r (λ a b. restAt 2 false b s
+          (λ e is. andThen (pick (same (partOf s a (b - a)) head) (each asName is) nothing) (λ ns. formAt true e s (k ns))))
           ≡ onPlace (headPiece head s r) (λ a. andThen (namesBehind s a) goOn)
       go (piece.At a b) = by (same (partOf s a (b - a)) head) b
       go piece.None = refl
 
-  pub headed-names : (free : Bool) (i : ℕ) → formAt free i s (λ is. first (namesAfter head) is k) ≡ onPlace (headedAt head s i) (λ a. andThen (namesBehind s a) goOn)
+  pub headed-names : (free : Bool) (i : ℕ)
+      → formAt free i s (λ is. first (namesAfter head) is k) ≡ onPlace (headedAt head s i) (λ a. andThen (namesBehind s a) goOn)
   unfolding namesAfter headedAt onNext onPlace afterEnd
   headed-names free i =
       form-list free i s (λ is. first asWord is (λ w is. pick (same w head) (each asName is) nothing)) k
       ∙ go (openNext s i)
     where
-      go : (n : Next) → onNext n (λ p. restAt 2 true p s (λ q is. andThen (first asWord is (λ w is. pick (same w head) (each asName is) nothing)) (λ a. formAt true q s (k a)))) (λ e. nothing)
+      go : (n : Next) → onNext n (λ p. restAt 2 true p s
+          (λ q is. andThen (first asWord is (λ w is. pick (same w head) (each asName is) nothing)) (λ a. formAt true q s (k a)))) (λ e. nothing)
           ≡ onPlace (afterEnd (itemPlace n) (λ p. headPiece head s (wordNext 2 true s p)) end.None) (λ a. andThen (namesBehind s a) goOn)
       go (next.Item p) =
           rest-same 2 true p s _ _ (λ e is. first-then asWord is (λ w is. pick (same w head) (each asName is) nothing) (λ a. formAt true e s (k a)))

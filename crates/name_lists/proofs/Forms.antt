@@ -23,9 +23,11 @@ use Rattle.items.proofs.RestLaws.{rest-same}
 use Rattle.name_lists.proofs.Behind.{rest-on}
 
 -- what is made of what a form gives
-pub form-on : {A B : Type 0} (free : Bool) (i : ℕ) (s : Bytes) (f : List Item → Maybe A) (h : A → Maybe B) → formAt free i s (λ is. andThen (f is) h) ≡ andThen (formAt free i s f) h
+pub form-on : {A B : Type 0} (free : Bool) (i : ℕ) (s : Bytes) (f : List Item → Maybe A) (h : A → Maybe B)
+    → formAt free i s (λ is. andThen (f is) h) ≡ andThen (formAt free i s f) h
 unfolding formAt andThen
-form-on {A} {B} free i s f h = rest-same 3 free i s _ _ (λ e is. go (spacesFrom s e) (f is)) ∙ rest-on 3 free i s (λ e is. pick (spacesFrom s e) (f is) nothing) h
+form-on {A} {B} free i s f h = rest-same 3 free i s _ _ (λ e is. go (spacesFrom s e) (f is))
+    ∙ rest-on 3 free i s (λ e is. pick (spacesFrom s e) (f is) nothing) h
   where
     go : (b : Bool) (o : Maybe A) → pick b (andThen o h) nothing ≡ andThen (pick b o nothing) h
     go true o = refl
@@ -62,7 +64,8 @@ module _ {B : Type 0} (s : Bytes) (i : ℕ) (k : Bytes → List Item → Maybe B
       go (name.Close e) n = refl
       go name.None n = refl
 
-  pub a-name : (p q : ℕ) → piece.At p q ≡ namePlaces (nameNext 3 false s i) → formAt false i s (λ is. first asName is k) ≡ formAt false q s (k (partOf s p (q - p)))
+  pub a-name : (p q : ℕ) → piece.At p q ≡ namePlaces (nameNext 3 false s i)
+      → formAt false i s (λ is. first asName is k) ≡ formAt false q s (k (partOf s p (q - p)))
   unfolding onName
   a-name p q n = form-name false i s k ∙ go (nameNext 3 false s i) n
     where

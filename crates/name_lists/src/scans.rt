@@ -13,6 +13,9 @@ use model::Part;
 use text::End;
 use text::compare;
 
+// A line of so many bytes has few names: comparing each with those behind it takes less than clearing a table.
+pub const FEW: usize = 128;
+
 // A name takes two bytes at least, with what parts it from the next: a line of 512 bytes has at most 256, one of 16,384 bytes at most 8,192.
 pub const SHORT: usize = 512;
 
@@ -62,6 +65,9 @@ pub fn has_name(s: &[u8], from: usize, name: &[u8]) -> bool
 pub fn has_twice(s: &[u8], from: usize) -> bool
     ensures { λ r. ⌜ ((x : NamesRead) → namesBehind (now (s .entry)) from ≡ just x → r ≡ twice (x .names)) ⌝ }
 {
+    if s.len() <= FEW {
+        return has_again(s, from);
+    }
     if s.len() <= SHORT {
         return has_twice_short(s, from);
     }

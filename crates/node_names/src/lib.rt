@@ -10,11 +10,11 @@ ghost use Rattle.book_tables.specs.View.{bookAt};
 ghost use Rattle.book_tables.specs.Fits.{Fits};
 ghost use Rattle.node_names.specs.Names.{nameByte, nameBytes, namesLeft};
 use book::BookLoad;
-use book::TOO_LITTLE;
 use book_tables::BookCounts;
 use model::BookRead;
 use model::Refusal;
 use model::limits::WORK_WORDS;
+use model::refusal_numbers::TOO_LITTLE;
 
 // "A name is a word of 1 to 24 bytes"; here it is followed by a zero.
 pub const NAME_BYTES: usize = 25;

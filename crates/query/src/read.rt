@@ -8,19 +8,13 @@ use model::QueryRead;
 use model::Refusal;
 use model::Verdict;
 use model::limits::MAX_QUERY_BYTES;
+use model::refusal_numbers::NOT_ALLOWED;
+use model::refusal_numbers::QUERY;
+use model::refusal_numbers::QUERY_LINE;
+use model::refusal_numbers::TOO_LONG;
 use query_faults::faulty;
 use text::BytesRead;
 use text::lines;
-
-// The query is text 3; its faults but the first stand at line 1.
-pub const QUERY: u32 = 3;
-
-pub const QUERY_LINE: u32 = 1;
-
-// Refusals in the paper's numbers: the text is too long, a byte is not allowed.
-pub const TOO_LONG: u32 = 1;
-
-pub const NOT_ALLOWED: u32 = 2;
 
 // A refusal beside an empty pattern.
 fn refused(number: u32, line: u32) -> QueryRead

@@ -5,6 +5,12 @@ ghost use Prim.Native.Nat.{_-_};
 ghost use Rattle.model.specs.Choice.{pick};
 ghost use Rattle.query_faults.specs.Survey.{unseen, overLimit, verdict};
 use crate::Survey;
+use model::refusal_numbers::BROKEN;
+use model::refusal_numbers::LIMIT_PASSED;
+use model::refusal_numbers::NOT_DECLARED;
+use model::refusal_numbers::OTHER_TYPE;
+use model::refusal_numbers::SECOND_TIME;
+use model::refusal_numbers::SELF_EXCLUDED;
 
 // True where a test holds, else what was so before.
 pub fn flagged(test: bool, before: bool) -> bool
@@ -80,19 +86,19 @@ pub fn fault_at_end(whole: bool, t: Survey) -> u32
     ensures { λ r. ⌜ r ≡ verdict whole t ⌝ }
 {
     if !whole {
-        return 3;
+        return BROKEN;
     }
     if t.undeclared {
-        return 4;
+        return NOT_DECLARED;
     }
     if t.twice {
-        return 5;
+        return SECOND_TIME;
     }
     if t.mistyped {
-        return 6;
+        return OTHER_TYPE;
     }
     if is_over(t) {
-        return 7;
+        return LIMIT_PASSED;
     }
-    if t.itself { 8 } else { 0 }
+    if t.itself { SELF_EXCLUDED } else { 0 }
 }

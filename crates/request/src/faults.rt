@@ -16,17 +16,13 @@ ghost use Rattle.request.specs.Faults.{FaultTold};
 use crate::ClaimAt;
 use crate::claims;
 use book_tables::BookCounts;
+use model::refusal_numbers::NO_REQUESTOR;
+use model::refusal_numbers::NOT_DECLARED;
+use model::refusal_numbers::SECOND_TIME;
 use rules_tables::ACTORS;
 use rules_tables::CATEGORIES;
 use rules_tables::CATEGORY_WORDS;
 use rules_tables::RulesCounts;
-
-// The faults of a line, in the paper's numbers.
-pub const NOT_DECLARED: u32 = 4;
-
-pub const SECOND_TIME: u32 = 5;
-
-pub const NO_REQUESTOR: u32 = 11;
 
 // Whether a name is that of an actor of category k.
 fn is_actor(rules: &[u8], table: &[u32], sizes: RulesCounts, k: usize, name: &[u8]) -> bool

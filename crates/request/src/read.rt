@@ -17,19 +17,13 @@ use model::RequestRead;
 use model::Verdict;
 use model::limits::MAX_IDENTITIES;
 use model::limits::MAX_REQUEST_BYTES;
+use model::refusal_numbers::BROKEN;
+use model::refusal_numbers::NOT_ALLOWED;
+use model::refusal_numbers::REQUEST;
+use model::refusal_numbers::TOO_LONG;
 use rules_tables::CATEGORY_NAMES;
 use rules_tables::RulesCounts;
 use text::BytesRead;
-
-// The request is text 4.
-pub const REQUEST: u32 = 4;
-
-// Refusals in the paper's numbers: the text is too long, a byte is not allowed, the grammar is broken.
-pub const TOO_LONG: u32 = 1;
-
-pub const NOT_ALLOWED: u32 = 2;
-
-pub const BROKEN: u32 = 3;
 
 // A refusal of the request, beside no category and no identities.
 fn refused(number: u32, line: u32) -> RequestRead

@@ -18,25 +18,19 @@ use crate::RulesForm;
 use crate::RulesLoad;
 use crate::RulesStep;
 use crate::forms;
-use crate::policies::NO_FORM;
 use crate::steps;
 use book_tables::BookCounts;
 use model::Refusal;
 use model::limits::MAX_RULES_BYTES;
+use model::refusal_numbers::BROKEN;
+use model::refusal_numbers::NOT_ALLOWED;
+use model::refusal_numbers::RULES;
+use model::refusal_numbers::TOO_LONG;
+use model::refusal_numbers::UNCOVERED;
 use query_faults::faulty;
 use rules_tables::RulesCounts;
 use rules_tables::no_counts;
 use text::BytesRead;
-
-// The rules are text 2.
-pub const RULES: u32 = 2;
-
-// Refusals in the paper's numbers: the text is too long, a byte is not allowed, a category over nothing has no policy.
-pub const TOO_LONG: u32 = 1;
-
-pub const NOT_ALLOWED: u32 = 2;
-
-pub const UNCOVERED: u32 = 10;
 
 // Reads one line by its form, the line beginning at the place `base` of the rules' text.
 fn form_step(
@@ -61,7 +55,7 @@ fn form_step(
             let fault = faulty::fault_of(book, words, counts, &s[t..u]);
             steps::policy_step(text, rules_words, known, s, base, p, q, t, u, fault)
         }
-        RulesForm::None => RulesStep::Fault(NO_FORM),
+        RulesForm::None => RulesStep::Fault(BROKEN),
     }
 }
 
@@ -81,7 +75,7 @@ fn line_step(
         (rulesStep (bookAt (now (book .entry)) (now (words .entry)) counts) (rulesAt (now (text .entry)) (now («rules_words» .entry)) known) (lineAt (now (text .entry)) from to)) ⌝ }
 {
     if text.len() <= to {
-        return RulesStep::Fault(NO_FORM);
+        return RulesStep::Fault(BROKEN);
     }
     form_step(
         book,

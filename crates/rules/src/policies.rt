@@ -10,26 +10,23 @@ ghost use Rattle.items.specs.Places.{WordPlaces};
 ghost use Rattle.query_faults.specs.TextFault.{textFault};
 ghost use Rattle.rules.specs.Forms.{between};
 ghost use Rattle.rules.specs.Policies.{lineNumber, policyOn, combined, PolicyClear, PolicyAdded};
-use crate::tests::LIMIT_PASSED;
-use crate::tests::NOT_DECLARED;
-use crate::tests::SECOND_TIME;
 use model::limits::MAX_POLICY_BYTES;
+use model::refusal_numbers::BROKEN;
+use model::refusal_numbers::LIMIT_PASSED;
+use model::refusal_numbers::NOT_DECLARED;
+use model::refusal_numbers::OTHER_TYPE;
+use model::refusal_numbers::SECOND_TIME;
 use rules_tables::CATEGORY_NAMES;
 use rules_tables::RulesCounts;
 use rules_tables::policies;
 use rules_tables::stores;
 
-// The faults of a text as a query, in the paper's numbers: no query, a value or relation of another type.
-pub const NO_FORM: u32 = 3;
-
-pub const OTHER_TYPE: u32 = 6;
-
 // The lowest fault of a policy's line, by its own faults and that of its text.
 fn lowest_of(unknown: bool, second: bool, long: bool, fault: u32) -> u32
     ensures { λ r. ⌜ r ≡ combined unknown second long fault ⌝ }
 {
-    if fault == NO_FORM {
-        return NO_FORM;
+    if fault == BROKEN {
+        return BROKEN;
     }
     if unknown {
         return NOT_DECLARED;

@@ -23,6 +23,10 @@ use items::Piece;
 use items::places;
 use model::limits::MAX_ACTORS;
 use model::limits::MAX_CATEGORIES;
+use model::refusal_numbers::ACTOR_LACKING;
+use model::refusal_numbers::LIMIT_PASSED;
+use model::refusal_numbers::NOT_DECLARED;
+use model::refusal_numbers::SECOND_TIME;
 use name_lists::LIST_DEPTH;
 use name_lists::scans;
 use rules_tables::ACTORS;
@@ -30,15 +34,6 @@ use rules_tables::CATEGORIES;
 use rules_tables::CATEGORY_NAMES;
 use rules_tables::CATEGORY_WORDS;
 use rules_tables::RulesCounts;
-
-// The faults of a line, in the paper's numbers.
-pub const NOT_DECLARED: u32 = 4;
-
-pub const SECOND_TIME: u32 = 5;
-
-pub const LIMIT_PASSED: u32 = 7;
-
-pub const ACTOR_LACKING: u32 = 9;
 
 // Whether some name from a place on is that of no category.
 fn is_unknown(text: &[u8], words: &[u32], count: usize, s: &[u8], from: usize) -> bool

@@ -5,7 +5,6 @@ ghost use Rattle.model.specs.ReadBook.{readBook};
 ghost use Rattle.model.specs.Service.{ones, rulesService, queryService, requestService, writerService};
 ghost use Rattle.model.specs.Answers.{bookOf, rulesAnswer, queryAnswer, requestAnswer, writerAnswer};
 ghost use Rattle.model.specs.RequestAnswer.{requestRead};
-use book::TOO_LITTLE;
 use model::QueryRead;
 use model::QueryWritten;
 use model::Refusal;
@@ -13,6 +12,7 @@ use model::RequestRead;
 use model::RowsListed;
 use model::RulesRead;
 use model::limits::WORK_WORDS;
+use model::refusal_numbers::TOO_LITTLE;
 ghost use Rattle.model.specs.Demands.{ListCalled};
 ghost use Rattle.model.specs.WholeAnswers.{queryRead};
 
@@ -21,9 +21,6 @@ mod query_reader; // query_reader.rt: a query behind its book
 mod writing; // writing.rt: a written query behind its texts
 mod request_reader; // request_reader.rt: a request behind its book and its rules
 mod rules_reader; // rules_reader.rt: rules behind their book
-
-// Refusals in the paper's numbers: "rows times Return names exceed the row buffer's words", "written query longer than its buffer or than 2,048 bytes".
-pub const NO_ROOM: u32 = 14;
 
 // Reads rules and answers their counts of categories and policies, or a refusal. The working memory ends all ones.
 pub fn read_rules(book: &[u8], rules: &[u8], work: &mut [u32]) -> RulesRead

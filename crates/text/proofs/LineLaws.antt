@@ -52,7 +52,8 @@ module _ (s : Bytes) (i : ℕ) where
   unfolding badLine isBad feedCount
   bad-onward l n h = rw (drop-at s i l) (go (isAllowed (getD s i 0)) h)
     where
-      go : (x : Bool) → not x ≡ false → pick x (badLine (n + pick (eqb (getD s i 0) 10) 1 0) (drop (i + 1) s)) (just n) ≡ badLine (n + pick (eqb (getD s i 0) 10) 1 0) (drop (i + 1) s)
+      go : (x : Bool) → not x ≡ false → pick x (badLine (n + pick (eqb (getD s i 0) 10) 1 0) (drop (i + 1) s)) (just n)
+          ≡ badLine (n + pick (eqb (getD s i 0) 10) 1 0) (drop (i + 1) s)
       go true h = refl
       go false h = let z : _≡_ {A = ℕ} 0 1 = cc in absurd (omega arith)
 
@@ -77,7 +78,8 @@ unfolding badLine
 bad-line-small n l [] e = let z : _≡_ {A = ℕ} 0 1 = cc in absurd (omega arith)
 bad-line-small n l (b ∷ s) e = go (isAllowed b) (eqb b 10) e (λ m. bad-line-small (n + m) l s)
   where
-    go : (x y : Bool) → pick x (badLine (n + pick y 1 0) s) (just n) ≡ just l → ((m : ℕ) → badLine (n + m) s ≡ just l → l < n + m + length s) → l < n + suc (length s)
+    go : (x y : Bool) → pick x (badLine (n + pick y 1 0) s) (just n) ≡ just l → ((m : ℕ) → badLine (n + m) s ≡ just l → l < n + m + length s)
+        → l < n + suc (length s)
     go true true e r = omega (arith, r 1 e)
     go true false e r = omega (arith, r 0 e)
     go false y e r = let w : n ≡ l = cc in omega arith
@@ -118,7 +120,9 @@ last-line : (b : ℕ) (t : Bytes) → length (run isInLine (b ∷ t)) ≡ suc (l
 unfolding linesOf run isOther addByte
 last-line b [] h = go (eqb b 10) h
   where
-    go : (x : Bool) → length (pick {A = Bytes} (not x) (b ∷ []) []) ≡ 1 → pick {A = List Line} x (record { bytes = []; ended = true } ∷ []) (record { bytes = b ∷ []; ended = false } ∷ []) ≡ record { bytes = pick (not x) (b ∷ []) []; ended = false } ∷ []
+    go : (x : Bool) → length (pick {A = Bytes} (not x) (b ∷ []) []) ≡ 1
+        → pick {A = List Line} x (record { bytes = []; ended = true } ∷ []) (record { bytes = b ∷ []; ended = false } ∷ [])
+        ≡ record { bytes = pick (not x) (b ∷ []) []; ended = false } ∷ []
     go true h = absurd (omega arith)
     go false h = refl
 last-line b (c ∷ t) h = go (eqb b 10) h (last-line c t)
@@ -126,8 +130,10 @@ last-line b (c ∷ t) h = go (eqb b 10) h (last-line c t)
     r : Bytes
     r = run isInLine (c ∷ t)
 
-    go : (x : Bool) → length (pick (not x) (b ∷ r) []) ≡ suc (suc (length t)) → (length r ≡ suc (length t) → linesOf (c ∷ t) ≡ record { bytes = r; ended = false } ∷ [])
-        → pick x (record { bytes = []; ended = true } ∷ linesOf (c ∷ t)) (addByte b (linesOf (c ∷ t))) ≡ record { bytes = pick (not x) (b ∷ r) []; ended = false } ∷ []
+    go : (x : Bool) → length (pick (not x) (b ∷ r) []) ≡ suc (suc (length t))
+        → (length r ≡ suc (length t) → linesOf (c ∷ t) ≡ record { bytes = r; ended = false } ∷ [])
+        → pick x (record { bytes = []; ended = true } ∷ linesOf (c ∷ t)) (addByte b (linesOf (c ∷ t)))
+        ≡ record { bytes = pick (not x) (b ∷ r) []; ended = false } ∷ []
     go true h f = absurd (omega arith)
     go false h f = rw (f (omega arith))
 
@@ -154,7 +160,8 @@ module _ (s : Bytes) (i : ℕ) where
     lines-last l g =
         let a : run isInLine (drop i s) ≡ partOf s i (q - i) = sym (past-part isInLine s i) ∙ ap (λ (x : ℕ). partOf s i (x - i)) (sym e) in
         let d : drop i s ≡ getD s i 0 ∷ drop (i + 1) s = drop-at s i l in
-        let n : length (run isInLine (getD s i 0 ∷ drop (i + 1) s)) ≡ suc (length (drop (i + 1) s)) = rw (← d) (omega (arith, past-within isInLine s i (omega arith), length-drop (i + 1) s)) in
+        let n : length (run isInLine (getD s i 0 ∷ drop (i + 1) s)) ≡ suc (length (drop (i + 1) s)) = rw (← d)
+        (omega (arith, past-within isInLine s i (omega arith), length-drop (i + 1) s)) in
         ap linesOf d ∙ last-line (getD s i 0) (drop (i + 1) s) n ∙ rw (← d, a)
 
 pub feed-count-small : (b : ℕ) → feedCount b ≤ 1

@@ -45,7 +45,8 @@ module _ (text : Bytes) (at to : ℕ) (e : to ≡ past isInLine text at) (l : at
     lines-known y h = rw (first-line, h)
 
 -- no line is left
-pub lines-over : {S : Type 0} (text : Bytes) (at t : ℕ) (step : S → Line → Step S) (n : ℕ) (x : S) → length text ≤ at → readLines t step n x (linesOf (drop at text)) ≡ accepted x
+pub lines-over : {S : Type 0} (text : Bytes) (at t : ℕ) (step : S → Line → Step S) (n : ℕ) (x : S) → length text ≤ at
+    → readLines t step n x (linesOf (drop at text)) ≡ accepted x
 unfolding readLines
 lines-over text at t step n x h = rw (lines-none text at h)
 

@@ -92,7 +92,8 @@ module _ (s : Bytes) (from : ℕ) where
   untold e = go (leb (decimal 0 (run isDigit (drop from s))) (2 ^ 63)) refl e
     where
       go : (x : Bool) → leb (decimal 0 (run isDigit (drop from s))) (2 ^ 63) ≡ x
-          → TooLarge ≡ pick x (Value (decimal 0 (run isDigit (drop from s))) (from + length (run isDigit (drop from s)))) TooLarge → 2 ^ 63 < decimal 0 (run isDigit (drop from s))
+          → TooLarge ≡ pick x (Value (decimal 0 (run isDigit (drop from s))) (from + length (run isDigit (drop from s)))) TooLarge
+          → 2 ^ 63 < decimal 0 (run isDigit (drop from s))
       go true h e = let z : _≡_ {A = ℕ} 0 1 = cc in absurd (omega arith)
       go false h e = leb-false (decimal 0 (run isDigit (drop from s))) (2 ^ 63) h
 

@@ -32,7 +32,8 @@ before-quote [] = refl
 before-quote (b ∷ t) = go (eqb b 34) refl (before-quote t)
   where
     go : (x : Bool) → eqb b 34 ≡ x → before 34 t ≡ pick (eqb (getD t (length (run isInQuoted t)) 256) 34) (just (run isInQuoted t)) nothing
-        → pick x (just []) (andThen (before 34 t) (λ u. just (b ∷ u))) ≡ pick (eqb (getD (b ∷ t) (length (pick (not x) (b ∷ run isInQuoted t) [])) 256) 34) (just (pick (not x) (b ∷ run isInQuoted t) [])) nothing
+        → pick x (just []) (andThen (before 34 t) (λ u. just (b ∷ u)))
+        ≡ pick (eqb (getD (b ∷ t) (length (pick (not x) (b ∷ run isInQuoted t) [])) 256) 34) (just (pick (not x) (b ∷ run isInQuoted t) [])) nothing
     go true e r = rw e
     go false e r = rw r (with-front b (eqb (getD t (length (run isInQuoted t)) 256) 34) (run isInQuoted t))
 
@@ -98,7 +99,8 @@ text-clean t = go (before 39 t)
     go nothing = refl
     go (just u) = go₂ (leb (length u) 40) (not (any (λ b. eqb b 34 || eqb b 10) u)) refl
       where
-        go₂ : (x y : Bool) → leb (length u) 40 ≡ x → pick {A = Maybe (Got Bytes)} (x && y) (just (record { got = u; size = length u + 2 })) nothing ≡ andThen (pick y (just u) nothing) short
+        go₂ : (x y : Bool) → leb (length u) 40 ≡ x
+            → pick {A = Maybe (Got Bytes)} (x && y) (just (record { got = u; size = length u + 2 })) nothing ≡ andThen (pick y (just u) nothing) short
         go₂ true true e = rw e
         go₂ true false e = refl
         go₂ false true e = rw e
@@ -117,7 +119,8 @@ module _ (s : Bytes) (from : ℕ) where
   -- what the code asks: where the run ends, the byte there, and the length
   pub text-at : textAt (drop from s)
       ≡ pick (eqb (peekAt s (past isInText s from)) 39)
-      (pick (leb (past isInText s from - from) 40) (just (record { got = partOf s from (past isInText s from - from); size = past isInText s from - from + 2 })) nothing) nothing
+      (pick (leb (past isInText s from - from) 40)
+      (just (record { got = partOf s from (past isInText s from - from); size = past isInText s from - from + 2 })) nothing) nothing
   unfolding upTo short
   text-at =
       text-clean (drop from s) ∙ ap (λ (o : Maybe Bytes). andThen o short) (clean-text (drop from s))
@@ -130,7 +133,8 @@ module _ (s : Bytes) (from : ℕ) where
   unfolding upTo quotedAt
   quoted-at =
       rw (before-quote (drop from s), stop-byte isInQuoted, ← past-part isInQuoted s from)
-      (up-to-then (eqb (peekAt s (past isInQuoted s from)) 34) (partOf s from (past isInQuoted s from - from)) (λ t. just (record { got = t; size = length t + 2 })) ∙ rw (part-length isInQuoted s from))
+      (up-to-then (eqb (peekAt s (past isInQuoted s from)) 34) (partOf s from (past isInQuoted s from - from))
+      (λ t. just (record { got = t; size = length t + 2 })) ∙ rw (part-length isInQuoted s from))
 
 module _ (s : Bytes) (at q : ℕ) where
   module _ (e : q ≡ past isInText s (at + 1)) where

@@ -26,6 +26,11 @@ pub const ZERO: usize = 48;
 
 pub const NINE: usize = 57;
 
+// The bytes of words below 64, a bit each: the digits; and those from 64 to 127: letters and the underscore.
+const WORD_BYTES_LOW: u64 = 0x03FF_0000_0000_0000;
+
+const WORD_BYTES_HIGH: u64 = 0x07FF_FFFE_87FF_FFFE;
+
 // The byte at a place, or END past the last one.
 pub fn peek(s: &[u8], i: usize) -> usize
     ensures { λ r. ⌜ r ≡ peekAt (now (s .entry)) i ⌝ }
@@ -59,14 +64,16 @@ pub fn is_digit(b: usize) -> bool
     b <= NINE
 }
 
-// A letter, a digit or an underscore. Joined by `|`, not by branches: the machine then tests both ranges of letters at once.
+// A letter, a digit or an underscore: a bit for each byte says it, so that no byte is told from another by a branch.
 pub fn in_word(b: u8) -> bool
     ensures { λ r. ⌜ r ≡ isWordByte b ⌝ }
 {
-    ((b'A' <= b) & (b <= b'Z'))
-        | ((b'a' <= b) & (b <= b'z'))
-        | ((b'0' <= b) & (b <= b'9'))
-        | (b == b'_')
+    let bits = if b < 64 {
+        WORD_BYTES_LOW
+    } else {
+        WORD_BYTES_HIGH
+    };
+    (b < 128) & (bits >> (b % 64) as u32 & 1 == 1)
 }
 
 // The place of the first such byte from a place on, or behind the last byte. Blocks of eight bytes without it are passed over whole.

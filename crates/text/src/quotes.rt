@@ -6,9 +6,7 @@ ghost use Rattle.model.specs.Words.{textAt, quotedAt};
 ghost use Rattle.text.specs.Places.{endOf, past, isInText};
 use crate::End;
 use crate::bytes;
-
-// "0 to 40 bytes"
-pub const MAX_TEXT: usize = 40;
+use model::limits::MAX_TEXT_BYTES;
 
 // A byte that a text value may have.
 pub fn in_text(b: u8) -> bool
@@ -49,7 +47,7 @@ pub fn text_value(s: &[u8], at: usize) -> End
     if bytes::peek(s, q) != bytes::APOSTROPHE {
         return End::None;
     }
-    if q - from <= MAX_TEXT {
+    if q - from <= MAX_TEXT_BYTES {
         return End::At(q + 1);
     }
     End::None

@@ -5,9 +5,7 @@ ghost use Rattle.model.specs.Words.{isWordByte, wordAt};
 ghost use Rattle.text.specs.Places.{endOf, past, isSpace};
 use crate::End;
 use crate::bytes;
-
-// "1 to 24 bytes"
-pub const MAX_WORD: usize = 24;
+use model::limits::MAX_WORD_BYTES;
 
 // The place behind the spaces that stand from a place on.
 pub fn spaces_end(s: &[u8], from: usize) -> usize
@@ -39,7 +37,7 @@ pub fn word(s: &[u8], at: usize) -> End
     ensures { λ r. ⌜ r ≡ endOf at (wordAt (drop at (now (s .entry)))) ⌝ }
 {
     let q = run_end(s, at);
-    if q - at <= MAX_WORD {
+    if q - at <= MAX_WORD_BYTES {
         return End::At(q);
     }
     End::None

@@ -21,7 +21,10 @@ enum-told : tie.Need-enum-told
 enum-told c = search needs
 
 returns : tie.Need-returns
-returns c = headed-none (c .before .before .before .before .before .before .args .head .now) (c .before .before .before .before .before .before .args .s .now) (c .before .before .before .before .before .before .args .from) (sym (c .enum-told .given .1) ∙ c .before .before .item-place .ensures ∙ ap itemPlace (c .before .before .before .open-list .ensures))
+returns c =
+    let at-args = c .before .before .before .before .before .before in
+    headed-none (at-args .args .head .now) (at-args .args .s .now) (at-args .args .from)
+    (sym (c .enum-told .given .1) ∙ c .before .before .item-place .ensures ∙ ap itemPlace (c .before .before .before .open-list .ensures))
 
 next-word-requires : tie.Need-next-word-requires
 next-word-requires c κs = search needs
@@ -33,7 +36,14 @@ enum-told-2 : tie.Need-enum-told-2
 enum-told-2 c = search needs
 
 returns-2 : tie.Need-returns-2
-returns-2 c = headed-no-word (c .before .before .before .before .before .before .before .before .before .before .args .head .now) (c .before .before .before .before .before .before .before .before .before .before .args .s .now) (c .before .before .before .before .before .before .before .before .before .before .args .from) _ (sym (c .before .before .before .before .i .given .1) ∙ c .before .before .before .before .before .before .item-place .ensures ∙ ap itemPlace (c .before .before .before .before .before .before .before .open-list .ensures)) (sym (c .enum-told2 .given .1) ∙ c .before .before .next-word .ensures .is)
+returns-2 c =
+    let at-i = c .before .before .before .before in
+    let at-item-place = at-i .before .before in
+    let at-open-list = at-item-place .before in
+    let at-args = at-open-list .before .before .before in
+    headed-no-word (at-args .args .head .now) (at-args .args .s .now) (at-args .args .from) _
+    (sym (at-i .i .given .1) ∙ at-item-place .item-place .ensures ∙ ap itemPlace (at-open-list .open-list .ensures))
+    (sym (c .enum-told2 .given .1) ∙ c .before .before .next-word .ensures .is)
 
 sub-same-bytes : tie.Need-sub-same-bytes
 sub-same-bytes c = let h = placed-at _ _ _ (c .before .p .given .1) (c .before .before .before .next-word .ensures .placed) in omega (arith, h .some)
@@ -49,11 +59,29 @@ same-bytes-requires c κs = search needs
 
 returns-3 : tie.Need-returns-3
 unfolding partOf
-returns-3 c = headed-is (c .before .before .before .before .before .before .before .before .before .before .before .before .before .before .args .head .now) (c .before .before .before .before .before .before .before .before .before .before .before .before .before .before .args .s .now) (c .before .before .before .before .before .before .before .before .before .before .before .before .before .before .args .from) _ (sym (c .before .before .before .before .before .before .before .before .i .given .1) ∙ c .before .before .before .before .before .before .before .before .before .before .item-place .ensures ∙ ap itemPlace (c .before .before .before .before .before .before .before .before .before .before .before .open-list .ensures)) (sym (c .before .before .before .before .p .given .1) ∙ c .before .before .before .before .before .before .next-word .ensures .is) (sym (c .before .same-bytes .ensures) ∙ c .if1 .taken)
+returns-3 c =
+    let at-p = c .before .before .before .before in
+    let at-next-word = at-p .before .before in
+    let at-i = at-next-word .before .before in
+    let at-item-place = at-i .before .before in
+    let at-open-list = at-item-place .before in
+    let at-args = at-open-list .before .before .before in
+    headed-is (at-args .args .head .now) (at-args .args .s .now) (at-args .args .from) _
+    (sym (at-i .i .given .1) ∙ at-item-place .item-place .ensures ∙ ap itemPlace (at-open-list .open-list .ensures))
+    (sym (at-p .p .given .1) ∙ at-next-word .next-word .ensures .is) (sym (c .before .same-bytes .ensures) ∙ c .if1 .taken)
 
 returns-4 : tie.Need-returns-4
 unfolding partOf
-returns-4 c = headed-other (c .before .before .before .before .before .before .before .before .before .before .before .before .before .before .args .head .now) (c .before .before .before .before .before .before .before .before .before .before .before .before .before .before .args .s .now) (c .before .before .before .before .before .before .before .before .before .before .before .before .before .before .args .from) _ (sym (c .before .before .before .before .before .before .before .before .i .given .1) ∙ c .before .before .before .before .before .before .before .before .before .before .item-place .ensures ∙ ap itemPlace (c .before .before .before .before .before .before .before .before .before .before .before .open-list .ensures)) (sym (c .before .before .before .before .p .given .1) ∙ c .before .before .before .before .before .before .next-word .ensures .is) (sym (c .before .same-bytes .ensures) ∙ c .if1 .left)
+returns-4 c =
+    let at-p = c .before .before .before .before in
+    let at-next-word = at-p .before .before in
+    let at-i = at-next-word .before .before in
+    let at-item-place = at-i .before .before in
+    let at-open-list = at-item-place .before in
+    let at-args = at-open-list .before .before .before in
+    headed-other (at-args .args .head .now) (at-args .args .s .now) (at-args .args .from) _
+    (sym (at-i .i .given .1) ∙ at-item-place .item-place .ensures ∙ ap itemPlace (at-open-list .open-list .ensures))
+    (sym (at-p .p .given .1) ∙ at-next-word .next-word .ensures .is) (sym (c .before .same-bytes .ensures) ∙ c .if1 .left)
 
 pub headed-spec : {M : Type 1} → statement M
 headed-spec =

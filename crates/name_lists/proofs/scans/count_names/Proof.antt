@@ -31,22 +31,36 @@ enum-told : tie.Need-enum-told Inv-loop μ-loop
 enum-told c = search needs
 
 returns : tie.Need-returns Inv-loop μ-loop
-returns c = λ x e. let z = left-done length (λ (ns : List Bytes). c .before .before .before .before .loop .n + length ns) (c .before .before .before .before .before .before .args .s .now) (c .before .before .before .before .before .before .args .from) (c .before .before .before .before .loop .i) (c .before .before .before .before .loop .inv .1) (sym (c .enum-told .given .1) ∙ c .before .before .next-name .ensures .is) x e in omega arith
+returns c =
+    let at-loop = c .before .before .before .before in
+    let at-args = at-loop .before .before in
+    λ x e. let z = left-done length (λ (ns : List Bytes). at-loop .loop .n + length ns) (at-args .args .s .now) (at-args .args .from) (at-loop .loop .i)
+    (at-loop .loop .inv .1) (sym (c .enum-told .given .1) ∙ c .before .before .next-name .ensures .is) x e in omega arith
 
 add-n : tie.Need-add-n Inv-loop μ-loop
 add-n c = omega (arith, c .before .before .before .before .before .loop .inv .0)
 
 loop-less : tie.Need-loop-less Inv-loop μ-loop
-loop-less c = let h = placed-at (c .before .before .before .before .before .before .before .args .s .now) (c .before .before .before .before .before .loop .i) _ (c .before .q .given .1) (c .before .before .before .next-name .ensures .placed) in omega (arith, h .after, h .some)
+loop-less c =
+    let at-loop = c .before .before .before .before .before in
+    let at-args = at-loop .before .before in
+    let h = placed-at (at-args .args .s .now) (at-loop .loop .i) _ (c .before .q .given .1) (c .before .before .before .next-name .ensures .placed) in
+    omega (arith, h .after, h .some)
 
 loop-again : tie.Need-loop-again Inv-loop μ-loop
-loop-again c = let h = placed-at (c .before .before .before .before .before .before .before .args .s .now) (c .before .before .before .before .before .loop .i) _ (c .before .q .given .1) (c .before .before .before .next-name .ensures .placed) in (
-  omega (arith, h .after, h .some, c .before .before .before .before .before .loop .inv .0),
-  left-next length (λ (ns : List Bytes). c .before .before .before .before .before .loop .n + length ns) (c .before .before .before .before .before .before .before .args .s .now) (c .before .before .before .before .before .before .before .args .from) (c .before .before .before .before .before .loop .i) (λ (ns : List Bytes). c .before .before .before .before .before .loop .n + 1 + length ns) _ _ (c .before .before .before .before .before .loop .inv .1) (sym (c .before .q .given .1) ∙ c .before .before .before .next-name .ensures .is) (λ y e. omega arith),
-)
+loop-again c =
+    let at-loop = c .before .before .before .before .before in
+    let at-args = at-loop .before .before in
+    let h = placed-at (at-args .args .s .now) (at-loop .loop .i) _ (c .before .q .given .1) (c .before .before .before .next-name .ensures .placed) in (
+      omega (arith, h .after, h .some, at-loop .loop .inv .0),
+      left-next length (λ (ns : List Bytes). at-loop .loop .n + length ns) (at-args .args .s .now) (at-args .args .from) (at-loop .loop .i)
+          (λ (ns : List Bytes). at-loop .loop .n + 1 + length ns) _ _ (at-loop .loop .inv .1)
+          (sym (c .before .q .given .1) ∙ c .before .before .before .next-name .ensures .is) (λ y e. omega arith),
+    )
 
 returns-2 : tie.Need-returns-2 Inv-loop μ-loop
-returns-2 c = λ x e. left-over length (λ (ns : List Bytes). c .before .loop .n + length ns) (c .before .before .before .args .s .now) (c .before .before .before .args .from) (c .before .loop .i) (c .before .loop .inv .1) (c .loop-test .left) x e
+returns-2 c = λ x e. left-over length (λ (ns : List Bytes). c .before .loop .n + length ns) (c .before .before .before .args .s .now)
+    (c .before .before .before .args .from) (c .before .loop .i) (c .before .loop .inv .1) (c .loop-test .left) x e
 
 pub count-names-spec : {M : Type 1} → statement M
 count-names-spec =

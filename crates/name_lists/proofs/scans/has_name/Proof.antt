@@ -31,33 +31,73 @@ enum-told : tie.Need-enum-told Inv-loop μ-loop
 enum-told c = search needs
 
 returns : tie.Need-returns Inv-loop μ-loop
-returns c = λ x e. sym (mem-none (c .before .before .before .before .before .before .before .args .name .now)) ∙ left-done (mem (c .before .before .before .before .before .before .before .args .name .now)) (mem (c .before .before .before .before .before .before .before .args .name .now)) (c .before .before .before .before .before .before .before .args .s .now) (c .before .before .before .before .before .before .before .args .from) (c .before .before .before .before .loop .i) (c .before .before .before .before .loop .inv) (sym (c .enum-told .given .1) ∙ c .before .before .next-name .ensures .is) x e
+returns c =
+    let at-loop = c .before .before .before .before in
+    let at-args = at-loop .before .before .before in
+    λ x e. sym (mem-none (at-args .args .name .now))
+    ∙ left-done (mem (at-args .args .name .now)) (mem (at-args .args .name .now)) (at-args .args .s .now) (at-args .args .from) (at-loop .loop .i)
+    (at-loop .loop .inv) (sym (c .enum-told .given .1) ∙ c .before .before .next-name .ensures .is) x e
 
 sub-same-bytes : tie.Need-sub-same-bytes Inv-loop μ-loop
-sub-same-bytes c = let h = placed-at (c .before .before .before .before .before .before .before .before .args .s .now) (c .before .before .before .before .before .loop .i) _ (c .before .p .given .1) (c .before .before .before .next-name .ensures .placed) in omega (arith, h .some)
+sub-same-bytes c =
+    let at-loop = c .before .before .before .before .before in
+    let at-args = at-loop .before .before .before in
+    let h = placed-at (at-args .args .s .now) (at-loop .loop .i) _ (c .before .p .given .1) (c .before .before .before .next-name .ensures .placed) in
+    omega (arith, h .some)
 
 part-same-bytes-start : tie.Need-part-same-bytes-start Inv-loop μ-loop
-part-same-bytes-start c = let h = placed-at (c .before .before .before .before .before .before .before .before .args .s .now) (c .before .before .before .before .before .loop .i) _ (c .before .p .given .1) (c .before .before .before .next-name .ensures .placed) in omega (arith, h .some)
+part-same-bytes-start c =
+    let at-loop = c .before .before .before .before .before in
+    let at-args = at-loop .before .before .before in
+    let h = placed-at (at-args .args .s .now) (at-loop .loop .i) _ (c .before .p .given .1) (c .before .before .before .next-name .ensures .placed) in
+    omega (arith, h .some)
 
 part-same-bytes-end : tie.Need-part-same-bytes-end Inv-loop μ-loop
-part-same-bytes-end c = let h = placed-at (c .before .before .before .before .before .before .before .before .args .s .now) (c .before .before .before .before .before .loop .i) _ (c .before .p .given .1) (c .before .before .before .next-name .ensures .placed) in omega (arith, h .inside)
+part-same-bytes-end c =
+    let at-loop = c .before .before .before .before .before in
+    let at-args = at-loop .before .before .before in
+    let h = placed-at (at-args .args .s .now) (at-loop .loop .i) _ (c .before .p .given .1) (c .before .before .before .next-name .ensures .placed) in
+    omega (arith, h .inside)
 
 same-bytes-requires : tie.Need-same-bytes-requires Inv-loop μ-loop
 same-bytes-requires c κs = search needs
 
 returns-2 : tie.Need-returns-2 Inv-loop μ-loop
 unfolding partOf
-returns-2 c = left-found (mem (c .before .before .before .before .before .before .before .before .before .before .before .args .name .now)) (mem (c .before .before .before .before .before .before .before .before .before .before .before .args .name .now)) (c .before .before .before .before .before .before .before .before .before .before .before .args .s .now) (c .before .before .before .before .before .before .before .before .before .before .before .args .from) (c .before .before .before .before .before .before .before .before .loop .i) _ _ _ (c .before .before .before .before .before .before .before .before .loop .inv) (sym (c .before .before .before .before .p .given .1) ∙ c .before .before .before .before .before .before .next-name .ensures .is) (λ y e. mem-found (c .before .before .before .before .before .before .before .before .before .before .before .args .name .now) _ (y .names) (sym (c .before .same-bytes .ensures) ∙ c .if1 .taken))
+returns-2 c =
+    let at-p = c .before .before .before .before in
+    let at-next-name = at-p .before .before in
+    let at-loop = at-next-name .before .before in
+    let at-args = at-loop .before .before .before in
+    left-found (mem (at-args .args .name .now)) (mem (at-args .args .name .now)) (at-args .args .s .now) (at-args .args .from) (at-loop .loop .i) _ _ _
+    (at-loop .loop .inv) (sym (at-p .p .given .1) ∙ at-next-name .next-name .ensures .is)
+    (λ y e. mem-found (at-args .args .name .now) _ (y .names) (sym (c .before .same-bytes .ensures) ∙ c .if1 .taken))
 
 loop-less : tie.Need-loop-less Inv-loop μ-loop
-loop-less c = let h = placed-at (c .before .before .before .before .before .before .before .before .before .before .before .args .s .now) (c .before .before .before .before .before .before .before .before .loop .i) _ (c .before .before .before .before .p .given .1) (c .before .before .before .before .before .before .next-name .ensures .placed) in omega (arith, h .after, h .some)
+loop-less c =
+    let at-p = c .before .before .before .before in
+    let at-next-name = at-p .before .before in
+    let at-loop = at-next-name .before .before in
+    let at-args = at-loop .before .before .before in
+    let h = placed-at (at-args .args .s .now) (at-loop .loop .i) _ (at-p .p .given .1) (at-next-name .next-name .ensures .placed) in
+    omega (arith, h .after, h .some)
 
 loop-again : tie.Need-loop-again Inv-loop μ-loop
 unfolding partOf
-loop-again c = left-next (mem (c .before .before .before .before .before .before .before .before .before .before .before .args .name .now)) (mem (c .before .before .before .before .before .before .before .before .before .before .before .args .name .now)) (c .before .before .before .before .before .before .before .before .before .before .before .args .s .now) (c .before .before .before .before .before .before .before .before .before .before .before .args .from) (c .before .before .before .before .before .before .before .before .loop .i) (mem (c .before .before .before .before .before .before .before .before .before .before .before .args .name .now)) _ _ (c .before .before .before .before .before .before .before .before .loop .inv) (sym (c .before .before .before .before .p .given .1) ∙ c .before .before .before .before .before .before .next-name .ensures .is) (λ y e. mem-other (c .before .before .before .before .before .before .before .before .before .before .before .args .name .now) _ (y .names) (sym (c .before .same-bytes .ensures) ∙ c .if1 .left))
+loop-again c =
+    let at-p = c .before .before .before .before in
+    let at-next-name = at-p .before .before in
+    let at-loop = at-next-name .before .before in
+    let at-args = at-loop .before .before .before in
+    left-next (mem (at-args .args .name .now)) (mem (at-args .args .name .now)) (at-args .args .s .now) (at-args .args .from) (at-loop .loop .i)
+    (mem (at-args .args .name .now)) _ _ (at-loop .loop .inv) (sym (at-p .p .given .1) ∙ at-next-name .next-name .ensures .is)
+    (λ y e. mem-other (at-args .args .name .now) _ (y .names) (sym (c .before .same-bytes .ensures) ∙ c .if1 .left))
 
 returns-3 : tie.Need-returns-3 Inv-loop μ-loop
-returns-3 c = λ x e. left-over (mem (c .before .before .before .before .args .name .now)) (mem (c .before .before .before .before .args .name .now)) (c .before .before .before .before .args .s .now) (c .before .before .before .before .args .from) (c .before .loop .i) (c .before .loop .inv) (c .loop-test .left) x e
+returns-3 c =
+    let at-args = c .before .before .before .before in
+    λ x e. left-over (mem (at-args .args .name .now)) (mem (at-args .args .name .now)) (at-args .args .s .now) (at-args .args .from) (c .before .loop .i)
+    (c .before .loop .inv) (c .loop-test .left) x e
 
 pub has-name-spec : {M : Type 1} → statement M
 has-name-spec =

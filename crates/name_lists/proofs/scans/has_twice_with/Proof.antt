@@ -39,58 +39,104 @@ same-length c = c .before .before .before .before .loop .inv .1 ∙ c .before .b
 
 returns : tie.Need-returns Inv-loop μ-loop
 returns c =
-    let a = c .before .before .before .before .before .before .before .before .before .before .before .args in let l = c .before .before .before .before .loop in
+    let at-loop = c .before .before .before .before in
+    let at-args = at-loop .before .before .before .before .before .before .before in
+    let a = at-args .args in let l = at-loop .loop in
     met-done (a .s .now) (l .table) (a .from) (l .n) (l .i) (l .inv .0) (sym (c .enum-told .given .1) ∙ c .before .before .next-name .ensures .is)
 
 has-again-requires : tie.Need-has-again-requires Inv-loop μ-loop
 has-again-requires c κs = search needs
 
 same-length-2 : tie.Need-same-length-2 Inv-loop μ-loop
-same-length-2 c = c .before .before .before .before .before .before .before .loop .inv .1 ∙ c .before .before .before .before .before .before .before .before .before .table .given
+same-length-2 c =
+    let at-loop = c .before .before .before .before .before .before .before in
+    let at-table = at-loop .before .before in
+    at-loop .loop .inv .1 ∙ at-table .table .given
 
 returns-2 : tie.Need-returns-2 Inv-loop μ-loop
 returns-2 c = c .has-again .ensures
 
 sub-is-listed : tie.Need-sub-is-listed Inv-loop μ-loop
 sub-is-listed c =
-    let h = placed-at (c .before .before .before .before .before .before .before .before .before .before .before .before .before .before .args .s .now) (c .before .before .before .before .before .before .before .loop .i) _ (c .before .before .before .p .given .1) (c .before .before .before .before .before .next-name .ensures .placed) in omega (arith, h .some)
+    let at-next-name = c .before .before .before .before .before in
+    let at-loop = at-next-name .before .before in
+    let at-args = at-loop .before .before .before .before .before .before .before in
+    let h = placed-at (at-args .args .s .now) (at-loop .loop .i) _ (c .before .before .before .p .given .1) (at-next-name .next-name .ensures .placed) in
+    omega (arith, h .some)
 
 part-is-listed-start : tie.Need-part-is-listed-start Inv-loop μ-loop
 part-is-listed-start c =
-    let h = placed-at (c .before .before .before .before .before .before .before .before .before .before .before .before .before .before .args .s .now) (c .before .before .before .before .before .before .before .loop .i) _ (c .before .before .before .p .given .1) (c .before .before .before .before .before .next-name .ensures .placed) in omega (arith, h .some)
+    let at-next-name = c .before .before .before .before .before in
+    let at-loop = at-next-name .before .before in
+    let at-args = at-loop .before .before .before .before .before .before .before in
+    let h = placed-at (at-args .args .s .now) (at-loop .loop .i) _ (c .before .before .before .p .given .1) (at-next-name .next-name .ensures .placed) in
+    omega (arith, h .some)
 
 part-is-listed-end : tie.Need-part-is-listed-end Inv-loop μ-loop
 part-is-listed-end c =
-    let h = placed-at (c .before .before .before .before .before .before .before .before .before .before .before .before .before .before .args .s .now) (c .before .before .before .before .before .before .before .loop .i) _ (c .before .before .before .p .given .1) (c .before .before .before .before .before .next-name .ensures .placed) in omega (arith, h .inside)
+    let at-next-name = c .before .before .before .before .before in
+    let at-loop = at-next-name .before .before in
+    let at-args = at-loop .before .before .before .before .before .before .before in
+    let h = placed-at (at-args .args .s .now) (at-loop .loop .i) _ (c .before .before .before .p .given .1) (at-next-name .next-name .ensures .placed) in
+    omega (arith, h .inside)
 
 is-listed-requires : tie.Need-is-listed-requires Inv-loop μ-loop
 is-listed-requires c κs = c .before .before .before .before .before .before .before .before .loop .inv .0 .held .lists (c .before .before .if1 .left) .has
 
 same-length-3 : tie.Need-same-length-3 Inv-loop μ-loop
-same-length-3 c = c .before .before .before .before .before .before .before .before .before .before .loop .inv .1 ∙ c .before .before .before .before .before .before .before .before .before .before .before .before .table .given
+same-length-3 c =
+    let at-loop = c .before .before .before .before .before .before .before .before .before .before in
+    let at-table = at-loop .before .before in
+    at-loop .loop .inv .1 ∙ at-table .table .given
 
 returns-3 : tie.Need-returns-3 Inv-loop μ-loop
 unfolding partOf
 returns-3 c =
-    let a = c .before .before .before .before .before .before .before .before .before .before .before .before .before .before .before .before .before .args in let l = c .before .before .before .before .before .before .before .before .before .before .loop in
-    met-again (a .s .now) (l .table) (a .from) (l .n) (l .i) (l .inv .0) _ _ (sym (c .before .before .before .before .before .before .p .given .1) ∙ c .before .before .before .before .before .before .before .before .next-name .ensures .is) (c .before .before .before .before .if1 .left) _ (c .before .is-listed .ensures) (c .if2 .taken)
+    let at-if1 = c .before .before .before .before in
+    let at-p = at-if1 .before .before in
+    let at-next-name = at-p .before .before in
+    let at-loop = at-next-name .before .before in
+    let at-args = at-loop .before .before .before .before .before .before .before in
+    let a = at-args .args in let l = at-loop .loop in
+    met-again (a .s .now) (l .table) (a .from) (l .n) (l .i) (l .inv .0) _ _ (sym (at-p .p .given .1) ∙ at-next-name .next-name .ensures .is)
+    (at-if1 .if1 .left) _ (c .before .is-listed .ensures) (c .if2 .taken)
 
 sub-t11 : tie.Need-sub-t11 Inv-loop μ-loop
 sub-t11 c =
-    let h = placed-at (c .before .before .before .before .before .before .before .before .before .before .before .before .before .before .before .before .before .args .s .now) (c .before .before .before .before .before .before .before .before .before .before .loop .i) _ (c .before .before .before .before .before .before .p .given .1) (c .before .before .before .before .before .before .before .before .next-name .ensures .placed) in omega (arith, h .some)
+    let at-p = c .before .before .before .before .before .before in
+    let at-next-name = at-p .before .before in
+    let at-loop = at-next-name .before .before in
+    let at-args = at-loop .before .before .before .before .before .before .before in
+    let h = placed-at (at-args .args .s .now) (at-loop .loop .i) _ (at-p .p .given .1) (at-next-name .next-name .ensures .placed) in omega (arith, h .some)
 
 with-name-requires : tie.Need-with-name-requires Inv-loop μ-loop
 with-name-requires c κs = search needs
 
 loop-less : tie.Need-loop-less Inv-loop μ-loop
 loop-less c =
-    let h = placed-at (c .before .before .before .before .before .before .before .before .before .before .before .before .before .before .before .before .before .before .before .before .before .args .s .now) (c .before .before .before .before .before .before .before .before .before .before .before .before .before .before .loop .i) _ (c .before .before .before .before .before .before .before .before .before .before .p .given .1) (c .before .before .before .before .before .before .before .before .before .before .before .before .next-name .ensures .placed) in omega (arith, h .after, h .some)
+    let at-p = c .before .before .before .before .before .before .before .before .before .before in
+    let at-next-name = at-p .before .before in
+    let at-loop = at-next-name .before .before in
+    let at-args = at-loop .before .before .before .before .before .before .before in
+    let h = placed-at (at-args .args .s .now) (at-loop .loop .i) _ (at-p .p .given .1) (at-next-name .next-name .ensures .placed) in
+    omega (arith, h .after, h .some)
 
 loop-again : tie.Need-loop-again Inv-loop μ-loop
 unfolding partOf
 loop-again c =
-    let a = c .before .before .before .before .before .before .before .before .before .before .before .before .before .before .before .before .before .before .before .before .before .args in let l = c .before .before .before .before .before .before .before .before .before .before .before .before .before .before .loop in
-    (met-more (a .s .now) (l .table) (a .from) (l .n) (l .i) (l .inv .0) _ _ (sym (c .before .before .before .before .before .before .before .before .before .before .p .given .1) ∙ c .before .before .before .before .before .before .before .before .before .before .before .before .next-name .ensures .is) (c .before .before .before .before .before .before .before .before .if1 .left) _ (c .before .before .before .before .before .is-listed .ensures) (c .before .before .before .before .if2 .left) _ _ (c .before .before .with-name .ensures), c .before .table2 .given ∙ l .inv .1)
+    let at-if2 = c .before .before .before .before in
+    let at-is-listed = at-if2 .before in
+    let at-if1 = at-is-listed .before .before .before in
+    let at-p = at-if1 .before .before in
+    let at-next-name = at-p .before .before in
+    let at-loop = at-next-name .before .before in
+    let at-args = at-loop .before .before .before .before .before .before .before in
+    let a = at-args .args in let l = at-loop .loop in (
+      met-more (a .s .now) (l .table) (a .from) (l .n) (l .i) (l .inv .0) _ _ (sym (at-p .p .given .1) ∙ at-next-name .next-name .ensures .is)
+          (at-if1 .if1 .left) _ (at-is-listed .is-listed .ensures) (at-if2 .if2 .left) _ _ (c .before .before .with-name .ensures),
+      c .before .table2 .given
+          ∙ l .inv .1,
+    )
 
 same-length-4 : tie.Need-same-length-4 Inv-loop μ-loop
 same-length-4 c = c .before .loop .inv .1 ∙ c .before .before .before .table .given

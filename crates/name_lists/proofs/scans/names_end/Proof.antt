@@ -28,7 +28,9 @@ enum-told : tie.Need-enum-told Inv-loop μ-loop
 enum-told c = search needs
 
 returns : tie.Need-returns Inv-loop μ-loop
-returns c = names-nowhere (c .before .before .before .before .args .s .now) (c .before .before .before .before .args .from) (sym (c .enum-told .given .1) ∙ c .before .before .list .ensures)
+returns c =
+    let at-args = c .before .before .before .before in
+    names-nowhere (at-args .args .s .now) (at-args .args .from) (sym (c .enum-told .given .1) ∙ c .before .before .list .ensures)
 
 loop-holds : tie.Need-loop-holds Inv-loop μ-loop
 loop-holds c = refl
@@ -43,22 +45,51 @@ enum-told-2 : tie.Need-enum-told-2 Inv-loop μ-loop
 enum-told-2 c = search needs
 
 only-closes-requires : tie.Need-only-closes-requires Inv-loop μ-loop
-only-closes-requires c κs = ends-shut 2 false (c .before .before .before .before .before .before .before .before .before .before .args .s .now) (c .before .before .before .before .before .before .before .before .before .before .args .from) (c .before .before .before .before .before .before .end .given .0 .0) (sym (c .before .before .before .before .before .before .end .given .1) ∙ c .before .before .before .before .before .before .before .before .list .ensures) .0
+only-closes-requires c κs =
+    let at-end = c .before .before .before .before .before .before in
+    let at-list = at-end .before .before in
+    let at-args = at-list .before .before in
+    ends-shut 2 false (at-args .args .s .now) (at-args .args .from) (at-end .end .given .0 .0) (sym (at-end .end .given .1) ∙ at-list .list .ensures) .0
 
 returns-2 : tie.Need-returns-2 Inv-loop μ-loop
-returns-2 c = names-shut (c .before .before .before .before .before .before .before .before .before .before .before .before .args .s .now) (c .before .before .before .before .before .before .before .before .before .before .before .before .args .from) (c .before .before .before .before .before .before .before .before .end .given .0 .0) (sym (c .before .before .before .before .before .before .before .before .end .given .1) ∙ c .before .before .before .before .before .before .before .before .before .before .list .ensures) (c .before .before .before .before .before .before .loop .i) (sym (c .before .before .enum-told2 .given .1) ∙ c .before .before .before .before .next-name .ensures .is) (c .before .before .before .before .before .before .loop .inv) (sym (c .if1 .taken) ∙ c .before .only-closes .ensures)
+returns-2 c =
+    let at-next-name = c .before .before .before .before in
+    let at-loop = at-next-name .before .before in
+    let at-end = at-loop .before .before in
+    let at-list = at-end .before .before in
+    let at-args = at-list .before .before in
+    names-shut (at-args .args .s .now) (at-args .args .from) (at-end .end .given .0 .0) (sym (at-end .end .given .1) ∙ at-list .list .ensures)
+    (at-loop .loop .i) (sym (c .before .before .enum-told2 .given .1) ∙ at-next-name .next-name .ensures .is) (at-loop .loop .inv)
+    (sym (c .if1 .taken) ∙ c .before .only-closes .ensures)
 
 returns-3 : tie.Need-returns-3 Inv-loop μ-loop
-returns-3 c = names-past (c .before .before .before .before .before .before .before .before .before .before .before .before .args .s .now) (c .before .before .before .before .before .before .before .before .before .before .before .before .args .from) (c .before .before .before .before .before .before .before .before .end .given .0 .0) (sym (c .before .before .before .before .before .before .before .before .end .given .1) ∙ c .before .before .before .before .before .before .before .before .before .before .list .ensures) (c .before .before .before .before .before .before .loop .i) (sym (c .before .before .enum-told2 .given .1) ∙ c .before .before .before .before .next-name .ensures .is) (c .before .before .before .before .before .before .loop .inv) (sym (c .if1 .left) ∙ c .before .only-closes .ensures)
+returns-3 c =
+    let at-next-name = c .before .before .before .before in
+    let at-loop = at-next-name .before .before in
+    let at-end = at-loop .before .before in
+    let at-list = at-end .before .before in
+    let at-args = at-list .before .before in
+    names-past (at-args .args .s .now) (at-args .args .from) (at-end .end .given .0 .0) (sym (at-end .end .given .1) ∙ at-list .list .ensures)
+    (at-loop .loop .i) (sym (c .before .before .enum-told2 .given .1) ∙ at-next-name .next-name .ensures .is) (at-loop .loop .inv)
+    (sym (c .if1 .left) ∙ c .before .only-closes .ensures)
 
 loop-less : tie.Need-loop-less Inv-loop μ-loop
-loop-less c = let h = placed-at (c .before .before .before .before .before .before .before .before .before .before .before .args .s .now) (c .before .before .before .before .before .loop .i) _ (c .before .q .given .1) (c .before .before .before .next-name .ensures .placed) in omega (arith, h .after, h .some)
+loop-less c =
+    let at-loop = c .before .before .before .before .before in
+    let at-args = at-loop .before .before .before .before .before .before in
+    let h = placed-at (at-args .args .s .now) (at-loop .loop .i) _ (c .before .q .given .1) (c .before .before .before .next-name .ensures .placed) in
+    omega (arith, h .after, h .some)
 
 loop-again : tie.Need-loop-again Inv-loop μ-loop
-loop-again c = end-step (c .before .before .before .before .before .before .before .before .before .before .before .args .s .now) (c .before .before .before .before .before .loop .i) (sym (c .before .q .given .1) ∙ c .before .before .before .next-name .ensures .is) ∙ c .before .before .before .before .before .loop .inv
+loop-again c =
+    let at-loop = c .before .before .before .before .before in
+    let at-args = at-loop .before .before .before .before .before .before in
+    end-step (at-args .args .s .now) (at-loop .loop .i) (sym (c .before .q .given .1) ∙ c .before .before .before .next-name .ensures .is) ∙ at-loop .loop .inv
 
 returns-4 : tie.Need-returns-4 Inv-loop μ-loop
-returns-4 c = end-over (c .before .before .before .before .before .before .before .args .s .now) (c .before .loop .i) (c .loop-test .left) ∙ c .before .loop .inv
+returns-4 c =
+    let at-args = c .before .before .before .before .before .before .before in
+    end-over (at-args .args .s .now) (c .before .loop .i) (c .loop-test .left) ∙ c .before .loop .inv
 
 pub names-end-spec : {M : Type 1} → statement M
 names-end-spec =

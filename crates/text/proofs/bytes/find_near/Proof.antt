@@ -24,7 +24,10 @@ shared-slice-read-if1 c = search needs
 
 returns : tie.Need-returns Inv-loop μ-loop
 unfolding isOther
-returns c = sym (past-stop-in (isOther (c .before .before .before .before .args .byte)) (c .before .before .before .before .args .s .now) (c .before .before .before .loop .i) (c .before .before .loop-test .taken) (ap not (eq-eqb _ (c .before .before .before .before .args .byte) (c .if1 .taken)))) ∙ c .before .before .before .loop .inv
+returns c =
+    let at-args = c .before .before .before .before in
+    sym (past-stop-in (isOther (at-args .args .byte)) (at-args .args .s .now) (c .before .before .before .loop .i) (c .before .before .loop-test .taken)
+    (ap not (eq-eqb _ (at-args .args .byte) (c .if1 .taken)))) ∙ c .before .before .before .loop .inv
 
 add-i : tie.Need-add-i Inv-loop μ-loop
 add-i c = search needs
@@ -34,10 +37,14 @@ loop-less c = search needs
 
 loop-again : tie.Need-loop-again Inv-loop μ-loop
 unfolding isOther
-loop-again c = sym (past-step-in (isOther (c .before .before .before .before .args .byte)) (c .before .before .before .before .args .s .now) (c .before .before .before .loop .i) (c .before .before .loop-test .taken) (ap not (ne-eqb _ (c .before .before .before .before .args .byte) (c .if1 .left)))) ∙ c .before .before .before .loop .inv
+loop-again c =
+    let at-args = c .before .before .before .before in
+    sym (past-step-in (isOther (at-args .args .byte)) (at-args .args .s .now) (c .before .before .before .loop .i) (c .before .before .loop-test .taken)
+    (ap not (ne-eqb _ (at-args .args .byte) (c .if1 .left)))) ∙ c .before .before .before .loop .inv
 
 returns-2 : tie.Need-returns-2 Inv-loop μ-loop
-returns-2 c = sym (past-end (isOther (c .before .before .args .byte)) (c .before .before .args .s .now) (c .before .loop .i) (c .loop-test .left)) ∙ c .before .loop .inv
+returns-2 c = sym (past-end (isOther (c .before .before .args .byte)) (c .before .before .args .s .now) (c .before .loop .i) (c .loop-test .left))
+    ∙ c .before .loop .inv
 
 pub find-near-spec : {M : Type 1} → statement M
 find-near-spec =

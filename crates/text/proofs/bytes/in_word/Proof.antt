@@ -1,12 +1,27 @@
--- `text::bytes::in_word` meets its contract: the code is the definition.
-use Rattle.model.specs.Words.{isWordByte, isLetter, isDigit, between}
-use mathlib.Core.Path.{refl}
+-- `text::bytes::in_word` meets its contract: the bit of every byte says whether a word may have it.
+use mathlib.Core.Logic.{⊎-elim}
+use native.Mathlib.Omega.{arith}
+use Prim.Native.Nat.{_<_}
+use borrow.Author.Needs.{needs}
+use Rattle.text.proofs.WordBytes.{low-says, high-says}
 use Rattle.text.proofs.bytes.in_word.Statement.{statement}
 use Rattle.text.proofs.bytes.in_word.Tie as tie
 
+cast-result : tie.Need-cast-result
+cast-result c = search needs
+
+cast-result-2 : tie.Need-cast-result-2
+cast-result-2 c = search needs
+
+shr-result : tie.Need-shr-result
+shr-result c = search needs
+
 returns : tie.Need-returns
-unfolding isWordByte isLetter isDigit between
-returns c = refl
+returns c =
+    let b = c .before .before .args .b in
+    let bits = c .before .if1 .bits in
+    let byte : b < 256 = omega (arith, c .before .before .fits .b .fits) in
+    ⊎-elim (λ x. low-says b bits (x .1) (x .0 .taken)) (λ x. high-says b bits (x .1) (omega (arith, x .0 .left)) byte) (c .before .if1 .came)
 
 pub in-word-spec : {M : Type 1} → statement M
-in-word-spec = tie.close (tie.spec returns)
+in-word-spec = tie.close (tie.spec cast-result cast-result-2 shr-result returns)

@@ -18,7 +18,8 @@ loop-holds : tie.Need-loop-holds Inv-loop μ-loop
 loop-holds c = refl
 
 returns : tie.Need-returns Inv-loop μ-loop
-returns c = sym (compare-longer (c .before .before .before .args .a .now) (c .before .before .before .args .b .now) (c .before .before .loop .i) (c .before .loop-test .taken) (c .if1 .taken)) ∙ c .before .before .loop .inv
+returns c = sym (compare-longer (c .before .before .before .args .a .now) (c .before .before .before .args .b .now) (c .before .before .loop .i)
+    (c .before .loop-test .taken) (c .if1 .taken)) ∙ c .before .before .loop .inv
 
 shared-slice-read-if2 : tie.Need-shared-slice-read-if2 Inv-loop μ-loop
 shared-slice-read-if2 c = search needs
@@ -27,7 +28,12 @@ shared-slice-read-if2-2 : tie.Need-shared-slice-read-if2-2 Inv-loop μ-loop
 shared-slice-read-if2-2 c = search needs
 
 returns-2 : tie.Need-returns-2 Inv-loop μ-loop
-returns-2 c = sym (compare-less (c .before .before .before .before .before .before .args .a .now) (c .before .before .before .before .before .before .args .b .now) (c .before .before .before .before .before .loop .i) (c .before .before .before .before .loop-test .taken) (c .before .before .before .if1 .left) (c .if2 .taken)) ∙ c .before .before .before .before .before .loop .inv
+returns-2 c =
+    let at-loop-test = c .before .before .before .before in
+    let at-loop = at-loop-test .before in
+    let at-args = at-loop .before in
+    sym (compare-less (at-args .args .a .now) (at-args .args .b .now) (at-loop .loop .i) (at-loop-test .loop-test .taken)
+    (c .before .before .before .if1 .left) (c .if2 .taken)) ∙ at-loop .loop .inv
 
 shared-slice-read-if3 : tie.Need-shared-slice-read-if3 Inv-loop μ-loop
 shared-slice-read-if3 c = search needs
@@ -36,7 +42,13 @@ shared-slice-read-if3-2 : tie.Need-shared-slice-read-if3-2 Inv-loop μ-loop
 shared-slice-read-if3-2 c = search needs
 
 returns-3 : tie.Need-returns-3 Inv-loop μ-loop
-returns-3 c = sym (compare-greater (c .before .before .before .before .before .before .before .before .before .args .a .now) (c .before .before .before .before .before .before .before .before .before .args .b .now) (c .before .before .before .before .before .before .before .before .loop .i) (c .before .before .before .before .before .before .before .loop-test .taken) (c .before .before .before .before .before .before .if1 .left) (c .if3 .taken)) ∙ c .before .before .before .before .before .before .before .before .loop .inv
+returns-3 c =
+    let at-if1 = c .before .before .before .before .before .before in
+    let at-loop-test = at-if1 .before in
+    let at-loop = at-loop-test .before in
+    let at-args = at-loop .before in
+    sym (compare-greater (at-args .args .a .now) (at-args .args .b .now) (at-loop .loop .i) (at-loop-test .loop-test .taken) (at-if1 .if1 .left)
+    (c .if3 .taken)) ∙ at-loop .loop .inv
 
 add-i : tie.Need-add-i Inv-loop μ-loop
 add-i c = search needs
@@ -45,13 +57,21 @@ loop-less : tie.Need-loop-less Inv-loop μ-loop
 loop-less c = search needs
 
 loop-again : tie.Need-loop-again Inv-loop μ-loop
-loop-again c = sym (compare-step (c .before .before .before .before .before .before .before .before .before .args .a .now) (c .before .before .before .before .before .before .before .before .before .args .b .now) (c .before .before .before .before .before .before .before .before .loop .i) (c .before .before .before .before .before .before .before .loop-test .taken) (c .before .before .before .before .before .before .if1 .left) (c .before .before .before .if2 .left) (c .if3 .left)) ∙ c .before .before .before .before .before .before .before .before .loop .inv
+loop-again c =
+    let at-if1 = c .before .before .before .before .before .before in
+    let at-loop-test = at-if1 .before in
+    let at-loop = at-loop-test .before in
+    let at-args = at-loop .before in
+    sym (compare-step (at-args .args .a .now) (at-args .args .b .now) (at-loop .loop .i) (at-loop-test .loop-test .taken) (at-if1 .if1 .left)
+    (c .before .before .before .if2 .left) (c .if3 .left)) ∙ at-loop .loop .inv
 
 returns-4 : tie.Need-returns-4 Inv-loop μ-loop
-returns-4 c = sym (compare-shorter (c .before .before .before .args .a .now) (c .before .before .before .args .b .now) (c .before .before .loop .i) (c .before .loop-test .left) (c .if4 .taken)) ∙ c .before .before .loop .inv
+returns-4 c = sym (compare-shorter (c .before .before .before .args .a .now) (c .before .before .before .args .b .now) (c .before .before .loop .i)
+    (c .before .loop-test .left) (c .if4 .taken)) ∙ c .before .before .loop .inv
 
 returns-5 : tie.Need-returns-5 Inv-loop μ-loop
-returns-5 c = sym (compare-end (c .before .before .before .args .a .now) (c .before .before .before .args .b .now) (c .before .before .loop .i) (c .before .loop-test .left) (c .if4 .left)) ∙ c .before .before .loop .inv
+returns-5 c = sym (compare-end (c .before .before .before .args .a .now) (c .before .before .before .args .b .now) (c .before .before .loop .i)
+    (c .before .loop-test .left) (c .if4 .left)) ∙ c .before .before .loop .inv
 
 pub compare-spec : {M : Type 1} → statement M
 compare-spec =

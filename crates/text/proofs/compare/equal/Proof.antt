@@ -36,8 +36,10 @@ same-bytes-requires c κs = search needs
 
 returns : tie.Need-returns
 unfolding partOf
-returns c = let e : c .before .before .before .before .before .args .a + c .before .before .before .before .before .args .n - c .before .before .before .before .before .args .a ≡ c .before .before .before .before .before .args .n = omega arith in
-    let f : c .before .before .before .before .before .args .b + c .before .before .before .before .before .args .m - c .before .before .before .before .before .args .b ≡ c .before .before .before .before .before .args .m = omega arith in
+returns c =
+    let at-args = c .before .before .before .before .before in
+    let e : at-args .args .a + at-args .args .n - at-args .args .a ≡ at-args .args .n = omega arith in
+    let f : at-args .args .b + at-args .args .m - at-args .args .b ≡ at-args .args .m = omega arith in
     c .same-bytes .ensures ∙ rw (e, f)
 
 pub equal-spec : {M : Type 1} → statement M

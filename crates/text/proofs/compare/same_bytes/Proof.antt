@@ -30,8 +30,10 @@ same-four-requires c κs = search needs
 
 returns-2 : tie.Need-returns-2 Inv-loop μ-loop
 returns-2 c =
-    let p = c .before .before .before .before .before .before .before .args in let l = c .before .before .before .loop in
-    sym (row-differs (p .a .now) (p .b .now) (l .i) 3 (omega arith) (omega arith) (sym (c .before .same-four .ensures) ∙ not-true _ (c .if2 .taken))) ∙ l .inv .1
+    let at-args = c .before .before .before .before .before .before .before in
+    let p = at-args .args in let l = c .before .before .before .loop in
+    sym (row-differs (p .a .now) (p .b .now) (l .i) 3 (omega arith) (omega arith) (sym (c .before .same-four .ensures) ∙ not-true _ (c .if2 .taken)))
+    ∙ l .inv .1
 
 add-i : tie.Need-add-i Inv-loop μ-loop
 add-i c = search needs
@@ -41,9 +43,11 @@ loop-less c = search needs
 
 loop-again : tie.Need-loop-again Inv-loop μ-loop
 loop-again c =
-    let p = c .before .before .before .before .before .before .before .args in let l = c .before .before .before .loop in (
+    let at-args = c .before .before .before .before .before .before .before in
+    let p = at-args .args in let l = c .before .before .before .loop in (
       omega arith,
-      sym (row-same (p .a .now) (p .b .now) (l .i) 3 (omega arith) (omega arith) (sym (c .before .same-four .ensures) ∙ not-false _ (c .if2 .left))) ∙ l .inv .1,
+      sym (row-same (p .a .now) (p .b .now) (l .i) 3 (omega arith) (omega arith) (sym (c .before .same-four .ensures) ∙ not-false _ (c .if2 .left)))
+          ∙ l .inv .1,
     )
 
 same-from-requires : tie.Need-same-from-requires Inv-loop μ-loop

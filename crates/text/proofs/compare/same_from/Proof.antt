@@ -1,4 +1,5 @@
--- `text::compare::same_from` meets its contract. The loop's invariant: what is left of the two texts is the same exactly if they are the same from the start on.
+-- `text::compare::same_from` meets its contract. The loop's invariant: what is left of the two texts is the same exactly if they are the same from the
+-- start on.
 use Rattle.text.proofs.CompareLaws.{same-end, same-step, same-differs}
 use Rattle.model.specs.Bytes.{same}
 use native.Mathlib.Omega.{arith}
@@ -25,7 +26,10 @@ shared-slice-read-if1-2 : tie.Need-shared-slice-read-if1-2 Inv-loop μ-loop
 shared-slice-read-if1-2 c = search needs
 
 returns : tie.Need-returns Inv-loop μ-loop
-returns c = sym (same-differs (c .before .before .before .before .before .args .a .now) (c .before .before .before .before .before .args .b .now) (c .before .before .before .before .loop .i) (omega arith) (omega arith) (c .if1 .taken)) ∙ c .before .before .before .before .loop .inv
+returns c =
+    let at-loop = c .before .before .before .before in
+    let at-args = at-loop .before in
+    sym (same-differs (at-args .args .a .now) (at-args .args .b .now) (at-loop .loop .i) (omega arith) (omega arith) (c .if1 .taken)) ∙ at-loop .loop .inv
 
 add-i : tie.Need-add-i Inv-loop μ-loop
 add-i c = search needs
@@ -34,10 +38,14 @@ loop-less : tie.Need-loop-less Inv-loop μ-loop
 loop-less c = search needs
 
 loop-again : tie.Need-loop-again Inv-loop μ-loop
-loop-again c = sym (same-step (c .before .before .before .before .before .args .a .now) (c .before .before .before .before .before .args .b .now) (c .before .before .before .before .loop .i) (omega arith) (omega arith) (c .if1 .left)) ∙ c .before .before .before .before .loop .inv
+loop-again c =
+    let at-loop = c .before .before .before .before in
+    let at-args = at-loop .before in
+    sym (same-step (at-args .args .a .now) (at-args .args .b .now) (at-loop .loop .i) (omega arith) (omega arith) (c .if1 .left)) ∙ at-loop .loop .inv
 
 returns-2 : tie.Need-returns-2 Inv-loop μ-loop
-returns-2 c = sym (same-end (c .before .before .args .a .now) (c .before .before .args .b .now) (c .before .loop .i) (omega arith) (omega arith)) ∙ c .before .loop .inv
+returns-2 c = sym (same-end (c .before .before .args .a .now) (c .before .before .args .b .now) (c .before .loop .i) (omega arith) (omega arith))
+    ∙ c .before .loop .inv
 
 pub same-from-spec : {M : Type 1} → statement M
 same-from-spec =

@@ -1,4 +1,5 @@
--- `text::lines::bad_line` meets its contract. The loop's invariant: the lines from i on, counted from `line`, give the line that all of them give; a line has at least one byte.
+-- `text::lines::bad_line` meets its contract. The loop's invariant: the lines from i on, counted from `line`, give the line that all of them give; a line
+-- has at least one byte.
 use Rattle.text.proofs.LineLaws.{bad-here, bad-onward, bad-none, feed-count-small}
 use Rattle.text.specs.Lines.{onLine}
 use Rattle.model.specs.Lines.{badLine}
@@ -27,13 +28,20 @@ is-bad-requires c κs = search needs
 
 returns : tie.Need-returns Inv-loop μ-loop
 unfolding onLine
-returns c = ap onLine (sym (bad-here (c .before .before .before .before .before .before .args .s .now) (c .before .before .before .before .loop .i) (c .before .before .before .loop-test .taken) (c .before .before .before .before .loop .line) (sym (c .before .is-bad .ensures) ∙ c .if1 .taken)) ∙ c .before .before .before .before .loop .inv .0)
+returns c =
+    let at-loop = c .before .before .before .before in
+    let at-args = at-loop .before .before in
+    ap onLine (sym (bad-here (at-args .args .s .now) (at-loop .loop .i) (c .before .before .before .loop-test .taken) (at-loop .loop .line)
+    (sym (c .before .is-bad .ensures) ∙ c .if1 .taken)) ∙ at-loop .loop .inv .0)
 
 feed-count-requires : tie.Need-feed-count-requires Inv-loop μ-loop
 feed-count-requires c κs = search needs
 
 add-line : tie.Need-add-line Inv-loop μ-loop
-add-line c = omega (arith, c .feed-count .ensures, feed-count-small (getD (c .before .before .before .before .before .before .before .args .s .now) (c .before .before .before .before .before .loop .i) 0))
+add-line c =
+    let at-loop = c .before .before .before .before .before in
+    let at-args = at-loop .before .before in
+    omega (arith, c .feed-count .ensures, feed-count-small (getD (at-args .args .s .now) (at-loop .loop .i) 0))
 
 add-i : tie.Need-add-i Inv-loop μ-loop
 add-i c = search needs
@@ -42,11 +50,21 @@ loop-less : tie.Need-loop-less Inv-loop μ-loop
 loop-less c = search needs
 
 loop-again : tie.Need-loop-again Inv-loop μ-loop
-loop-again c = (ap (λ (n : ℕ). badLine (c .before .before .before .before .before .loop .line + n) (drop (c .before .before .before .before .before .loop .i + 1) (c .before .before .before .before .before .before .before .args .s .now))) (c .feed-count .ensures) ∙ sym (bad-onward (c .before .before .before .before .before .before .before .args .s .now) (c .before .before .before .before .before .loop .i) (c .before .before .before .before .loop-test .taken) (c .before .before .before .before .before .loop .line) (sym (c .before .before .is-bad .ensures) ∙ c .before .if1 .left)) ∙ c .before .before .before .before .before .loop .inv .0, omega (arith, c .feed-count .ensures, feed-count-small (getD (c .before .before .before .before .before .before .before .args .s .now) (c .before .before .before .before .before .loop .i) 0)))
+loop-again c =
+    let at-loop-test = c .before .before .before .before in
+    let at-loop = at-loop-test .before in
+    let at-args = at-loop .before .before in (
+      ap (λ (n : ℕ). badLine (at-loop .loop .line + n) (drop (at-loop .loop .i + 1) (at-args .args .s .now))) (c .feed-count .ensures)
+          ∙ sym (bad-onward (at-args .args .s .now) (at-loop .loop .i) (at-loop-test .loop-test .taken) (at-loop .loop .line)
+          (sym (c .before .before .is-bad .ensures) ∙ c .before .if1 .left))
+          ∙ at-loop .loop .inv .0,
+      omega (arith, c .feed-count .ensures, feed-count-small (getD (at-args .args .s .now) (at-loop .loop .i) 0)),
+    )
 
 returns-2 : tie.Need-returns-2 Inv-loop μ-loop
 unfolding onLine
-returns-2 c = ap onLine (sym (bad-none (c .before .before .before .args .s .now) (c .before .loop .i) (c .loop-test .left) (c .before .loop .line)) ∙ c .before .loop .inv .0)
+returns-2 c = ap onLine (sym (bad-none (c .before .before .before .args .s .now) (c .before .loop .i) (c .loop-test .left) (c .before .loop .line))
+    ∙ c .before .loop .inv .0)
 
 pub bad-line-spec : {M : Type 1} → statement M
 bad-line-spec =

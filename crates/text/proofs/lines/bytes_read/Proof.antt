@@ -23,7 +23,9 @@ returns-2 c = c .bad-line .ensures ∙ simp (le-ltb _ _ (c .before .before .befo
 
 returns-3 : tie.Need-returns-3
 unfolding bytesOf onLine
-returns-3 c = simp (le-ltb _ _ (c .before .before .if1 .left), none-bad 1 (c .before .before .before .before .args .s .now) (sym (c .before .some-bad .ensures) ∙ c .if2 .left))
+returns-3 c =
+    let at-args = c .before .before .before .before in
+    simp (le-ltb _ _ (c .before .before .if1 .left), none-bad 1 (at-args .args .s .now) (sym (c .before .some-bad .ensures) ∙ c .if2 .left))
 
 pub bytes-read-spec : {M : Type 1} → statement M
 bytes-read-spec =

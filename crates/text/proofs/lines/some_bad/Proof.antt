@@ -32,7 +32,11 @@ loop-less : tie.Need-loop-less Inv-loop μ-loop
 loop-less c = search needs
 
 loop-again : tie.Need-loop-again Inv-loop μ-loop
-loop-again c = ap (λ (x : Bool). (c .before .before .before .loop .bad || x) || any isBad (drop (c .before .before .before .loop .i + 1) (c .before .before .before .before .before .args .s .now))) (c .is-bad .ensures) ∙ sym (any-step (c .before .before .before .before .before .args .s .now) (c .before .before .before .loop .i) (c .before .before .loop-test .taken) (c .before .before .before .loop .bad)) ∙ c .before .before .before .loop .inv
+loop-again c =
+    let at-loop = c .before .before .before in
+    let at-args = at-loop .before .before in
+    ap (λ (x : Bool). (at-loop .loop .bad || x) || any isBad (drop (at-loop .loop .i + 1) (at-args .args .s .now))) (c .is-bad .ensures)
+    ∙ sym (any-step (at-args .args .s .now) (at-loop .loop .i) (c .before .before .loop-test .taken) (at-loop .loop .bad)) ∙ at-loop .loop .inv
 
 returns : tie.Need-returns Inv-loop μ-loop
 returns c = sym (any-end (c .before .before .before .args .s .now) (c .before .loop .i) (c .loop-test .left) (c .before .loop .bad)) ∙ c .before .loop .inv

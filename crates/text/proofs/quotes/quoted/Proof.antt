@@ -22,13 +22,21 @@ peek-requires : tie.Need-peek-requires
 peek-requires c κs = search needs
 
 returns-2 : tie.Need-returns-2
-returns-2 c = quoted-open (c .before .before .before .before .before .args .s .now) (c .before .before .before .before .before .args .at) (c .before .before .find .result) (c .before .before .find .ensures) (λ h. c .if2 .taken (c .before .peek .ensures ∙ h))
+returns-2 c =
+    let at-args = c .before .before .before .before .before in
+    quoted-open (at-args .args .s .now) (at-args .args .at) (c .before .before .find .result) (c .before .before .find .ensures)
+    (λ h. c .if2 .taken (c .before .peek .ensures ∙ h))
 
 add-t4 : tie.Need-add-t4
-add-t4 c = omega (arith, c .before .before .find .ensures, past-within isInQuoted (c .before .before .before .before .before .args .s .now) (c .before .before .before .before .before .args .at + 1) (omega arith))
+add-t4 c =
+    let at-args = c .before .before .before .before .before in
+    omega (arith, c .before .before .find .ensures, past-within isInQuoted (at-args .args .s .now) (at-args .args .at + 1) (omega arith))
 
 returns-3 : tie.Need-returns-3
-returns-3 c = quoted-shut (c .before .before .before .before .before .args .s .now) (c .before .before .before .before .before .args .at) (c .before .before .find .result) (c .before .before .find .ensures) (sym (c .before .peek .ensures) ∙ c .if2 .left)
+returns-3 c =
+    let at-args = c .before .before .before .before .before in
+    quoted-shut (at-args .args .s .now) (at-args .args .at) (c .before .before .find .result) (c .before .before .find .ensures)
+    (sym (c .before .peek .ensures) ∙ c .if2 .left)
 
 pub quoted-spec : {M : Type 1} → statement M
 quoted-spec =

@@ -25,7 +25,11 @@ in-text-requires : tie.Need-in-text-requires Inv-loop μ-loop
 in-text-requires c κs = search needs
 
 returns : tie.Need-returns Inv-loop μ-loop
-returns c = sym (past-stop-in isInText (c .before .before .before .before .before .before .args .s .now) (c .before .before .before .before .loop .i) (c .before .before .before .loop-test .taken) (sym (c .before .in-text .ensures) ∙ not-true _ (c .if1 .taken))) ∙ c .before .before .before .before .loop .inv
+returns c =
+    let at-loop = c .before .before .before .before in
+    let at-args = at-loop .before .before in
+    sym (past-stop-in isInText (at-args .args .s .now) (at-loop .loop .i) (c .before .before .before .loop-test .taken)
+    (sym (c .before .in-text .ensures) ∙ not-true _ (c .if1 .taken))) ∙ at-loop .loop .inv
 
 add-i : tie.Need-add-i Inv-loop μ-loop
 add-i c = search needs
@@ -34,7 +38,11 @@ loop-less : tie.Need-loop-less Inv-loop μ-loop
 loop-less c = search needs
 
 loop-again : tie.Need-loop-again Inv-loop μ-loop
-loop-again c = sym (past-step-in isInText (c .before .before .before .before .before .before .args .s .now) (c .before .before .before .before .loop .i) (c .before .before .before .loop-test .taken) (sym (c .before .in-text .ensures) ∙ not-false _ (c .if1 .left))) ∙ c .before .before .before .before .loop .inv
+loop-again c =
+    let at-loop = c .before .before .before .before in
+    let at-args = at-loop .before .before in
+    sym (past-step-in isInText (at-args .args .s .now) (at-loop .loop .i) (c .before .before .before .loop-test .taken)
+    (sym (c .before .in-text .ensures) ∙ not-false _ (c .if1 .left))) ∙ at-loop .loop .inv
 
 returns-2 : tie.Need-returns-2 Inv-loop μ-loop
 returns-2 c = sym (past-end isInText (c .before .before .before .args .s .now) (c .before .loop .i) (c .loop-test .left)) ∙ c .before .loop .inv

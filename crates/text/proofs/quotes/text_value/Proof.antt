@@ -22,19 +22,32 @@ peek-requires : tie.Need-peek-requires
 peek-requires c κs = search needs
 
 returns-2 : tie.Need-returns-2
-returns-2 c = text-open (c .before .before .before .before .before .args .s .now) (c .before .before .before .before .before .args .at) (c .before .before .text-end .result) (c .before .before .text-end .ensures) (λ h. c .if2 .taken (c .before .peek .ensures ∙ h))
+returns-2 c =
+    let at-args = c .before .before .before .before .before in
+    text-open (at-args .args .s .now) (at-args .args .at) (c .before .before .text-end .result) (c .before .before .text-end .ensures)
+    (λ h. c .if2 .taken (c .before .peek .ensures ∙ h))
 
 sub-if3 : tie.Need-sub-if3
-sub-if3 c = omega (arith, c .before .before .text-end .ensures, past-on isInText (c .before .before .before .before .before .args .s .now) (c .before .before .before .before .before .args .at + 1))
+sub-if3 c =
+    let at-args = c .before .before .before .before .before in
+    omega (arith, c .before .before .text-end .ensures, past-on isInText (at-args .args .s .now) (at-args .args .at + 1))
 
 add-t7 : tie.Need-add-t7
-add-t7 c = omega (arith, c .before .before .before .text-end .ensures, past-within isInText (c .before .before .before .before .before .before .args .s .now) (c .before .before .before .before .before .before .args .at + 1) (omega arith))
+add-t7 c =
+    let at-args = c .before .before .before .before .before .before in
+    omega (arith, c .before .before .before .text-end .ensures, past-within isInText (at-args .args .s .now) (at-args .args .at + 1) (omega arith))
 
 returns-3 : tie.Need-returns-3
-returns-3 c = text-fits (c .before .before .before .before .before .before .args .s .now) (c .before .before .before .before .before .before .args .at) (c .before .before .before .text-end .result) (c .before .before .before .text-end .ensures) (sym (c .before .before .peek .ensures) ∙ c .before .if2 .left) (c .if3 .taken)
+returns-3 c =
+    let at-args = c .before .before .before .before .before .before in
+    text-fits (at-args .args .s .now) (at-args .args .at) (c .before .before .before .text-end .result) (c .before .before .before .text-end .ensures)
+    (sym (c .before .before .peek .ensures) ∙ c .before .if2 .left) (c .if3 .taken)
 
 returns-4 : tie.Need-returns-4
-returns-4 c = text-long (c .before .before .before .before .before .before .args .s .now) (c .before .before .before .before .before .before .args .at) (c .before .before .before .text-end .result) (c .before .before .before .text-end .ensures) (sym (c .before .before .peek .ensures) ∙ c .before .if2 .left) (c .if3 .left)
+returns-4 c =
+    let at-args = c .before .before .before .before .before .before in
+    text-long (at-args .args .s .now) (at-args .args .at) (c .before .before .before .text-end .result) (c .before .before .before .text-end .ensures)
+    (sym (c .before .before .peek .ensures) ∙ c .before .if2 .left) (c .if3 .left)
 
 pub text-value-spec : {M : Type 1} → statement M
 text-value-spec =

@@ -37,11 +37,16 @@ loop-less c = omega (arith, test-in isSpace (c .before .before .before .before .
 
 loop-again : tie.Need-loop-again Inv-loop μ-loop
 unfolding isSpace
-loop-again c = sym (past-step isSpace (c .before .before .before .before .args .s .now) (c .before .before .loop .i) refl (space c)) ∙ c .before .before .loop .inv
+loop-again c =
+    let at-args = c .before .before .before .before in
+    sym (past-step isSpace (at-args .args .s .now) (c .before .before .loop .i) refl (space c)) ∙ c .before .before .loop .inv
 
 returns : tie.Need-returns Inv-loop μ-loop
 unfolding isSpace
-returns c = sym (past-stop isSpace (c .before .before .before .before .args .s .now) (c .before .before .loop .i) (ne-eqb _ 32 (λ h. c .if1 .left (c .before .peek .ensures ∙ h)))) ∙ c .before .before .loop .inv
+returns c =
+    let at-args = c .before .before .before .before in
+    sym (past-stop isSpace (at-args .args .s .now) (c .before .before .loop .i) (ne-eqb _ 32 (λ h. c .if1 .left (c .before .peek .ensures ∙ h))))
+    ∙ c .before .before .loop .inv
 
 pub spaces-end-spec : {M : Type 1} → statement M
 spaces-end-spec =
