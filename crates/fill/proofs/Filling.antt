@@ -17,7 +17,8 @@ filled-none l from = let z : from - from ≡ 0 = omega arith in rw z (sym (take-
 
 pub filled-more : (l : List ℕ) (from i : ℕ) → from ≤ i → i < length l → set (filledTo l from i) i cleared ≡ filledTo l from (i + 1)
 filled-more l from i h k =
-    let n : length (take from l ++ replicate (i - from) cleared) ≡ i = rw length-append (omega (arith, length-take-le from l (omega arith), length-replicate (i - from) cleared)) in
+    let n : length (take from l ++ replicate (i - from) cleared) ≡ i = rw length-append
+    (omega (arith, length-take-le from l (omega arith), length-replicate (i - from) cleared)) in
     let e : i + 1 - from ≡ i - from + 1 = omega arith in
     let one : replicate (i - from + 1) cleared ≡ replicate (i - from) cleared ++ (cleared ∷ []) = sym (replicate-append-replicate (i - from) 1 cleared) in
     let before = append-assoc (take from l) (replicate (i - from) cleared) (getD l i 0 ∷ drop (suc i) l) in

@@ -18,7 +18,8 @@ unfolding filled
 filled-before from words i h =
     either (below-or-not i (length words))
     (λ l. let n : i < length (take from words) = rw length-take (omega arith) in List·getD-append (take from words) _ 0 i n ∙ getD-take from words i 0 h)
-    (λ l. List·getD-eq-default (take from words ++ _) 0 (simp (length-append, length-take, length-replicate) (omega arith)) ∙ sym (List·getD-eq-default words 0 l))
+    (λ l. List·getD-eq-default (take from words ++ _) 0 (simp (length-append, length-take, length-replicate) (omega arith))
+    ∙ sym (List·getD-eq-default words 0 l))
 
 -- Those from the place on are cleared.
 pub filled-after : (from : ℕ) (words : List ℕ) (i : ℕ) → from ≤ i → i < length words → getD (filled from words) i 0 ≡ cleared

@@ -64,11 +64,13 @@ module _ (b : Book) (a : Bytes) (r : Relation) (x : Value) where
       none = absent-meets-nothing (relEntries b (m .rel e)) a h r x
 
   -- a clause of a pattern on a vertex
-  pub absent-vertex-clause : (m : NumberedMapping) (v : ℕ) → Absent (nodeEntries b (m .node v)) a → (ClauseHolds b m (vertexHas v a r x) → ⊥) × (clauseHolds b m (vertexHas v a r x) ≡ false)
+  pub absent-vertex-clause : (m : NumberedMapping) (v : ℕ) → Absent (nodeEntries b (m .node v)) a
+      → (ClauseHolds b m (vertexHas v a r x) → ⊥) × (clauseHolds b m (vertexHas v a r x) ≡ false)
   unfolding clauseHolds
   absent-vertex-clause m v h = let none = absent-meets-nothing (nodeEntries b (m .node v)) a h r x in (none, is-false _ none)
 
   -- a clause of a pattern on an edge
-  pub absent-edge-clause : (m : NumberedMapping) (e : ℕ) → Absent (relEntries b (m .rel e)) a → (ClauseHolds b m (edgeHas e a r x) → ⊥) × (clauseHolds b m (edgeHas e a r x) ≡ false)
+  pub absent-edge-clause : (m : NumberedMapping) (e : ℕ) → Absent (relEntries b (m .rel e)) a
+      → (ClauseHolds b m (edgeHas e a r x) → ⊥) × (clauseHolds b m (edgeHas e a r x) ≡ false)
   unfolding clauseHolds
   absent-edge-clause m e h = let none = absent-meets-nothing (relEntries b (m .rel e)) a h r x in (none, is-false _ none)

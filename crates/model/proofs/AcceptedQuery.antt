@@ -46,7 +46,8 @@ query-accepted b s q e =
 pub accept-query : (b : Book) (s : Bytes) (q : QueryText) → QueryAccepted b s q → readQuery b s ≡ accepted q
 unfolding readQuery textOrFault refusedIf
 accept-query b s q h =
-    accept-bytes 3 2048 (λ l. 1) s (textOrFault b (queryText s)) q (record { short = h .short; allowed = h .allowed; rest = rw (h .is-text, h .faultless) refl })
+    accept-bytes 3 2048 (λ l. 1) s (textOrFault b (queryText s)) q
+    (record { short = h .short; allowed = h .allowed; rest = rw (h .is-text, h .faultless) refl })
 
 -- the names of a text are clear: conditions and Return name what stands in the chains, no name is a vertex and an edge, no edge variable stands twice,
 -- no vertex is excluded from itself

@@ -54,11 +54,13 @@ category-declared b r s x e =
     subst (λ (z : Request). z .category ∈ categoryNames r) (h .is-request) (mem-e c (categoryNames r) t)
 
 -- every identity of an accepted request is of an actor of the request's category
-pub identity-of-actor : (b : Book) (r : Rules) (s : Bytes) (x : Request) → readRequest b r s ≡ accepted x → (d : Identity) → d ∈ x .identities → d .actor ∈ actorsOf r (x .category)
+pub identity-of-actor : (b : Book) (r : Rules) (s : Bytes) (x : Request) → readRequest b r s ≡ accepted x → (d : Identity) → d ∈ x .identities
+    → d .actor ∈ actorsOf r (x .category)
 unfolding requestFault requestOf
 identity-of-actor b r s x e =
     let h = request-accepted b r s x e in
-    subst (λ (z : Request). (d : Identity) → d ∈ z .identities → d .actor ∈ actorsOf r (z .category)) (h .is-request) (λ d k. of-line (h .line) (h .faultless) d k)
+    subst (λ (z : Request). (d : Identity) → d ∈ z .identities → d .actor ∈ actorsOf r (z .category)) (h .is-request)
+    (λ d k. of-line (h .line) (h .faultless) d k)
   where
     of-line : (z : RequestLine) → requestFault b r z ≡ nothing → (d : Identity) → d ∈ requestOf b z .identities → d .actor ∈ actorsOf r (z .category)
     of-line z f d k =
@@ -67,5 +69,6 @@ identity-of-actor b r s x e =
         let c : Claim = m .0 in
         let A = mem (c .actor) (actorsOf r (z .category)) in
         let g : T (any wrong (z .claims)) → ⊥ = λ t. lowest-e 4 _ _ f (or-r (not (mem (z .category) (categoryNames r))) (any wrong (z .claims)) t) in
-        let n = mem-e (c .actor) (actorsOf r (z .category)) (not-e A (λ t. g (any-i wrong (z .claims) c (m .1) (or-l (not A) (not (mem (c .node) (nodeNames b))) t)))) in
+        let n = mem-e (c .actor) (actorsOf r (z .category))
+        (not-e A (λ t. g (any-i wrong (z .claims) c (m .1) (or-l (not A) (not (mem (c .node) (nodeNames b))) t)))) in
         subst (λ w. w ∈ actorsOf r (z .category)) (sym (ap (λ i. i .actor) (m .2))) n

@@ -19,7 +19,8 @@ use Rattle.model.specs.QueryText.{QueryText}
 use Rattle.model.specs.Grammar.{queryText}
 use Rattle.model.specs.ReadQuery.{hasUndeclared, hasTwice, tooMany, queryFaults, queryFault, readQuery}
 use Rattle.model.specs.Rules.{Category, Policy, Rules, categoryNames, actorsOf, downFrom, enforced}
-use Rattle.model.specs.ReadRules.{RulesLine, category, policy, namesAfter, categoryLine, policyLine, rulesLine, hasPolicy, policyFaults, rulesFault, addRule, rulesStep, covered, readRules}
+use Rattle.model.specs.ReadRules.{RulesLine, category, policy, namesAfter, categoryLine, policyLine, rulesLine, hasPolicy, policyFaults}
+use Rattle.model.specs.ReadRules.{rulesFault, addRule, rulesStep, covered, readRules}
 use Rattle.model.specs.Request.{Request}
 use Rattle.model.specs.Weave.{Asked, askedPolicies}
 use Rattle.model.proofs.Decides.{or-l, or-r}
@@ -73,7 +74,8 @@ pub record RulesHold (b : Book) (r : Rules) : Type 0 where
   pub policies : (p : Policy) → p ∈ r .policies → (t : Bytes) × (readQuery b t ≡ accepted (p .text))
 
 -- a policy without a fault is a query without a fault, in at most 2,048 bytes
-policy-accepted : (b : Book) (r : Rules) (c : Bytes) (k : ℕ) (q : QueryText) → RuleFits (policy c k q) → rulesFault b r (policy c k q) ≡ nothing → (t : Bytes) × (readQuery b t ≡ accepted q)
+policy-accepted : (b : Book) (r : Rules) (c : Bytes) (k : ℕ) (q : QueryText) → RuleFits (policy c k q) → rulesFault b r (policy c k q) ≡ nothing
+    → (t : Bytes) × (readQuery b t ≡ accepted q)
 unfolding rulesFault queryFault
 policy-accepted b r c k q (t, a, l, e) f =
     let C = not (mem c (categoryNames r)) in
@@ -83,19 +85,27 @@ policy-accepted b r c k q (t, a, l, e) f =
         short = subst (λ z. z ≤ 2048) (sym l) (nltb→le 2048 k (not-T (ltb 2048 k) (λ u. h .1 .1 .1 .0 (or-l (ltb 2048 k) (tooMany q) u))));
         allowed = allowed-line 1 t a;
         is-text = e;
-        faultless = no-fault (queryFaults b q) .1
-            (λ u. h .0 (or-r C (hasUndeclared b q) u), (λ u. h .1 .0 (or-r (hasPolicy r c) (hasTwice q) u), (h .1 .1 .0, (λ u. h .1 .1 .1 .0 (or-r (ltb 2048 k) (tooMany q) u), (h .1 .1 .1 .1 .0, tt)))));
+        faultless = no-fault (queryFaults b q) .1 (
+          λ u. h .0 (or-r C (hasUndeclared b q) u),
+          (
+            λ u. h .1 .0 (or-r (hasPolicy r c) (hasTwice q) u),
+            (h .1 .1 .0, (λ u. h .1 .1 .1 .0 (or-r (ltb 2048 k) (tooMany q) u), (h .1 .1 .1 .1 .0, tt))),
+          ),
+        );
       }),
     )
 
-rules-step : (b : Book) (r : Rules) (x : RulesLine) (y : Rules) → RuleFits x → faultOr (rulesFault b r x) (addRule r x) ≡ known y → RulesHold b r → RulesHold b y
+rules-step : (b : Book) (r : Rules) (x : RulesLine) (y : Rules) → RuleFits x → faultOr (rulesFault b r x) (addRule r x) ≡ known y → RulesHold b r
+    → RulesHold b y
 unfolding addRule
 rules-step b r x y l e h = go x l (fault-e (rulesFault b r x) (addRule r x) y e)
   where
     go : (x : RulesLine) → RuleFits x → (rulesFault b r x ≡ nothing) × (addRule r x ≡ y) → RulesHold b y
     go (category n actors over) l (f, d) = subst (RulesHold b) d (record { policies = h .policies })
     go (policy c k q) l (f, d) = subst (RulesHold b) d (record {
-      policies = λ p i. ⊎-elim (h .policies p) (λ j. subst (λ (z : Policy). (t : Bytes) × (readQuery b t ≡ accepted (z .text))) (sym (eq-of-singleton j)) (policy-accepted b r c k q l f)) (append-cases (r .policies) i);
+      policies = λ p i. ⊎-elim (h .policies p)
+          (λ j. subst (λ (z : Policy). (t : Bytes) × (readQuery b t ≡ accepted (z .text))) (sym (eq-of-singleton j)) (policy-accepted b r c k q l f))
+          (append-cases (r .policies) i);
     })
 
 -- accepted rules hold this
@@ -107,13 +117,16 @@ rules-hold b s r e =
     let h = bytes-accepted 2 16384 (λ l. l) s (onAccept o covered) r e in
     let a = accept-e o covered r (h .rest) in
     lines-keep (RulesHold b) (λ l. Allowed (l .bytes)) 2 (rulesStep b)
-    (λ x l y q d h. let f = form-e (andThen (formOf l) rulesLine) (λ z. faultOr (rulesFault b x z) (addRule x z)) y d in rules-step b x (f .0) y (rule-fits l (f .0) q (f .1)) (f .2) h)
+    (λ x l y q d h. let f = form-e (andThen (formOf l) rulesLine) (λ z. faultOr (rulesFault b x z) (addRule x z)) y d in
+    rules-step b x (f .0) y (rule-fits l (f .0) q (f .1)) (f .2) h)
     1 start (linesOf s) r (lines-allowed s (line-allowed 1 s (h .allowed)))
-    (a .1 ∙ else-e (any (λ (c : Category). isNil (c .over) && not (hasPolicy (a .0) (c .name))) (a .0 .categories)) (record { number = 10; text = 2; line = 0 }) (accepted (a .0)) r (a .2) .1)
+    (a .1 ∙ else-e (any (λ (c : Category). isNil (c .over) && not (hasPolicy (a .0) (c .name))) (a .0 .categories))
+    (record { number = 10; text = 2; line = 0 }) (accepted (a .0)) r (a .2) .1)
     (record { policies = λ p k. elim k [ ] })
 
 -- the text of every policy of accepted rules is an accepted query
-pub policy-is-query : (b : Book) (s : Bytes) (r : Rules) → readRules b s ≡ accepted r → (p : Policy) → p ∈ r .policies → (t : Bytes) × (readQuery b t ≡ accepted (p .text))
+pub policy-is-query : (b : Book) (s : Bytes) (r : Rules) → readRules b s ≡ accepted r → (p : Policy) → p ∈ r .policies
+    → (t : Bytes) × (readQuery b t ≡ accepted (p .text))
 policy-is-query b s r e = rules-hold b s r e .policies
 
 -- so its names are clear
@@ -125,7 +138,8 @@ pub rules-named : (b : Book) (s : Bytes) (r : Rules) → readRules b s ≡ accep
 rules-named b s r e p k = policy-clear b s r e p k .declared
 
 -- an enforced policy is a policy of the rules, with the actors of its own category
-pub asked-policy : (r : Rules) (x : Request) (a : Asked) → a ∈ askedPolicies r x → (p : Policy) × (p ∈ r .policies) × (a ≡ record { text = p .text; actors = actorsOf r (p .category) })
+pub asked-policy : (r : Rules) (x : Request) (a : Asked) → a ∈ askedPolicies r x
+    → (p : Policy) × (p ∈ r .policies) × (a ≡ record { text = p .text; actors = actorsOf r (p .category) })
 unfolding askedPolicies enforced
 asked-policy r x a k =
     let p = map-e (λ (p : Policy). let z : Asked = record { text = p .text; actors = actorsOf r (p .category) } in z) (enforced r (x .category)) a k in

@@ -41,7 +41,8 @@ pub all-before : (p : ℕ → Bool) (q : ℕ) (s t : Bytes) → T (all p s) → 
 unfolding before all
 all-before p q [] t h e = no-just t e
 all-before p q (b ∷ s) t h e = let u = pick-iff (p b) (all p s) .1 h in ⊎-elim
-    (λ c. let f : _≡_ {A = Maybe Bytes} (just []) (just t) = rw (is-true (eqb b q) c) at e in let d : _≡_ {A = Bytes} [] t = cc in subst (λ z. T (all p z)) d tt)
+    (λ c. let f : _≡_ {A = Maybe Bytes} (just []) (just t) = rw (is-true (eqb b q) c) at e in let d : _≡_ {A = Bytes} [] t = cc in
+    subst (λ z. T (all p z)) d tt)
     (λ c. let r = then-e (before q s) (λ w. just (b ∷ w)) t (rw (is-false (eqb b q) c) at e) in
     let f : _≡_ {A = Maybe Bytes} (just (b ∷ r .0)) (just t) = r .2 in
     let d : _≡_ {A = Bytes} (b ∷ r .0) t = cc in
@@ -56,7 +57,8 @@ Allowed s = T (all isAllowed s)
 pub allowed-line : (n : ℕ) (s : Bytes) → Allowed s → badLine n s ≡ nothing
 unfolding badLine all
 allowed-line n [] h = refl
-allowed-line n (b ∷ s) h = let u = pick-iff (isAllowed b) (all isAllowed s) .1 h in rw (is-true (isAllowed b) (u .0)) (allowed-line (n + pick (eqb b 10) 1 0) s (u .1))
+allowed-line n (b ∷ s) h = let u = pick-iff (isAllowed b) (all isAllowed s) .1 h in
+    rw (is-true (isAllowed b) (u .0)) (allowed-line (n + pick (eqb b 10) 1 0) s (u .1))
 
 -- a text that has no such line is of allowed bytes
 pub line-allowed : (n : ℕ) (s : Bytes) → badLine n s ≡ nothing → Allowed s
@@ -87,7 +89,8 @@ between-i l h b p q = and-iff (leb l b) (leb b h) .0 (le→leb l b p, le→leb b
 -- a letter
 pub letter-e : (b : ℕ) → T (isLetter b) → (65 ≤ b) × (b ≤ 122)
 unfolding isLetter
-letter-e b t = ⊎-elim (λ u. let r = between-e 65 90 b u in (r .0, omega arith)) (λ u. let r = between-e 97 122 b u in (omega arith, r .1)) (or-cases (between 65 90 b) (between 97 122 b) t)
+letter-e b t = ⊎-elim (λ u. let r = between-e 65 90 b u in (r .0, omega arith)) (λ u. let r = between-e 97 122 b u in (omega arith, r .1))
+    (or-cases (between 65 90 b) (between 97 122 b) t)
 
 -- a digit
 pub digit-e : (b : ℕ) → T (isDigit b) → (48 ≤ b) × (b ≤ 57)
@@ -98,7 +101,8 @@ digit-e b t = between-e 48 57 b t
 pub word-byte-allowed : (b : ℕ) → T (isWordByte b) → T (isAllowed b)
 unfolding isWordByte
 word-byte-allowed b t = ⊎-elim
-    (λ u. ⊎-elim (λ w. let r = letter-e b w in allowed-i b (omega arith) (omega arith)) (λ w. let r = digit-e b w in allowed-i b (omega arith) (omega arith)) (or-cases (isLetter b) (isDigit b) u))
+    (λ u. ⊎-elim (λ w. let r = letter-e b w in allowed-i b (omega arith) (omega arith))
+    (λ w. let r = digit-e b w in allowed-i b (omega arith) (omega arith)) (or-cases (isLetter b) (isDigit b) u))
     (λ u. let r = eqb→eq b 95 u in allowed-i b (omega arith) (omega arith)) (or-cases (isLetter b || isDigit b) (eqb b 95) t)
 
 -- the lines of a text of allowed bytes are of allowed bytes

@@ -46,11 +46,30 @@ cases =
     ∷ asks "Match (requestor)-[a:runs]->(h)<-[b:feeds]-(s) Where s.rate <> 50 Return s" (counted 1) (2 ∷ [])
     ∷ asks "Match (requestor)-[a:runs]->(h)<-[b:feeds]-(s) Where s.rate < 40 Return s" (counted 0) []
     ∷ asks "Match (requestor)-[a:runs]->(h)<-[b:feeds]-(s) Where s.rate <= 40 Return s" (counted 1) (2 ∷ [])
-    ∷ record { query = "Match (requestor)-[a:runs]->(h)<-[b:feeds]-(s) Where s.rate < 50 Return s"; request = "(request view (id requestor S5))\n"; words = 16384; answer = counted 0; rows = [] }
+    ∷ record {
+      query = "Match (requestor)-[a:runs]->(h)<-[b:feeds]-(s) Where s.rate < 50 Return s";
+      request = "(request view (id requestor S5))\n";
+      words =
+          16384;
+      answer = counted 0;
+      rows = [];
+    }
     ∷ asks "Match (requestor)-[a:runs]->(h)<-[b:feeds]-(s) Where s.rate < 50 Match (t) Return s" (returned 13 5 0) []
     ∷ asks "Match (requestor)-[a:runs]->(h)<-[b:feeds]-(s) Where h <> h Return s" (returned 8 3 1) []
-    ∷ record { query = "Match (requestor)-[a:runs]->(h)<-[b:feeds]-(s) Where s.rate < 50 Return s"; request = request; words = 0; answer = returned 14 5 0; rows = [] }
-    ∷ record { query = "Match (requestor)-[a:runs]->(h)<-[b:feeds]-(s) Where s.rate < 40 Return s"; request = request; words = 0; answer = counted 0; rows = [] }
+    ∷ record {
+      query = "Match (requestor)-[a:runs]->(h)<-[b:feeds]-(s) Where s.rate < 50 Return s";
+      request = request;
+      words = 0;
+      answer = returned 14 5 0;
+      rows = [];
+    }
+    ∷ record {
+      query = "Match (requestor)-[a:runs]->(h)<-[b:feeds]-(s) Where s.rate < 40 Return s";
+      request = request;
+      words = 0;
+      answer = counted 0;
+      rows = [];
+    }
     ∷ asks "Match (requestor)-[a:runs]->(h)<-[b:feeds]-(s) Where s.rate = 'x' Return s" (returned 6 3 1) []
     ∷ asks "Match (requestor)-[a:runs]->(h)<-[b:feeds]-(s) Where s.rate < 50 Return s, s" (returned 5 3 1) []
     ∷ []

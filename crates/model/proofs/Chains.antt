@@ -22,11 +22,22 @@ abbrev pub HoldsEdge : Book → Mapping → ChainEdge → Type 0
 HoldsEdge b m e = EdgeHolds b (m .rel (e .name)) (e .label) (m .node (e .from)) (m .node (e .to))
 
 -- a chain holds if each of its vertices has a node and each of its edges its relationship
-pub chain-i : (b : Book) (m : Mapping) (c : Chain) → ((v : Bytes) → v ∈ chainVertices c → IsNode b (m .node v)) → ((e : ChainEdge) → e ∈ chainEdges c → HoldsEdge b m e) → ChainHolds b m c
+pub chain-i : (b : Book) (m : Mapping) (c : Chain) → ((v : Bytes) → v ∈ chainVertices c → IsNode b (m .node v))
+    → ((e : ChainEdge) → e ∈ chainEdges c → HoldsEdge b m e) → ChainHolds b m c
 unfolding chainVertices chainEdges
 chain-i b m (end v) p q = p v (List·Memᴰ·head refl)
-chain-i b m (right v e l c) p q = (p v (List·Memᴰ·head refl), q _ (List·Memᴰ·head refl), chain-i b m c (λ u k. p u (List·Memᴰ·tail k)) (λ f k. q f (List·Memᴰ·tail k)))
-chain-i b m (left v e l c) p q = (p v (List·Memᴰ·head refl), q _ (List·Memᴰ·head refl), chain-i b m c (λ u k. p u (List·Memᴰ·tail k)) (λ f k. q f (List·Memᴰ·tail k)))
+chain-i b m (right v e l c) p q = (
+  p v (List·Memᴰ·head refl),
+  q _ (List·Memᴰ·head refl),
+  chain-i b m c (λ u k. p u (List·Memᴰ·tail k))
+      (λ f k. q f (List·Memᴰ·tail k)),
+)
+chain-i b m (left v e l c) p q = (
+  p v (List·Memᴰ·head refl),
+  q _ (List·Memᴰ·head refl),
+  chain-i b m c (λ u k. p u (List·Memᴰ·tail k))
+      (λ f k. q f (List·Memᴰ·tail k)),
+)
 
 -- in a chain that holds each edge has its relationship
 pub chain-e : (b : Book) (m : Mapping) (c : Chain) → ChainHolds b m c → (e : ChainEdge) → e ∈ chainEdges c → HoldsEdge b m e
@@ -74,7 +85,8 @@ module _ (q : QueryText) where
 
   -- the ends of an edge are vertices of the text
   pub edge-ends : (e : ChainEdge) → e ∈ edgesOf q → (e .from ∈ vertexNames q) × (e .to ∈ vertexNames q)
-  edge-ends e n = let r = edge-of e n in let k = chain-ends (r .0 .chain) e (r .2) in (vertex-stands (r .0) (r .1) (e .from) (k .0), vertex-stands (r .0) (r .1) (e .to) (k .1))
+  edge-ends e n = let r = edge-of e n in let k = chain-ends (r .0 .chain) e (r .2) in
+      (vertex-stands (r .0) (r .1) (e .from) (k .0), vertex-stands (r .0) (r .1) (e .to) (k .1))
 
   -- the name of an edge is an edge variable of the text
   pub edge-named : (e : ChainEdge) → e ∈ edgesOf q → e .name ∈ edgeNames q

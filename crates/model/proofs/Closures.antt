@@ -30,13 +30,15 @@ has-element [] x m = elim m [ ]
 has-element (y ∷ l) x m = omega arith
 
 -- a weaker test keeps the same elements of a list, or keeps more
-keeps-same-or-more : {A : Type 0} (p q : A → Bool) (l : List A) → ((x : A) → x ∈ l → T (p x) → T (q x)) → (keep p l ≡ keep q l) ⊎ (length (keep p l) < length (keep q l))
+keeps-same-or-more : {A : Type 0} (p q : A → Bool) (l : List A) → ((x : A) → x ∈ l → T (p x) → T (q x))
+    → (keep p l ≡ keep q l) ⊎ (length (keep p l) < length (keep q l))
 unfolding keep
 keeps-same-or-more p q [] h = inl refl
 keeps-same-or-more p q (x ∷ l) h = go (p x) (q x) (h x (List·Memᴰ·head refl)) (keeps-same-or-more p q l (λ y m. h y (List·Memᴰ·tail m)))
   where
     go : (a b : Bool) → (T a → T b) → (keep p l ≡ keep q l) ⊎ (length (keep p l) < length (keep q l))
-        → (pick a (x ∷ keep p l) (keep p l) ≡ pick b (x ∷ keep q l) (keep q l)) ⊎ (length (pick a (x ∷ keep p l) (keep p l)) < length (pick b (x ∷ keep q l) (keep q l)))
+        → (pick a (x ∷ keep p l) (keep p l) ≡ pick b (x ∷ keep q l) (keep q l)) ⊎
+        (length (pick a (x ∷ keep p l) (keep p l)) < length (pick b (x ∷ keep q l) (keep q l)))
     go true true h (inl e) = inl (ap (λ z. x ∷ z) e)
     go true true h (inr m) = inr (omega arith)
     go true false h o = absurd (h tt)
@@ -97,7 +99,8 @@ module _ {A : Type 0} (stock : List A) (grow : List A → A → Bool) where
       where
         go : (n : ℕ) → length stock ≡ n → steps n (x ∷ S) ≡ step (steps n (x ∷ S))
         go zero e = let m = has-element stock x (w x (List·Memᴰ·head refl)) in absurd (omega arith)
-        go (suc n) e = let m = has-element (step (x ∷ S)) x (step-keeps (x ∷ S) w x (List·Memᴰ·head refl)) in stable-from n (step (x ∷ S)) (grow (x ∷ S)) refl (omega arith)
+        go (suc n) e = let m = has-element (step (x ∷ S)) x (step-keeps (x ∷ S) w x (List·Memᴰ·head refl)) in
+            stable-from n (step (x ∷ S)) (grow (x ∷ S)) refl (omega arith)
 
     -- so what passes the test then is there already
     pub closed : (S : List A) → Within S stock → (x : A) → x ∈ stock → T (grow (steps (length stock) S) x) → x ∈ steps (length stock) S

@@ -52,7 +52,8 @@ module _ (b : Book) (q : QueryText) (clear : ClearNames q) (node : Bytes → ℕ
   one-edge : (e d : ChainEdge) → e ∈ edgesOf q → d ∈ edgesOf q → d .name ≡ e .name → e ≡ d
   unfolding edgeNames
   one-edge e d n k p =
-      sym (edge-at-place (edgesOf q) (clear .once) e n) ∙ ap (λ z. getD (edgesOf q) (place z (edgeNames q)) noEdge) (sym p) ∙ edge-at-place (edgesOf q) (clear .once) d k
+      sym (edge-at-place (edgesOf q) (clear .once) e n) ∙ ap (λ z. getD (edgesOf q) (place z (edgeNames q)) noEdge) (sym p)
+      ∙ edge-at-place (edgesOf q) (clear .once) d k
 
   -- so a relationship that meets an edge suits its variable
   met-suits : (e : ChainEdge) → e ∈ edgesOf q → (m : EdgeMet b q node e) → Suits b q node (e .name) (m .rel)
@@ -70,21 +71,37 @@ module _ (b : Book) (q : QueryText) (clear : ClearNames q) (node : Bytes → ℕ
   -- and one that suits the variable meets its edge
   suits-met : (e : ChainEdge) → e ∈ edgesOf q → (r : ℕ) → Suits b q node (e .name) r → EdgeMet b q node e
   unfolding isOn metBy relEntries
-  suits-met e n r s = record { rel = r; holds = (s .is-rel, s .runs-there e n refl); meets-all = λ a t v k. s .meets-all (demand (e .name) a t v) k (same-refl (e .name)) }
+  suits-met e n r s = record {
+    rel = r;
+    holds = (s .is-rel, s .runs-there e n refl);
+    meets-all = λ a t v k. s .meets-all (demand (e .name) a t v) k
+        (same-refl (e .name));
+  }
 
   all-met-fits : AllMet b q node → NodesFit b q node
   all-met-fits h = record {
     vertices = h .vertices;
     conditions = h .conditions;
-    edges = λ x j. let r = edge-of-name q x j in let m = h .edges (r .0) (r .1) in (m .rel, subst (λ z. Suits b q node z (m .rel)) (sym (r .2)) (met-suits (r .0) (r .1) m));
+    edges = λ x j. let r = edge-of-name q x j in let m = h .edges (r .0) (r .1) in
+        (m .rel, subst (λ z. Suits b q node z (m .rel)) (sym (r .2)) (met-suits (r .0) (r .1) m));
   }
 
   -- nodes are those of a model exactly if all is met
   met-exactly : ModelWith b q node ↔ AllMet b q node
   met-exactly = (
     λ w. let f = nodes-of-model b q (w .model) (w .models) (clear .declared) node (w .nodes) in
-        record { vertices = f .vertices; conditions = f .conditions; edges = λ e n. let r = f .edges (e .name) (edge-named q e n) in suits-met e n (r .0) (r .1) },
-    λ h. record { model = record { node = node; rel = relFor b q node }; models = model-of-nodes b q node (clear .declared) (all-met-fits h); nodes = λ v n. refl },
+        record {
+          vertices = f .vertices;
+          conditions = f .conditions;
+          edges = λ e n. let r = f .edges (e .name) (edge-named q e n) in
+              suits-met e n (r .0) (r .1);
+        },
+    λ h. record {
+      model = record { node = node; rel = relFor b q node };
+      models = model-of-nodes b q node (clear .declared)
+          (all-met-fits h);
+      nodes = λ v n. refl;
+    },
   )
 
 -- the law, for accepted queries
@@ -97,7 +114,8 @@ pub policy-model-with-nodes : (b : Book) (s : Bytes) (r : Rules) → readRules b
 policy-model-with-nodes b s r e p k node = met-exactly b (p .text) (policy-clear b s r e p k) node
 
 -- the model that it has gives each edge the first relationship that meets it: `relFor`
-pub first-is-model : (b : Book) (s : Bytes) (q : QueryText) → readQuery b s ≡ accepted q → (node : Bytes → ℕ) → AllMet b q node → Models b q (record { node = node; rel = relFor b q node })
+pub first-is-model : (b : Book) (s : Bytes) (q : QueryText) → readQuery b s ≡ accepted q → (node : Bytes → ℕ) → AllMet b q node
+    → Models b q (record { node = node; rel = relFor b q node })
 first-is-model b s q e node h = let c = query-clear b s q e in model-of-nodes b q node (c .declared) (all-met-fits b q c node h)
 
 -- Not vacuous: of the paper's query all is met where s is S5,

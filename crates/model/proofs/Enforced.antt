@@ -2,7 +2,8 @@
 use Prim.Native.Nat.{ℕ, zero, suc}
 use mathlib.Core.Path.{_≡_, refl, sym, ap, subst, _∙_}
 use mathlib.Core.Logic.{⊎-elim, _↔_}
-use mathlib.Core.List.{List, [], _∷_, _++_, map, List·Memᴰ·head, List·Memᴰ·eq-of-singleton as eq-of-singleton, List·Memᴰ·append-cases as append-cases, Memᴰ·append-left, Memᴰ·cast}
+use mathlib.Core.List.{List, [], _∷_, _++_, map, List·Memᴰ·head, List·Memᴰ·eq-of-singleton as eq-of-singleton, List·Memᴰ·append-cases as append-cases}
+use mathlib.Core.List.{Memᴰ·append-left, Memᴰ·cast}
 use mathlib.Core.Bool.{Bool, true, false, not, _&&_, _||_}
 use lib.ListN.{length, length-map}
 use lib.Dec.{T}
@@ -41,7 +42,8 @@ module _ (r : Rules) where
   steps-down : (k : ℕ) (cs : List Bytes) → stepsDown k r cs ≡ steps (categoryNames r) leads k cs
   unfolding stepsDown stepDown categoryNames
   steps-down zero cs = refl
-  steps-down (suc k) cs = ap (λ z. stepsDown k r z) (map-keep (λ (c : Category). c .name) (leads cs) (r .categories)) ∙ steps-down k (step (categoryNames r) leads cs)
+  steps-down (suc k) cs = ap (λ z. stepsDown k r z) (map-keep (λ (c : Category). c .name) (leads cs) (r .categories))
+      ∙ steps-down k (step (categoryNames r) leads cs)
 
   leads-own : (cs : List Bytes) (e : Bytes) → e ∈ cs → T (leads cs e)
   leads-own cs e m = or-l (mem e cs) _ (mem-i e cs m)
@@ -73,7 +75,8 @@ module _ (r : Rules) where
       all : (e : Bytes) → Reaches r c e → e ∈ steps (categoryNames r) leads n (c ∷ [])
       all e itself = steps-keep (categoryNames r) leads leads-own n (c ∷ []) start c (List·Memᴰ·head refl)
       all e (over {d} p k o j) = closed (categoryNames r) leads leads-own (c ∷ []) start e j
-          (let S = steps (categoryNames r) leads n (c ∷ []) in or-r (mem e S) _ (any-i (λ (d : Category). mem (d .name) S && mem e (d .over)) (r .categories) d k
+          (let S = steps (categoryNames r) leads n (c ∷ []) in
+          or-r (mem e S) _ (any-i (λ (d : Category). mem (d .name) S && mem e (d .over)) (r .categories) d k
           (and-iff (mem (d .name) S) (mem e (d .over)) .0 (mem-i (d .name) S (all (d .name) p), mem-i e (d .over) o))))
 
   -- the enforced policies are the policies of the categories that a declared category reaches
@@ -84,11 +87,13 @@ module _ (r : Rules) where
         λ k. let j = joined-e (λ d. keep (of d) (r .policies)) (downFrom r c) p k in
             let q = keep-e (of (j .0)) (r .policies) p (j .2) in
             (q .0, subst (Reaches r c) (sym (same→eq (p .category) (j .0) (q .1))) (down-is-reached c m (j .0) .0 (j .1))),
-        λ u. joined-i (λ d. keep (of d) (r .policies)) (downFrom r c) (p .category) (down-is-reached c m (p .category) .1 (u .1)) p (keep-i (of (p .category)) (r .policies) p (u .0) (same-refl (p .category))),
+        λ u. joined-i (λ d. keep (of d) (r .policies)) (downFrom r c) (p .category) (down-is-reached c m (p .category) .1 (u .1)) p
+            (keep-i (of (p .category)) (r .policies) p (u .0) (same-refl (p .category))),
       )
 
 -- for an accepted request the enforced policies are those of the categories that its category reaches
-pub enforced-for-request : (b : Book) (r : Rules) (s : Bytes) (x : Request) → readRequest b r s ≡ accepted x → (p : Policy) → (p ∈ enforced r (x .category)) ↔ ((p ∈ r .policies) × Reaches r (x .category) (p .category))
+pub enforced-for-request : (b : Book) (r : Rules) (s : Bytes) (x : Request) → readRequest b r s ≡ accepted x → (p : Policy)
+    → (p ∈ enforced r (x .category)) ↔ ((p ∈ r .policies) × Reaches r (x .category) (p .category))
 enforced-for-request b r s x e p = enforced-is-reached r (x .category) (category-declared b r s x e) p
 
 -- a category is over declared categories only
@@ -98,13 +103,17 @@ OverDeclared r = (d : Category) → d ∈ r .categories → (e : Bytes) → e �
 rule-keeps-declared : (b : Book) (r : Rules) (x : RulesLine) → rulesFault b r x ≡ nothing → OverDeclared r → OverDeclared (addRule r x)
 unfolding rulesFault addRule categoryNames
 rule-keeps-declared b r (policy c bytes q) f h d k e m = h d k e m
-rule-keeps-declared b r (category n actors lower) f h d k e m = ⊎-elim (λ j. old (h d j e m)) (λ j. old (declared (subst (λ (z : Category). e ∈ z .over) (eq-of-singleton j) m))) (append-cases (r .categories) k)
+rule-keeps-declared b r (category n actors lower) f h d k e m = ⊎-elim (λ j. old (h d j e m))
+    (λ j. old (declared (subst (λ (z : Category). e ∈ z .over) (eq-of-singleton j) m))) (append-cases (r .categories) k)
   where
-    old : e ∈ map (λ (c : Category). c .name) (r .categories) → e ∈ map (λ (c : Category). c .name) (r .categories ++ (record { name = n; actors = actors; over = lower } ∷ []))
-    old i = let c = map-e (λ (c : Category). c .name) (r .categories) e i in Memᴰ·cast (c .2) (map-i (λ (c : Category). c .name) _ (c .0) (Memᴰ·append-left _ (c .1)))
+    old : e ∈ map (λ (c : Category). c .name) (r .categories)
+        → e ∈ map (λ (c : Category). c .name) (r .categories ++ (record { name = n; actors = actors; over = lower } ∷ []))
+    old i = let c = map-e (λ (c : Category). c .name) (r .categories) e i in
+        Memᴰ·cast (c .2) (map-i (λ (c : Category). c .name) _ (c .0) (Memᴰ·append-left _ (c .1)))
 
     declared : e ∈ lower → e ∈ categoryNames r
-    declared i = mem-e e (categoryNames r) (each-e (λ c. T (mem c (categoryNames r))) lower (each-all (λ c. T (mem c (categoryNames r))) (λ c. mem c (categoryNames r)) (λ c. (λ t. t, λ t. t)) lower .1
+    declared i = mem-e e (categoryNames r) (each-e (λ c. T (mem c (categoryNames r))) lower
+        (each-all (λ c. T (mem c (categoryNames r))) (λ c. mem c (categoryNames r)) (λ c. (λ t. t, λ t. t)) lower .1
         (not-e (all (λ c. mem c (categoryNames r)) lower) (lowest-e 4 _ _ f))) e i)
 
 -- in accepted rules every category is over declared categories only, so a path needs no such premise
@@ -115,8 +124,10 @@ over-is-declared b s r e =
     let o = readLines 2 (rulesStep b) 1 start (linesOf s) in
     let a = accept-e o covered r (bytes-e 2 16384 (λ l. l) s (onAccept o covered) r e) in
     lines-inv OverDeclared 2 (rulesStep b)
-    (λ x l y d h. let f = step-known (andThen (formOf l) rulesLine) (rulesFault b x) (addRule x) y .0 d in subst OverDeclared (f .3) (rule-keeps-declared b x (f .0) (f .2) h))
-    1 start (linesOf s) r (a .1 ∙ kept (a .0) (any (λ (c : Category). isNil (c .over) && not (hasPolicy (a .0) (c .name))) (a .0 .categories)) (a .2)) (λ d k. elim k [ ])
+    (λ x l y d h. let f = step-known (andThen (formOf l) rulesLine) (rulesFault b x) (addRule x) y .0 d in
+    subst OverDeclared (f .3) (rule-keeps-declared b x (f .0) (f .2) h))
+    1 start (linesOf s) r (a .1 ∙ kept (a .0) (any (λ (c : Category). isNil (c .over) && not (hasPolicy (a .0) (c .name))) (a .0 .categories)) (a .2))
+    (λ d k. elim k [ ])
   where
     kept : (z : Rules) (c : Bool) → pick c (refusal 10 2 0) (accepted z) ≡ accepted r → accepted z ≡ accepted r
     kept z true e = never _ r e

@@ -39,9 +39,12 @@ theBook = record {
   vattrs = record { name = bytesOf "kind"; kind = strs } ∷ record { name = bytesOf "rate"; kind = ints } ∷ [];
   eattrs = [];
   labels = bytesOf "runs" ∷ bytesOf "feeds" ∷ [];
-  nodes = record { name = bytesOf "ana"; entries = [] } ∷ record { name = bytesOf "hub"; entries = record { attr = bytesOf "kind"; value = str (bytesOf "hub") } ∷ [] }
-      ∷ record { name = bytesOf "S5"; entries = record { attr = bytesOf "rate"; value = int 9223372036854775848 } ∷ [] } ∷ record { name = bytesOf "S6"; entries = [] } ∷ [];
-  rels = record { label = bytesOf "runs"; from = 0; to = 1; entries = [] } ∷ record { label = bytesOf "feeds"; from = 2; to = 1; entries = [] } ∷ record { label = bytesOf "feeds"; from = 3; to = 1; entries = [] } ∷ [];
+  nodes = record { name = bytesOf "ana"; entries = [] } ∷
+      record { name = bytesOf "hub"; entries = record { attr = bytesOf "kind"; value = str (bytesOf "hub") } ∷ [] }
+      ∷ record { name = bytesOf "S5"; entries = record { attr = bytesOf "rate"; value = int 9223372036854775848 } ∷ [] } ∷
+      record { name = bytesOf "S6"; entries = [] } ∷ [];
+  rels = record { label = bytesOf "runs"; from = 0; to = 1; entries = [] } ∷ record { label = bytesOf "feeds"; from = 2; to = 1; entries = [] } ∷
+      record { label = bytesOf "feeds"; from = 3; to = 1; entries = [] } ∷ [];
 }
 
 -- the query as it is read
@@ -56,11 +59,18 @@ theQuery = record {
 
 -- the text of the policy as it is read
 abbrev pub thePolicy : QueryText
-thePolicy = record { matches = record { chain = right (bytesOf "requestor") (bytesOf "r") (bytesOf "runs") (end (bytesOf "h")); conditions = [] } ∷ []; returns = bytesOf "h" ∷ [] }
+thePolicy = record {
+  matches = record { chain = right (bytesOf "requestor") (bytesOf "r") (bytesOf "runs") (end (bytesOf "h")); conditions = [] } ∷ [];
+  returns = bytesOf "h" ∷ [];
+}
 
 -- the rules as they are read
 abbrev pub theRules : Rules
-theRules = record { categories = record { name = bytesOf "view"; actors = bytesOf "requestor" ∷ []; over = [] } ∷ []; policies = record { category = bytesOf "view"; text = thePolicy } ∷ [] }
+theRules = record {
+  categories = record { name = bytesOf "view"; actors = bytesOf "requestor" ∷ []; over = [] } ∷ [];
+  policies =
+      record { category = bytesOf "view"; text = thePolicy } ∷ [];
+}
 
 -- the request as it is read
 abbrev pub theRequest : Request

@@ -23,12 +23,14 @@ use Rattle.model.proofs.WovenParts.{Apart, namedOne, verticesOf, wovenV
 module _ (vs : List WovenVertex) where
   -- a condition of a text, its vertices standing among the woven vertices vs
   condition-apart : (k n : ℕ) (a : Asked) → ClearNames (a .text) → ((v : Bytes) → v ∈ vertexNames (a .text) → weaveVertex k (a .actors) v ∈ vs)
-      → (c : Condition) → c ∈ conditionsOf (a .text) → NamedIn (a .text) c → Apart (movedClause vs (namedOne k a) n (clauseOf (vertexNames (a .text)) (edgeNames (a .text)) c))
+      → (c : Condition) → c ∈ conditionsOf (a .text) → NamedIn (a .text) c
+      → Apart (movedClause vs (namedOne k a) n (clauseOf (vertexNames (a .text)) (edgeNames (a .text)) c))
   unfolding clauseOf movedClause moved
   condition-apart k n a clear f (differ v u) i w = λ e.
       let name = weaveVertex k (a .actors) in
       let names = vertexNames (a .text) in
-      let p : placeVertex (name v) vs ≡ placeVertex (name u) vs = ap (λ z. placeVertex z vs) (sym (place-map name noVertex names v (w .0))) ∙ e ∙ ap (λ z. placeVertex z vs) (place-map name noVertex names u (w .1)) in
+      let p : placeVertex (name v) vs ≡ placeVertex (name u) vs = ap (λ z. placeVertex z vs) (sym (place-map name noVertex names v (w .0))) ∙ e
+      ∙ ap (λ z. placeVertex z vs) (place-map name noVertex names u (w .1)) in
       clear .differing v u i (never-joined-within k (a .actors) v u (vertex-by-place vs (name v) (name u) (f v (w .0)) (f u (w .1)) p))
   condition-apart k n a clear f (demand x b r v) i w = ⊎-elim
       (λ t. rw (is-true (mem x (vertexNames (a .text))) t) tt)
@@ -36,7 +38,8 @@ module _ (vs : List WovenVertex) where
       (test (mem x (vertexNames (a .text))))
 
   -- the clauses of texts from the kth on, n edges standing before
-  clauses-apart : (k n : ℕ) (asked : List Asked) → ((a : Asked) → a ∈ asked → ClearNames (a .text)) → ((w : WovenVertex) → w ∈ verticesOf k asked → w ∈ vs) → Each Apart (movedClauses vs n (named k asked))
+  clauses-apart : (k n : ℕ) (asked : List Asked) → ((a : Asked) → a ∈ asked → ClearNames (a .text)) → ((w : WovenVertex) → w ∈ verticesOf k asked → w ∈ vs)
+      → Each Apart (movedClauses vs n (named k asked))
   unfolding named joined movedClauses patternOf
   clauses-apart k n [] clear f = tt
   clauses-apart k n (a ∷ others) clear f =
@@ -49,8 +52,10 @@ module _ (vs : List WovenVertex) where
       let s = map-e (clauseOf (vertexNames q) (edgeNames q)) (conditionsOf q) (r .0) (r .1) in
       let c = condition-of q (s .0) (s .1) in
       subst Apart (sym (r .2)) (subst (λ z. Apart (movedClause vs (namedOne k a) n z)) (sym (s .2))
-      (condition-apart k n a g (λ v m. f (name v) (Memᴰ·append-left (verticesOf (k + 1) others) (map-i name (vertexNames q) v m))) (s .0) (s .1) (g .declared .conditions (c .0) (c .1) (s .0) (c .2))))))
-      (clauses-apart (k + 1) (n + length (patternOf q .edges)) others (λ c m. clear c (List·Memᴰ·tail m)) (λ w l. f w (Memᴰ·append-right (map name (vertexNames q)) l)))
+      (condition-apart k n a g (λ v m. f (name v) (Memᴰ·append-left (verticesOf (k + 1) others) (map-i name (vertexNames q) v m))) (s .0) (s .1)
+      (g .declared .conditions (c .0) (c .1) (s .0) (c .2))))))
+      (clauses-apart (k + 1) (n + length (patternOf q .edges)) others (λ c m. clear c (List·Memᴰ·tail m))
+      (λ w l. f w (Memᴰ·append-right (map name (vertexNames q)) l)))
 
 -- the law
 pub woven-apart : (asked : List Asked) → ((a : Asked) → a ∈ asked → ClearNames (a .text)) → Each Apart (weave asked .clauses)

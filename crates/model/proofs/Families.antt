@@ -33,7 +33,8 @@ familyRow (h ∷ hs) = map (h .mapping .node) (h .asked .text .returns)
 -- a mapping of the woven pattern that keeps the identities
 pub record WovenModel (b : Book) (ids : List Identity) (asked : List Asked) (m : NumberedMapping) : Type 0 where
   pub satisfies : Satisfies b (weave asked) m
-  pub identified : (i : ℕ) → i < length (weave asked .vertices) → (d : Identity) → d ∈ ids → getD (weave asked .vertices) i noVertex ≡ actor (d .actor) → m .node i ≡ d .node
+  pub identified : (i : ℕ) → i < length (weave asked .vertices) → (d : Identity) → d ∈ ids → getD (weave asked .vertices) i noVertex ≡ actor (d .actor)
+      → m .node i ≡ d .node
 
 -- the row of a mapping of the woven pattern
 abbrev pub wovenRow : List Asked → NumberedMapping → List ℕ

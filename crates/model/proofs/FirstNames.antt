@@ -59,7 +59,8 @@ module _ {A : Type 0} (alike : A → A → Bool) (tells : Tells alike) (d : A) w
   once-more : (seen : List A) (w : A) → (T (any (alike w) seen) → ⊥) → Once seen → Once (seen ++ (w ∷ []))
   once-more seen w new once i l = ⊎-elim
       (λ t. let h = ltb→lt i (length seen) t in
-      rw (List·getD-append seen (w ∷ []) d i h) (place-before (alike (getD seen i d)) seen (w ∷ []) (alike-i alike tells _ seen (getD-in seen i d h)) ∙ once i h))
+      rw (List·getD-append seen (w ∷ []) d i h)
+      (place-before (alike (getD seen i d)) seen (w ∷ []) (alike-i alike tells _ seen (getD-in seen i d h)) ∙ once i h))
       (λ t. let h : i < length seen → ⊥ = λ k. t (lt→ltb i (length seen) k) in
       let e : i ≡ length seen + 0 = omega (arith, length-append seen (w ∷ [])) in
       let f : getD (seen ++ (w ∷ [])) i d ≡ w = ap (λ n. getD (seen ++ (w ∷ [])) n d) e ∙ getD-append-add seen (w ∷ []) 0 d in
@@ -78,7 +79,8 @@ module _ {A : Type 0} (alike : A → A → Bool) (tells : Tells alike) (d : A) w
   pub firstsBy-known : (seen l : List A) → ((x : A) → x ∈ l → x ∈ seen) → firstsBy alike seen l ≡ seen
   unfolding firstsBy addNewBy
   firstsBy-known seen [] h = refl
-  firstsBy-known seen (x ∷ l) h = rw (is-true (any (alike x) seen) (alike-i alike tells x seen (h x (List·Memᴰ·head refl)))) (firstsBy-known seen l (λ y m. h y (List·Memᴰ·tail m)))
+  firstsBy-known seen (x ∷ l) h = rw (is-true (any (alike x) seen) (alike-i alike tells x seen (h x (List·Memᴰ·head refl))))
+      (firstsBy-known seen l (λ y m. h y (List·Memᴰ·tail m)))
 
 -- first appearances of two lists of names, one after the other
 pub firsts-append : (seen a b : List Bytes) → firsts seen (a ++ b) ≡ firsts (firsts seen a) b

@@ -9,7 +9,8 @@ use lib.Dec.{eqb}
 use Rattle.model.specs.Bytes.{Bytes}
 use Rattle.model.specs.Choice.{pick, Maybe, nothing, just, andThen}
 use Rattle.model.specs.Lists.{all}
-use Rattle.model.specs.Items.{Item, word, whole, text, quoted, list, Items, none, more, plainAt, isList, onward, onwardWith, listAt, asList, opens, itemAt, itemList, itemsOf, lineItems}
+use Rattle.model.specs.Items.{Item, word, whole, text, quoted, list, Items, none, more, plainAt, isList, onward, onwardWith, listAt, asList}
+use Rattle.model.specs.Items.{opens, itemAt, itemList, itemsOf, lineItems}
 use Rattle.model.specs.Words.{Got, isLetter, isDigit, run, wordAt, wholeAt, textAt, quotedAt, readAs, before}
 use Rattle.model.specs.Lines.{Line, isAllowed}
 use Rattle.model.specs.Forms.{asQuoted, first, formOf}
@@ -57,8 +58,10 @@ plain-fits (b ∷ s) g a e =
     ⊎-elim (λ h. let r = read-e word (wordAt (b ∷ s)) g h in subst FitItem (sym (r .2)) tt)
     (λ h. ⊎-elim (λ k. let r = read-e whole (wholeAt (b ∷ s)) g k in subst FitItem (sym (r .2)) tt)
     (λ k. ⊎-elim (λ u. let r = read-e text (textAt s) g u in subst FitItem (sym (r .2)) tt)
-    (λ u. ⊎-elim (λ v. let r = read-e quoted (quotedAt s) g v in subst FitItem (sym (r .2)) (quoted-allowed s (r .0) (pick-iff (isAllowed b) (all isAllowed s) .1 a .1) (r .1))) (λ v. no-just g v)
-    (pick-e (eqb b 34) (readAs quoted (quotedAt s)) nothing g u)) (pick-e (eqb b 39) (readAs text (textAt s)) q g k)) (pick-e (isDigit b || eqb b 45) (readAs whole (wholeAt (b ∷ s))) t g h))
+    (λ u. ⊎-elim (λ v. let r = read-e quoted (quotedAt s) g v in
+    subst FitItem (sym (r .2)) (quoted-allowed s (r .0) (pick-iff (isAllowed b) (all isAllowed s) .1 a .1) (r .1))) (λ v. no-just g v)
+    (pick-e (eqb b 34) (readAs quoted (quotedAt s)) nothing g u)) (pick-e (eqb b 39) (readAs text (textAt s)) q g k))
+    (pick-e (isDigit b || eqb b 45) (readAs whole (wholeAt (b ∷ s))) t g h))
     (pick-e (isLetter b) (readAs word (wordAt (b ∷ s))) n g e)
 
 onward-e : (m : Maybe (Got Items)) (g : Got Items) → onward m ≡ just g → (a : Got Items) × (m ≡ just a) × (g .got ≡ a .got)
@@ -71,11 +74,13 @@ unfolding onwardWith
 onwardWith-e i nothing g e = no-just g e
 onwardWith-e i (just a) g e = let d : _≡_ {A = Got Items} (record { got = more i (a .got); size = a .size + 1 }) g = cc in (a, refl, sym (ap (λ z. z .got) d))
 
-list-fits : (read : Bytes → Maybe (Got Item)) → ((s : Bytes) (g : Got Item) → Allowed s → read s ≡ just g → FitGot g) → (free : Bool) (k : ℕ) (s : Bytes) (g : Got Items) → Allowed s
+list-fits : (read : Bytes → Maybe (Got Item)) → ((s : Bytes) (g : Got Item) → Allowed s → read s ≡ just g → FitGot g)
+    → (free : Bool) (k : ℕ) (s : Bytes) (g : Got Items) → Allowed s
     → listAt read free k s ≡ just g → FitItems (g .got)
 unfolding listAt FitItems all
 list-fits read p free k [] g a e = no-just g e
-list-fits read p free (suc k) (b ∷ s) g a e = let w = pick-iff (isAllowed b) (all isAllowed s) .1 a .1 in let r = onward-e (listAt read free k s) g e in subst FitItems (sym (r .2)) (list-fits read p free k s (r .0) w (r .1))
+list-fits read p free (suc k) (b ∷ s) g a e = let w = pick-iff (isAllowed b) (all isAllowed s) .1 a .1 in let r = onward-e (listAt read free k s) g e in
+    subst FitItems (sym (r .2)) (list-fits read p free k s (r .0) w (r .1))
 list-fits read p free zero (b ∷ s) g a e =
     let w = pick-iff (isAllowed b) (all isAllowed s) .1 a .1 in
     let space = onward (listAt read true 0 s) in
@@ -83,7 +88,8 @@ list-fits read p free zero (b ∷ s) g a e =
     let end : Maybe (Got Items) = just (record { got = none; size = 1 }) in
     ⊎-elim
     (λ h. let r = onward-e (listAt read true 0 s) g h in subst FitItems (sym (r .2)) (list-fits read p true 0 s (r .0) w (r .1)))
-    (λ h. ⊎-elim (λ (k : end ≡ just g). let d : _≡_ {A = Got Items} (record { got = none; size = 1 }) g = cc in subst (λ (z : Got Items). FitItems (z .got)) d tt)
+    (λ h. ⊎-elim (λ (k : end ≡ just g). let d : _≡_ {A = Got Items} (record { got = none; size = 1 }) g = cc in
+    subst (λ (z : Got Items). FitItems (z .got)) d tt)
     (λ k. ⊎-elim
     (λ u. let r = then-e (read (b ∷ s)) (λ i. onwardWith (i .got) (listAt read (isList (i .got)) (i .size - 1) s)) g u in
     let i : Got Item = r .0 in
@@ -96,12 +102,14 @@ list-fits read p free zero (b ∷ s) g a e =
 item-fits : (d : ℕ) (s : Bytes) (g : Got Item) → Allowed s → itemAt d s ≡ just g → FitGot g
 unfolding itemAt asList FitItem
 item-fits zero s g a e = ⊎-elim (λ h. no-just g h) (λ h. plain-fits s g a h) (pick-e (opens s) nothing (plainAt s) g e)
-item-fits (suc d) s g a e = ⊎-elim (λ h. lists (listAt (itemAt d) true 0 (drop 1 s)) (λ l r. list-fits (itemAt d) (item-fits d) true 0 (drop 1 s) l (all-drop isAllowed 1 s a) r) h) (λ h. plain-fits s g a h)
+item-fits (suc d) s g a e = ⊎-elim (λ h. lists (listAt (itemAt d) true 0 (drop 1 s))
+    (λ l r. list-fits (itemAt d) (item-fits d) true 0 (drop 1 s) l (all-drop isAllowed 1 s a) r) h) (λ h. plain-fits s g a h)
     (pick-e (opens s) (asList (listAt (itemAt d) true 0 (drop 1 s))) (plainAt s) g e)
   where
     lists : (m : Maybe (Got Items)) → ((a : Got Items) → m ≡ just a → FitItems (a .got)) → asList m ≡ just g → FitGot g
     lists nothing p h = no-just g h
-    lists (just a) p h = let c : _≡_ {A = Got Item} (record { got = list (a .got); size = a .size + 1 }) g = cc in subst (λ (z : Got Item). FitItem (z .got)) c (p a refl)
+    lists (just a) p h = let c : _≡_ {A = Got Item} (record { got = list (a .got); size = a .size + 1 }) g = cc in
+        subst (λ (z : Got Item). FitItem (z .got)) c (p a refl)
 
 -- of every item of a list
 abbrev pub FitAll : List Item → Type 0
@@ -126,7 +134,8 @@ line-fits s is a e =
     let t = drop (length (run (λ b. eqb b 32) s)) s in
     let r = then-e (itemAt 4 t) (λ g. pick (all (λ b. eqb b 32) (drop (g .size) t)) (itemsOf (g .got)) nothing) is e in
     let i : Got Item = r .0 in
-    ⊎-elim (λ h. itemsOf-fits (i .got) is (item-fits 4 t i (all-drop isAllowed (length (run (λ b. eqb b 32) s)) s a) (r .1)) h) (λ h. no-just is h) (pick-e (all (λ b. eqb b 32) (drop (i .size) t)) (itemsOf (i .got)) nothing is (r .2))
+    ⊎-elim (λ h. itemsOf-fits (i .got) is (item-fits 4 t i (all-drop isAllowed (length (run (λ b. eqb b 32) s)) s a) (r .1)) h) (λ h. no-just is h)
+    (pick-e (all (λ b. eqb b 32) (drop (i .size) t)) (itemsOf (i .got)) nothing is (r .2))
 
 -- the items of a line of allowed bytes
 pub form-fits : (l : Line) (is : List Item) → Allowed (l .bytes) → formOf l ≡ just is → FitAll is

@@ -23,7 +23,8 @@ use Rattle.model.proofs.TextRefusals.{book-is-text-1, rules-are-text-2,
 use Rattle.model.proofs.Refusals.{found-table}
 use Rattle.model.proofs.Tied.{tied-by-path, memℕ-e, memℕ-i}
 use Rattle.model.specs.Tied.{IsVertex, TiedTo, Untied}
-use Rattle.model.specs.Refused.{returned, Exactly, memory-short, in-book, book-first, in-rules, AllRead, ListTable, rules-first, in-query, in-request, in-woven, no-room, woven, wovenNumber, rowsFor}
+use Rattle.model.specs.Refused.{returned, Exactly, memory-short, in-book, book-first, in-rules, AllRead, ListTable, rules-first, in-query}
+use Rattle.model.specs.Refused.{in-request, in-woven, no-room, woven, wovenNumber, rowsFor}
 
 -- a test that does not hold everywhere fails somewhere
 fails-somewhere : {A : Type 0} (p : A → Bool) (l : List A) → (T (all p l) → ⊥) → (x : A) × (x ∈ l) × (T (p x) → ⊥)
@@ -36,7 +37,8 @@ fails-somewhere p (x ∷ l) h = ⊎-elim
 fails-not-all : {A : Type 0} (p : A → Bool) (l : List A) (x : A) → x ∈ l → (T (p x) → ⊥) → T (all p l) → ⊥
 unfolding all
 fails-not-all p [] x m h t = elim m [ ]
-fails-not-all p (y ∷ l) x m h t = let u = pick-iff (p y) (all p l) .1 t in ⊎-elim (λ e. h (subst (λ z. T (p z)) (sym e) (u .0))) (λ n. fails-not-all p l x n h (u .1)) (mathlib.Core.List.List·Memᴰ·cases-cons m)
+fails-not-all p (y ∷ l) x m h t = let u = pick-iff (p y) (all p l) .1 t in
+    ⊎-elim (λ e. h (subst (λ z. T (p z)) (sym e) (u .0))) (λ n. fails-not-all p l x n h (u .1)) (mathlib.Core.List.List·Memᴰ·cases-cons m)
 
 -- the number given where limits are passed or not, and every vertex is tied or not
 abbrev number : Bool → Bool → Maybe ℕ
@@ -51,7 +53,8 @@ module _ (p : WovenPattern) (ids : List Identity) where
   untied = (
     λ h. let r = fails-somewhere (λ v. memℕ v (tied p ids)) (below (length (p .vertices))) h in
         (r .0, below-e (length (p .vertices)) (r .0) (r .1), λ t. r .2 (memℕ-i (r .0) (tied p ids) (tied-by-path p ids (r .0) .1 t))),
-    λ u. fails-not-all (λ v. memℕ v (tied p ids)) (below (length (p .vertices))) (u .0) (below-i (length (p .vertices)) (u .0) (u .1)) (λ t. u .2 (tied-by-path p ids (u .0) .0 (memℕ-e (u .0) (tied p ids) t))),
+    λ u. fails-not-all (λ v. memℕ v (tied p ids)) (below (length (p .vertices))) (u .0) (below-i (length (p .vertices)) (u .0) (u .1))
+        (λ t. u .2 (tied-by-path p ids (u .0) .0 (memℕ-e (u .0) (tied p ids) t))),
   )
 
   -- 12 exactly if a woven limit is passed
@@ -98,18 +101,25 @@ module _ (work words : ℕ) (book rules query request : Bytes) where
 
   -- a refusal that names no text, or text 5, comes before the texts, or behind them
   behind : (f : Refusal) → ListTable work words book rules query request f
-      → ((f .text ≡ 0) → work < 16384) × ((f .text ≡ 5) → ReadAnd (λ b r q x. (wovenNumber r q x ≡ just (f .number)) ⊎ ((f .number ≡ 14) × (wovenNumber r q x ≡ nothing) × TooFewWords b r q x)))
+      → ((f .text ≡ 0) → work < 16384) × ((f .text ≡ 5)
+      → ReadAnd (λ b r q x. (wovenNumber r q x ≡ just (f .number)) ⊎ ((f .number ≡ 14) × (wovenNumber r q x ≡ nothing) × TooFewWords b r q x)))
   behind f (rules-first (book-first (memory-short l e))) = (λ z. l, λ z. let d : f .text ≡ 0 = ap (λ z. z .text) e in absurd (omega arith))
   behind f (rules-first (book-first (in-book l e))) = let d = book-is-text-1 book f e in (λ z. absurd (omega arith), λ z. absurd (omega arith))
   behind f (rules-first (in-rules {b} u e)) = let d = rules-are-text-2 b rules f e in (λ z. absurd (omega arith), λ z. absurd (omega arith))
   behind f (in-query {b} u e) = let d = query-is-text-3 b query f e in (λ z. absurd (omega arith), λ z. absurd (omega arith))
   behind f (in-request {b} {r} u q e) = let d = request-is-text-4 b r request f e in (λ z. absurd (omega arith), λ z. absurd (omega arith))
-  behind f (in-woven {b} {r} {q} {x} a n e) = let d : f .text ≡ 5 = ap (λ z. z .text) e in (λ z. absurd (omega arith), λ z. (b, r, q, x, a, inl (n ∙ ap (λ z. just (z .number)) (sym e))))
-  behind f (no-room {b} {r} {q} {x} a n l e) = let d : f .text ≡ 5 = ap (λ z. z .text) e in (λ z. absurd (omega arith), λ z. (b, r, q, x, a, inr (ap (λ z. z .number) e, n, l)))
+  behind f (in-woven {b} {r} {q} {x} a n e) = let d : f .text ≡ 5 = ap (λ z. z .text) e in
+      (λ z. absurd (omega arith), λ z. (b, r, q, x, a, inl (n ∙ ap (λ z. just (z .number)) (sym e))))
+  behind f (no-room {b} {r} {q} {x} a n l e) = let d : f .text ≡ 5 = ap (λ z. z .text) e in
+      (λ z. absurd (omega arith), λ z. (b, r, q, x, a, inr (ap (λ z. z .number) e, n, l)))
 
   -- 15 exactly if working memory is under 16,384 words
   pub found-15 : (listFound work words book rules query request ≡ refused (returned 15 0 0)) ↔ (work < 16384)
-  found-15 = (λ e. behind (returned 15 0 0) (table .refused-if (returned 15 0 0) .0 e) .0 refl, λ l. table .refused-if (returned 15 0 0) .1 (rules-first (book-first (memory-short l refl))))
+  found-15 = (
+    λ e. behind (returned 15 0 0) (table .refused-if (returned 15 0 0) .0 e) .0 refl,
+    λ l. table .refused-if (returned 15 0 0) .1
+        (rules-first (book-first (memory-short l refl))),
+  )
 
   -- 12 exactly if the texts are read and a woven limit is passed
   pub found-12 : (listFound work words book rules query request ≡ refused (returned 12 5 0)) ↔ ReadAnd (λ b r q x. T (wovenTooMany (woven r q x)))
@@ -120,7 +130,8 @@ module _ (work words : ℕ) (book rules query request : Bytes) where
   )
 
   -- 13 exactly if no limit is passed and a woven vertex is not tied to an identity
-  pub found-13 : (listFound work words book rules query request ≡ refused (returned 13 5 0)) ↔ ReadAnd (λ b r q x. (T (wovenTooMany (woven r q x)) → ⊥) × Untied (woven r q x) (x .identities))
+  pub found-13 : (listFound work words book rules query request ≡ refused (returned 13 5 0)) ↔ ReadAnd
+      (λ b r q x. (T (wovenTooMany (woven r q x)) → ⊥) × Untied (woven r q x) (x .identities))
   found-13 = (
     λ e. let (b, r, q, x, a, u) = behind (returned 13 5 0) (table .refused-if (returned 13 5 0) .0 e) .1 refl in
         (b, r, q, x, a, woven-13 (woven r q x) (x .identities) .0 (⊎-elim (λ n. n) (λ n. let z : _≡_ {A = ℕ} 13 14 = n .0 in absurd (omega arith)) u)),
@@ -128,9 +139,17 @@ module _ (work words : ℕ) (book rules query request : Bytes) where
   )
 
   -- 14 exactly if the woven pattern has no fault and the rows do not fit
-  pub found-14 : (listFound work words book rules query request ≡ refused (returned 14 5 0)) ↔ ReadAnd (λ b r q x. (wovenNumber r q x ≡ nothing) × TooFewWords b r q x)
+  pub found-14 : (listFound work words book rules query request ≡ refused (returned 14 5 0)) ↔ ReadAnd
+      (λ b r q x. (wovenNumber r q x ≡ nothing) × TooFewWords b r q x)
   found-14 = (
-    λ e. let (b, r, q, x, a, u) = behind (returned 14 5 0) (table .refused-if (returned 14 5 0) .0 e) .1 refl in
-        (b, r, q, x, a, ⊎-elim (λ n. ⊎-elim (λ z. absurd (omega arith)) (λ z. absurd (omega arith)) (woven-number (woven r q x) (x .identities) 14 n)) (λ n. (n .1, n .2)) u),
+    λ e. let (b, r, q, x, a, u) = behind (returned 14 5 0) (table .refused-if (returned 14 5 0) .0 e) .1 refl in (
+      b,
+      r,
+      q,
+      x,
+      a,
+      ⊎-elim (λ n. ⊎-elim (λ z. absurd (omega arith)) (λ z. absurd (omega arith)) (woven-number (woven r q x) (x .identities) 14 n))
+          (λ n. (n .1, n .2)) u,
+    ),
     λ u. table .refused-if (returned 14 5 0) .1 (no-room (u .4) (u .5 .0) (u .5 .1) refl),
   )

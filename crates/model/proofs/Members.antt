@@ -2,7 +2,8 @@
 use Prim.Native.Nat.{ℕ, zero, suc, _<_}
 use mathlib.Core.Path.{_≡_, refl, sym, ap, subst}
 use mathlib.Core.Logic.{_⊎_, inl, inr, ⊎-elim, _≢_}
-use mathlib.Core.List.{List, [], _∷_, map, List·Memᴰ·head, List·Memᴰ·tail, List·Memᴰ·cases-cons as cases-cons, List·Memᴰ·append-cases as append-cases, Memᴰ·append-left, Memᴰ·append-right}
+use mathlib.Core.List.{List, [], _∷_, map, List·Memᴰ·head, List·Memᴰ·tail, List·Memᴰ·cases-cons as cases-cons, List·Memᴰ·append-cases as append-cases}
+use mathlib.Core.List.{Memᴰ·append-left, Memᴰ·append-right}
 use mathlib.Core.Bool.{Bool, true, false}
 use native.Mathlib.Omega.{arith}
 use lib.ListN.{getD}
@@ -93,13 +94,15 @@ module _ {A : Type 0} where
   pub joined-i : {B : Type 0} (f : B → List A) (l : List B) (y : B) → y ∈ l → (x : A) → x ∈ f y → x ∈ joined f l
   unfolding joined
   joined-i f [] y m x n = elim m [ ]
-  joined-i f (z ∷ l) y m x n = ⊎-elim (λ e. Memᴰ·append-left (joined f l) (subst (λ w. x ∈ f w) e n)) (λ k. Memᴰ·append-right (f z) (joined-i f l y k x n)) (cases-cons m)
+  joined-i f (z ∷ l) y m x n = ⊎-elim (λ e. Memᴰ·append-left (joined f l) (subst (λ w. x ∈ f w) e n)) (λ k. Memᴰ·append-right (f z) (joined-i f l y k x n))
+      (cases-cons m)
 
   -- and an element of the lists joined is of one of them
   pub joined-e : {B : Type 0} (f : B → List A) (l : List B) (x : A) → x ∈ joined f l → (y : B) × (y ∈ l) × (x ∈ f y)
   unfolding joined
   joined-e f [] x m = elim m [ ]
-  joined-e f (z ∷ l) x m = ⊎-elim (λ n. (z, List·Memᴰ·head refl, n)) (λ n. let r = joined-e f l x n in (r .0, List·Memᴰ·tail (r .1), r .2)) (append-cases (f z) m)
+  joined-e f (z ∷ l) x m = ⊎-elim (λ n. (z, List·Memᴰ·head refl, n)) (λ n. let r = joined-e f l x n in (r .0, List·Memᴰ·tail (r .1), r .2))
+      (append-cases (f z) m)
 
 -- a test tells whether two are the same
 abbrev pub Tells : {A : Type 0} → (A → A → Bool) → Type 0
@@ -122,17 +125,20 @@ module _ {A : Type 0} (alike : A → A → Bool) (tells : Tells alike) where
   -- what is there stays
   pub addNewBy-old : (xs : List A) (w x : A) → x ∈ xs → x ∈ addNewBy alike xs w
   unfolding addNewBy
-  addNewBy-old xs w x m = ⊎-elim (λ h. rw (is-true (any (alike w) xs) h) m) (λ h. rw (is-false (any (alike w) xs) h) (Memᴰ·append-left (w ∷ []) m)) (test (any (alike w) xs))
+  addNewBy-old xs w x m = ⊎-elim (λ h. rw (is-true (any (alike w) xs) h) m) (λ h. rw (is-false (any (alike w) xs) h) (Memᴰ·append-left (w ∷ []) m))
+      (test (any (alike w) xs))
 
   -- what is added is there
   addNewBy-new : (xs : List A) (w : A) → w ∈ addNewBy alike xs w
   unfolding addNewBy
-  addNewBy-new xs w = ⊎-elim (λ h. rw (is-true (any (alike w) xs) h) (alike-e w xs h)) (λ h. rw (is-false (any (alike w) xs) h) (Memᴰ·append-right xs (List·Memᴰ·head refl))) (test (any (alike w) xs))
+  addNewBy-new xs w = ⊎-elim (λ h. rw (is-true (any (alike w) xs) h) (alike-e w xs h))
+      (λ h. rw (is-false (any (alike w) xs) h) (Memᴰ·append-right xs (List·Memᴰ·head refl))) (test (any (alike w) xs))
 
   addNewBy-e : (xs : List A) (w x : A) → x ∈ addNewBy alike xs w → (x ≡ w) ⊎ (x ∈ xs)
   unfolding addNewBy
   addNewBy-e xs w x m = ⊎-elim (λ h. inr (rw (is-true (any (alike w) xs) h) at m))
-      (λ h. ⊎-elim inr (λ n. inl (mathlib.Core.List.List·Memᴰ·eq-of-singleton n)) (append-cases xs (rw (is-false (any (alike w) xs) h) at m))) (test (any (alike w) xs))
+      (λ h. ⊎-elim inr (λ n. inl (mathlib.Core.List.List·Memᴰ·eq-of-singleton n)) (append-cases xs (rw (is-false (any (alike w) xs) h) at m)))
+      (test (any (alike w) xs))
 
   -- what was seen stays
   firstsBy-old : (seen xs : List A) (x : A) → x ∈ seen → x ∈ firstsBy alike seen xs
@@ -144,13 +150,15 @@ module _ {A : Type 0} (alike : A → A → Bool) (tells : Tells alike) where
   pub firstsBy-i : (seen xs : List A) (x : A) → x ∈ xs → x ∈ firstsBy alike seen xs
   unfolding firstsBy
   firstsBy-i seen [] x m = elim m [ ]
-  firstsBy-i seen (w ∷ xs) x m = ⊎-elim (λ e. firstsBy-old (addNewBy alike seen w) xs x (mathlib.Core.List.Memᴰ·cast e (addNewBy-new seen w))) (λ n. firstsBy-i (addNewBy alike seen w) xs x n) (cases-cons m)
+  firstsBy-i seen (w ∷ xs) x m = ⊎-elim (λ e. firstsBy-old (addNewBy alike seen w) xs x (mathlib.Core.List.Memᴰ·cast e (addNewBy-new seen w)))
+      (λ n. firstsBy-i (addNewBy alike seen w) xs x n) (cases-cons m)
 
   -- a first appearance was seen or is of the list
   pub firstsBy-e : (seen xs : List A) (x : A) → x ∈ firstsBy alike seen xs → (x ∈ seen) ⊎ (x ∈ xs)
   unfolding firstsBy
   firstsBy-e seen [] x m = inl m
-  firstsBy-e seen (w ∷ xs) x m = ⊎-elim (λ n. ⊎-elim (λ e. inr (List·Memᴰ·head e)) inl (addNewBy-e seen w x n)) (λ n. inr (List·Memᴰ·tail n)) (firstsBy-e (addNewBy alike seen w) xs x m)
+  firstsBy-e seen (w ∷ xs) x m = ⊎-elim (λ n. ⊎-elim (λ e. inr (List·Memᴰ·head e)) inl (addNewBy-e seen w x n)) (λ n. inr (List·Memᴰ·tail n))
+      (firstsBy-e (addNewBy alike seen w) xs x m)
 
 -- a name that is found stands in the list
 pub mem-e : (w : Bytes) (ws : List Bytes) → T (mem w ws) → w ∈ ws

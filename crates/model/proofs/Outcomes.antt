@@ -107,13 +107,15 @@ fault-e nothing z y e = (refl, cc)
 fault-e (just n) z y e = let w : _≡_ {A = ℕ} 0 1 = cc in absurd (omega arith)
 
 -- what holds of the state at first, and after a line of these where it held before, holds at the end
-pub lines-keep : {S : Type 0} (P : S → Type 0) (Q : Line → Type 0) (t : ℕ) (step : S → Line → Step S) → ((x : S) (l : Line) (y : S) → Q l → step x l ≡ known y → P x → P y)
+pub lines-keep : {S : Type 0} (P : S → Type 0) (Q : Line → Type 0) (t : ℕ) (step : S → Line → Step S)
+    → ((x : S) (l : Line) (y : S) → Q l → step x l ≡ known y → P x → P y)
     → (n : ℕ) (x : S) (ls : List Line) (y : S) → Each Q ls → readLines t step n x ls ≡ accepted y → P x → P y
 unfolding readLines stepThen refusal
 lines-keep P Q t step h n x [] y q e p = let d : x ≡ y = cc in subst P d p
 lines-keep {S} P Q t step h n x (l ∷ ls) y q e p = go (λ z d. lines-keep P Q t step h (n + 1) z ls y (q .1) d) (step x l) refl e
   where
-    go : ((z : S) → readLines t step (n + 1) z ls ≡ accepted y → P z → P y) → (s : Step S) → step x l ≡ s → stepThen s t n (λ z. readLines t step (n + 1) z ls) ≡ accepted y → P y
+    go : ((z : S) → readLines t step (n + 1) z ls ≡ accepted y → P z → P y) → (s : Step S) → step x l ≡ s
+        → stepThen s t n (λ z. readLines t step (n + 1) z ls) ≡ accepted y → P y
     go ih (fault k) d e = never _ y e
     go ih (known z) d e = ih z e (h x l z (q .0) d p)
 

@@ -32,7 +32,8 @@ module _ {A : Type 0} (R : A → A → Type 0) where
     pairwise-map Q f h l (u .1),
   )
 
-  pub pairwise-joined : {B : Type 0} (Q : B → B → Type 0) (f : B → List A) → ((x : B) → Pairwise R (f x)) → ((x y : B) → Q x y → (s t : A) → s ∈ f x → t ∈ f y → R s t)
+  pub pairwise-joined : {B : Type 0} (Q : B → B → Type 0) (f : B → List A) → ((x : B) → Pairwise R (f x))
+      → ((x y : B) → Q x y → (s t : A) → s ∈ f x → t ∈ f y → R s t)
       → (l : List B) → Pairwise Q l → Pairwise R (joined f l)
   unfolding joined
   pairwise-joined Q f p h [] u = tt

@@ -14,12 +14,14 @@ use Rattle.model.proofs.Decides.{same→eq, same-refl}
 use Rattle.model.proofs.Members.{_∈_, test, is-true, is-false, mem-i, Tells, same-tells}
 
 -- what stands in a list stands at its place, by a test that tells whether two are the same
-pub at-place-by : {A : Type 0} (alike : A → A → Bool) → Tells alike → (d : A) (xs : List A) (x : A) → x ∈ xs → (placeWhere (alike x) xs < length xs) × (getD xs (placeWhere (alike x) xs) d ≡ x)
+pub at-place-by : {A : Type 0} (alike : A → A → Bool) → Tells alike → (d : A) (xs : List A) (x : A) → x ∈ xs
+    → (placeWhere (alike x) xs < length xs) × (getD xs (placeWhere (alike x) xs) d ≡ x)
 unfolding placeWhere
 at-place-by alike tells d [] x m = elim m [ ]
 at-place-by alike tells d (y ∷ xs) x m = ⊎-elim
     (λ t. rw (is-true (alike x y) t) (omega arith, sym (tells .0 x y t)))
-    (λ t. ⊎-elim (λ e. absurd (t (subst (λ z. T (alike x z)) e (tells .1 x)))) (λ n. let r = at-place-by alike tells d xs x n in rw (is-false (alike x y) t) (omega (arith, r .0), r .1)) (cases-cons m)) (test (alike x y))
+    (λ t. ⊎-elim (λ e. absurd (t (subst (λ z. T (alike x z)) e (tells .1 x))))
+    (λ n. let r = at-place-by alike tells d xs x n in rw (is-false (alike x y) t) (omega (arith, r .0), r .1)) (cases-cons m)) (test (alike x y))
 
 -- a name of a list stands at its place
 pub at-place : (vs : List Bytes) (v : Bytes) → v ∈ vs → (place v vs < length vs) × (getD vs (place v vs) [] ≡ v)

@@ -22,7 +22,12 @@ use Rattle.model.proofs.WrittenPieces.{writtenPieces}
 
 -- a piece of each kind put before what follows it
 abbrev startTail : Bytes → Tail → Tail
-startTail v t = record { chain = end; conditions = []; later = record { matches = record { chain = t .chain v; conditions = t .conditions } ∷ t .later .matches; returns = t .later .returns } }
+startTail v t = record {
+  chain = end;
+  conditions = [];
+  later =
+      record { matches = record { chain = t .chain v; conditions = t .conditions } ∷ t .later .matches; returns = t .later .returns };
+}
 
 abbrev goesTail : Bytes → Bytes → Bytes → Tail → Tail
 goesTail e l u t = record { chain = λ v. right v e l (t .chain u); conditions = t .conditions; later = t .later }
@@ -66,7 +71,8 @@ matchesOf (p ∷ ps) cs = record { chain = chainOf p; conditions = behind ps cs 
 abbrev pub writtenTree : List WrittenMatch → List Condition → List Bytes → QueryText
 writtenTree ps cs vs = record { matches = matchesOf ps cs; returns = vs }
 
-tail-matches : (ps : List WrittenMatch) (cs : List Condition) (vs : List Bytes) → tailOf (writtenPieces ps cs vs) ≡ writtenTail (behind ps cs) (matchesOf ps cs) vs
+tail-matches : (ps : List WrittenMatch) (cs : List Condition) (vs : List Bytes)
+    → tailOf (writtenPieces ps cs vs) ≡ writtenTail (behind ps cs) (matchesOf ps cs) vs
 unfolding tailOf joined
 tail-matches [] cs vs = tail-asks cs vs
 tail-matches (vertexMatch v ∷ ps) cs vs = ap (startTail v) (tail-matches ps cs vs)
@@ -132,7 +138,8 @@ pub written-scopes : (p : WrittenMatch) (ps : List WrittenMatch) (cs : List Cond
     → scoped us fs (matchesOf (p ∷ ps) cs) ≡ map (scopedBy (us ++ joined matchVertices (p ∷ ps)) (fs ++ map nameIn (joined matchEdges (p ∷ ps)))) cs
 unfolding scoped joined
 written-scopes p [] cs us fs =
-    append-nil _ ∙ (λ i. map (scopedBy (us ++ (match-vertices p ∙ sym (append-nil (matchVertices p))) i) (fs ++ map nameIn ((match-edges p ∙ sym (append-nil (matchEdges p))) i))) cs)
+    append-nil _ ∙ (λ i. map (scopedBy (us ++ (match-vertices p ∙ sym (append-nil (matchVertices p))) i)
+    (fs ++ map nameIn ((match-edges p ∙ sym (append-nil (matchEdges p))) i))) cs)
 written-scopes p (r ∷ ps) cs us fs =
     written-scopes r ps cs (us ++ chainVertices (chainOf p)) (fs ++ map nameIn (chainEdges (chainOf p)))
     ∙ (λ i. map (scopedBy (v i) (w i)) cs)
@@ -147,7 +154,8 @@ written-scopes p (r ∷ ps) cs us fs =
     v = append-assoc us (chainVertices (chainOf p)) Vs ∙ ap (λ z. us ++ (z ++ Vs)) (match-vertices p)
 
     w : fs ++ map nameIn (chainEdges (chainOf p)) ++ map nameIn Es ≡ fs ++ map nameIn (matchEdges p ++ Es)
-    w = append-assoc fs (map nameIn (chainEdges (chainOf p))) (map nameIn Es) ∙ ap (λ z. fs ++ z) (sym (map-append nameIn (chainEdges (chainOf p)) Es) ∙ ap (λ z. map nameIn (z ++ Es)) (match-edges p))
+    w = append-assoc fs (map nameIn (chainEdges (chainOf p))) (map nameIn Es)
+        ∙ ap (λ z. fs ++ z) (sym (map-append nameIn (chainEdges (chainOf p)) Es) ∙ ap (λ z. map nameIn (z ++ Es)) (match-edges p))
 
 -- the Matches of the written text of q
 abbrev pub matchOfEdge : ChainEdge → WrittenMatch
@@ -183,7 +191,8 @@ edge-matches-edges (e ∷ es) = ap (λ z. e ∷ z) (edge-matches-edges es)
 
 -- their vertices
 pub matches-vertices : (vs : List Bytes) (es : List ChainEdge) → joined matchVertices (map vertexMatch vs ++ map matchOfEdge es) ≡ vs ++ joined ends es
-matches-vertices vs es = joined-append matchVertices (map vertexMatch vs) (map matchOfEdge es) ∙ (λ i. vertex-matches-vertices vs i ++ edge-matches-vertices es i)
+matches-vertices vs es = joined-append matchVertices (map vertexMatch vs) (map matchOfEdge es)
+    ∙ (λ i. vertex-matches-vertices vs i ++ edge-matches-vertices es i)
 
 -- their edges
 pub matches-edges : (vs : List Bytes) (es : List ChainEdge) → joined matchEdges (map vertexMatch vs ++ map matchOfEdge es) ≡ es

@@ -13,17 +13,21 @@ use Rattle.model.specs.Book.{Book, attrNames}
 use Rattle.model.specs.QueryText.{Condition, differ, demand, Match, QueryText}
 use Rattle.model.specs.Grammar.{returns}
 use Rattle.model.specs.Query.{ChainEdge, vertexNames, edgesOf, conditionsOf}
-use Rattle.model.specs.ReadQuery.{Scoped, scoped, unknown, typed, mistyped, isDiffer, fromItself, hasUndeclared, hasTwice, hasMistyped, tooMany, hasFromItself, queryFaults, queryFault}
+use Rattle.model.specs.ReadQuery.{Scoped, scoped, unknown, typed, mistyped, isDiffer, fromItself, hasUndeclared, hasTwice, hasMistyped, tooMany}
+use Rattle.model.specs.ReadQuery.{hasFromItself, queryFaults, queryFault}
 use Rattle.model.proofs.Decides.{and-iff, or-l, or-r, or-cases}
 use Rattle.model.proofs.Members.{_∈_, any-e, any-i, map-e, mem-i, mem-e, firsts-i}
 use Rattle.model.proofs.Chains.{condition-of}
 use Rattle.model.proofs.Outcomes.{no-fault}
 use Rattle.model.proofs.Scopes.{in-scope, joined-names, verticesIn, edgeNamesIn}
 use Rattle.model.proofs.WrittenText.{WrittenMatch}
-use Rattle.model.proofs.ReadBack.{matchesOf, matchVertices, matchEdges, nameIn, scopedBy, written-scopes, matchesFor, ends, matches-vertices, matches-edges, NonEmpty, some-match-for, readBack, back-vertices, back-edges, back-edge-names, back-conditions}
+use Rattle.model.proofs.ReadBack.{matchesOf, matchVertices, matchEdges, nameIn, scopedBy, written-scopes, matchesFor, ends, matches-vertices}
+use Rattle.model.proofs.ReadBack.{matches-edges, NonEmpty, some-match-for, readBack, back-vertices, back-edges, back-edge-names}
+use Rattle.model.proofs.ReadBack.{back-conditions}
 
 -- every condition of a written text has all its variables in scope
-some-scoped : (ps : List WrittenMatch) (cs : List Condition) → NonEmpty ps → scoped [] [] (matchesOf ps cs) ≡ map (scopedBy (joined matchVertices ps) (map nameIn (joined matchEdges ps))) cs
+some-scoped : (ps : List WrittenMatch) (cs : List Condition) → NonEmpty ps
+    → scoped [] [] (matchesOf ps cs) ≡ map (scopedBy (joined matchVertices ps) (map nameIn (joined matchEdges ps))) cs
 some-scoped [] cs h = absurd h
 some-scoped (p ∷ ps) cs h = written-scopes p ps cs [] []
 
@@ -50,7 +54,8 @@ edge-known q x (inl z) = elim z [ ]
 edge-known q x (inr m) = joined-names (q .matches) x m
 
 -- such a test that holds nowhere in a text holds nowhere in the text that is read back
-back-tested : (q : QueryText) (f : Condition → List Bytes → List Bytes → Bool) → FewerByScope f → NonEmpty (vertexNames q) → (T (any (tested f) (scoped [] [] (q .matches))) → ⊥)
+back-tested : (q : QueryText) (f : Condition → List Bytes → List Bytes → Bool) → FewerByScope f → NonEmpty (vertexNames q)
+    → (T (any (tested f) (scoped [] [] (q .matches))) → ⊥)
     → T (any (tested f) (scoped [] [] (readBack q .matches))) → ⊥
 back-tested q f d h nay t =
     let ps = matchesFor q in
@@ -64,11 +69,13 @@ back-tested q f d h nay t =
     fromScope : (c : Condition) → c ∈ conditionsOf q → T (f c (joined matchVertices (matchesFor q)) (map nameIn (joined matchEdges (matchesFor q)))) → ⊥
     fromScope c m t = inMatch c (condition-of q c m) t
       where
-        inMatch : (c : Condition) → (k : Match) × (k ∈ q .matches) × (c ∈ k .conditions) → T (f c (joined matchVertices (matchesFor q)) (map nameIn (joined matchEdges (matchesFor q)))) → ⊥
+        inMatch : (c : Condition) → (k : Match) × (k ∈ q .matches) × (c ∈ k .conditions)
+            → T (f c (joined matchVertices (matchesFor q)) (map nameIn (joined matchEdges (matchesFor q)))) → ⊥
         inMatch c (k, n, j) t = let w = in-scope [] [] (q .matches) k n c j in
             nay (any-i (tested f) (scoped [] [] (q .matches)) (w .at) (w .there)
             (d (w .at .condition) (w .at .vertices) (w .at .edges) _ _
-            (λ x p. subst (λ z. x ∈ z) (sym (matches-vertices (vertexNames q) (edgesOf q))) (Memᴰ·append-left (joined ends (edgesOf q)) (vertex-known q x (w .vertex x p))))
+            (λ x p. subst (λ z. x ∈ z) (sym (matches-vertices (vertexNames q) (edgesOf q)))
+            (Memᴰ·append-left (joined ends (edgesOf q)) (vertex-known q x (w .vertex x p))))
             (λ x p. subst (λ z. x ∈ map nameIn z) (sym (matches-edges (vertexNames q) (edgesOf q))) (edge-known q x (w .edge x p)))
             (subst (λ z. T (f z (joined matchVertices (matchesFor q)) (map nameIn (joined matchEdges (matchesFor q))))) (sym (w .is)) t)))
 
@@ -87,11 +94,13 @@ and-more a b c d f g t = let u = and-iff a b .1 t in and-iff c d .0 (f (u .0), g
 -- whether a condition is unknown is such a test
 unknown-falls : (b : Book) → FewerByScope (unknown b)
 unfolding unknown
-unknown-falls b (differ v u) us fs vs es p q t = not-falls (mem v us && mem u us) (mem v vs && mem u vs) (and-more (mem v us) (mem u us) (mem v vs) (mem u vs) (mem-more v us vs p) (mem-more u us vs p)) t
+unknown-falls b (differ v u) us fs vs es p q t = not-falls (mem v us && mem u us) (mem v vs && mem u vs)
+    (and-more (mem v us) (mem u us) (mem v vs) (mem u vs) (mem-more v us vs p) (mem-more u us vs p)) t
 unknown-falls b (demand x a r v) us fs vs es p q t =
     let A = mem a (attrNames (b .vattrs)) in let B = mem a (attrNames (b .eattrs)) in
     not-falls (mem x us && A || mem x fs && B) (mem x vs && A || mem x es && B)
-    (or-more (mem x us && A) (mem x fs && B) (mem x vs && A) (mem x es && B) (and-more (mem x us) A (mem x vs) A (mem-more x us vs p) (λ z. z)) (and-more (mem x fs) B (mem x es) B (mem-more x fs es q) (λ z. z))) t
+    (or-more (mem x us && A) (mem x fs && B) (mem x vs && A) (mem x es && B) (and-more (mem x us) A (mem x vs) A (mem-more x us vs p) (λ z. z))
+    (and-more (mem x fs) B (mem x es) B (mem-more x fs es q) (λ z. z))) t
 
 -- and whether it is mistyped
 mistyped-falls : (b : Book) → FewerByScope (mistyped b)
@@ -100,7 +109,8 @@ mistyped-falls b (differ v u) us fs vs es p q t = t
 mistyped-falls b (demand x a r v) us fs vs es p q t =
     let A = typed (b .vattrs) a r v in let B = typed (b .eattrs) a r v in
     not-falls (mem x us && A || mem x fs && B) (mem x vs && A || mem x es && B)
-    (or-more (mem x us && A) (mem x fs && B) (mem x vs && A) (mem x es && B) (and-more (mem x us) A (mem x vs) A (mem-more x us vs p) (λ z. z)) (and-more (mem x fs) B (mem x es) B (mem-more x fs es q) (λ z. z))) t
+    (or-more (mem x us && A) (mem x fs && B) (mem x vs && A) (mem x es && B) (and-more (mem x us) A (mem x vs) A (mem-more x us vs p) (λ z. z))
+    (and-more (mem x fs) B (mem x es) B (mem-more x fs es q) (λ z. z))) t
 
 -- an edge whose label is not declared
 abbrev unlabelled : Book → ChainEdge → Bool
@@ -116,7 +126,8 @@ back-undeclared b q h nay t =
     let C′ = any (tested (unknown b)) (scoped [] [] (readBack q .matches)) in
     let t′ : T (L || C′ || R) = rw (back-edges q, back-vertices q) at t in
     ⊎-elim
-    (λ u. ⊎-elim (λ w. nay (or-l (L || C) R (or-l L C w))) (λ w. back-tested q (unknown b) (unknown-falls b) h (λ z. nay (or-l (L || C) R (or-r L C z))) w) (or-cases L C′ u))
+    (λ u. ⊎-elim (λ w. nay (or-l (L || C) R (or-l L C w))) (λ w. back-tested q (unknown b) (unknown-falls b) h (λ z. nay (or-l (L || C) R (or-r L C z))) w)
+    (or-cases L C′ u))
     (λ u. nay (or-r (L || C) R u))
     (or-cases (L || C′) R t′)
 

@@ -70,6 +70,9 @@ tail-later = refl
 
 -- a whole text: its first Match is the tail behind (v) put onto v
 text-example : queryText (bytesOf "Match (v)-[e:l]->(u) Where u <> v Match (v) Return u")
-    ≡ just (record { matches = record { chain = right v e l (end u); conditions = differ u v ∷ [] } ∷ record { chain = end v; conditions = [] } ∷ []; returns = u ∷ [] })
+    ≡ just (record {
+      matches = record { chain = right v e l (end u); conditions = differ u v ∷ [] } ∷ record { chain = end v; conditions = [] } ∷ [];
+      returns = u ∷ [];
+    })
 unfolding computing
 text-example = refl

@@ -80,14 +80,32 @@ wide = "(category low (actors requestor) (over))\n(policy low \"Match (a) Match 
 abbrev inWoven : List Case
 inWoven =
     inRules wide (returned 12 5 0)
-    ∷ record { work = 16384; words = 0; book = goodBook; rules = goodRules; query = bytesOf "Match (requestor)-[a:runs]->(h) Match (t) Return h"; request = goodRequest; gives = returned 13 5 0 }
+    ∷ record {
+      work = 16384;
+      words = 0;
+      book = goodBook;
+      rules = goodRules;
+      query = bytesOf "Match (requestor)-[a:runs]->(h) Match (t) Return h";
+      request =
+          goodRequest;
+      gives = returned 13 5 0;
+    }
     ∷ []
 
 -- within a text 1, then 2, then lines upwards; 10 after all lines
 abbrev inText : List Case
 inText =
     record { work = 16384; words = 1; book = goodBook; rules = goodRules; query = replicate 2049 0; request = goodRequest; gives = returned 1 3 0 }
-    ∷ record { work = 16384; words = 1; book = bytesOf "(label)\n" ++ (0 ∷ []); rules = goodRules; query = goodQuery; request = goodRequest; gives = returned 2 1 2 }
+    ∷ record {
+      work = 16384;
+      words = 1;
+      book = bytesOf "(label)\n"
+          ++ (0 ∷ []);
+      rules = goodRules;
+      query = goodQuery;
+      request = goodRequest;
+      gives = returned 2 1 2;
+    }
     ∷ inBook "(label a)\n(node)\n(label a)\n" (returned 3 1 2)
     ∷ inRules "(category view (actors requestor) (over))\n(category)\n" (returned 3 2 2)
     ∷ inRules "(category view (actors requestor) (over))\n" (returned 10 2 0)

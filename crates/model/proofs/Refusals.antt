@@ -20,8 +20,11 @@ use Rattle.model.specs.ReadRules.{readRules}
 use Rattle.model.specs.Request.{Request, readRequest}
 use Rattle.model.specs.Weave.{askedQuery, askedPolicies, weave, wovenFault}
 use Rattle.model.specs.Rows.{rowsOf}
-use Rattle.model.specs.Service.{withWork, bookService, rulesService, queryService, requestService, writerText, writerService, FoundRows, listFound, listRows, listService}
-use Rattle.model.specs.Refused.{returned, Exactly, BookTable, memory-short, in-book, BookRead, RulesTable, book-first, in-rules, RulesRead, QueryTable, in-query, RequestTable, rules-first, in-request, WriterTable, no-room, AllRead, wovenNumber, rowsFor, foundFor, ListTable, in-woven}
+use Rattle.model.specs.Service.{withWork, bookService, rulesService, queryService, requestService, writerText, writerService, FoundRows}
+use Rattle.model.specs.Service.{listFound, listRows, listService}
+use Rattle.model.specs.Refused.{returned, Exactly, BookTable, memory-short, in-book, BookRead, RulesTable, book-first, in-rules, RulesRead}
+use Rattle.model.specs.Refused.{QueryTable, in-query, RequestTable, rules-first, in-request, WriterTable, no-room, AllRead, wovenNumber}
+use Rattle.model.specs.Refused.{rowsFor, foundFor, ListTable, in-woven}
 use Rattle.model.proofs.Members.{test, is-true, is-false}
 use Rattle.model.proofs.Faults.{over-refused, number-refused, need-refused}
 use Rattle.model.proofs.Outcomes.{never, accept-e, if-e}
@@ -45,16 +48,22 @@ unfolding withWork refusal
 after-book work book g f =
     let w = over-refused work 16384 (returned 15 0 0) (onAccept (readBook book) g) f in
     let n = need-refused (readBook book) g f in (
-      λ e. ⊎-elim (λ u. inl (memory-short (u .0) (u .1))) (λ u. ⊎-elim (λ d. inl (in-book (u .0) d)) (λ v. inr (v .0, record { memory-whole = u .0; book-read = v .1 }, v .2)) (n .0 (u .1))) (w .0 e),
-      ⊎-elim (λ t. w .1 (elim t [ memory-short l e ↦ inl (l, e) | in-book l e ↦ inr (l, n .1 (inl e)) ])) (λ u. w .1 (inr (u .1 .memory-whole, n .1 (inr (u .0, u .1 .book-read, u .2))))),
+      λ e. ⊎-elim (λ u. inl (memory-short (u .0) (u .1)))
+          (λ u. ⊎-elim (λ d. inl (in-book (u .0) d)) (λ v. inr (v .0, record { memory-whole = u .0; book-read = v .1 }, v .2)) (n .0 (u .1))) (w .0 e),
+      ⊎-elim (λ t. w .1 (elim t [ memory-short l e ↦ inl (l, e) | in-book l e ↦ inr (l, n .1 (inl e)) ]))
+          (λ u. w .1 (inr (u .1 .memory-whole, n .1 (inr (u .0, u .1 .book-read, u .2))))),
     )
 
 -- what a service gives behind the rules
 after-rules : {A : Type 0} (work : ℕ) (book rules : Bytes) (g : Book → Rules → Outcome A) (f : Refusal)
-    → (withWork work (onAccept (readBook book) (λ b. onAccept (readRules b rules) (g b))) ≡ refused f) ↔ (RulesTable work book rules f ⊎ ((b : Book) × (r : Rules) × RulesRead work book rules b r × (g b r ≡ refused f)))
+    → (withWork work (onAccept (readBook book) (λ b. onAccept (readRules b rules) (g b))) ≡ refused f) ↔
+    (RulesTable work book rules f ⊎ ((b : Book) × (r : Rules) × RulesRead work book rules b r × (g b r ≡ refused f)))
 after-rules {A} work book rules g f = (
-  λ e. ⊎-elim (λ t. inl (book-first t)) (λ u. ⊎-elim (λ d. inl (in-rules (u .1) d)) (λ v. inr (u .0, v .0, record { book-before = u .1; rules-read = v .1 }, v .2)) (need-refused (readRules (u .0) rules) (g (u .0)) f .0 (u .2))) (before .0 e),
-  λ u. before .1 (⊎-elim (λ t. table t) (λ v. inr (v .0, v .2 .book-before, need-refused (readRules (v .0) rules) (g (v .0)) f .1 (inr (v .1, v .2 .rules-read, v .3)))) u),
+  λ e. ⊎-elim (λ t. inl (book-first t)) (λ u. ⊎-elim (λ d. inl (in-rules (u .1) d))
+      (λ v. inr (u .0, v .0, record { book-before = u .1; rules-read = v .1 }, v .2)) (need-refused (readRules (u .0) rules) (g (u .0)) f .0 (u .2)))
+      (before .0 e),
+  λ u. before .1 (⊎-elim (λ t. table t) (λ v. inr
+      (v .0, v .2 .book-before, need-refused (readRules (v .0) rules) (g (v .0)) f .1 (inr (v .1, v .2 .rules-read, v .3)))) u),
 )
   where
     rest : Book → Outcome A
@@ -73,18 +82,21 @@ accepts a f e = never f a (sym e)
 -- the book reader refuses by its table, and else accepts
 pub book-table : (work : ℕ) (book : Bytes) → Exactly (bookService work book .answer) (BookTable work book)
 unfolding bookService
-book-table work book = exactly _ (BookTable work book) (λ f. let h = after-book work book _ f in (λ e. ⊎-elim (λ t. t) (λ u. accepts _ f (u .2)) (h .0 e), λ t. h .1 (inl t)))
+book-table work book = exactly _ (BookTable work book)
+    (λ f. let h = after-book work book _ f in (λ e. ⊎-elim (λ t. t) (λ u. accepts _ f (u .2)) (h .0 e), λ t. h .1 (inl t)))
 
 -- the rules reader refuses by its table, and else accepts
 pub rules-table : (work : ℕ) (book rules : Bytes) → Exactly (rulesService work book rules .answer) (RulesTable work book rules)
 unfolding rulesService
-rules-table work book rules = exactly _ (RulesTable work book rules) (λ f. let h = after-rules work book rules _ f in (λ e. ⊎-elim (λ t. t) (λ u. accepts _ f (u .3)) (h .0 e), λ t. h .1 (inl t)))
+rules-table work book rules = exactly _ (RulesTable work book rules)
+    (λ f. let h = after-rules work book rules _ f in (λ e. ⊎-elim (λ t. t) (λ u. accepts _ f (u .3)) (h .0 e), λ t. h .1 (inl t)))
 
 -- the query reader refuses by its table, and else accepts
 pub query-table : (work : ℕ) (book query : Bytes) → Exactly (queryService work book query .answer) (QueryTable work book query)
 unfolding queryService
 query-table work book query = exactly _ (QueryTable work book query) (λ f. (
-  λ e. ⊎-elim book-first (λ u. ⊎-elim (in-query (u .1)) (λ v. accepts _ f (v .2)) (need-refused (readQuery (u .0) query) _ f .0 (u .2))) (after-book work book _ f .0 e),
+  λ e. ⊎-elim book-first (λ u. ⊎-elim (in-query (u .1)) (λ v. accepts _ f (v .2)) (need-refused (readQuery (u .0) query) _ f .0 (u .2)))
+      (after-book work book _ f .0 e),
   back f,
 ))
   where
@@ -96,7 +108,8 @@ query-table work book query = exactly _ (QueryTable work book query) (λ f. (
 pub request-table : (work : ℕ) (book rules request : Bytes) → Exactly (requestService work book rules request .answer) (RequestTable work book rules request)
 unfolding requestService
 request-table work book rules request = exactly _ (RequestTable work book rules request) (λ f. (
-  λ e. ⊎-elim rules-first (λ u. ⊎-elim (in-request (u .2)) (λ v. accepts _ f (v .2)) (need-refused (readRequest (u .0) (u .1) request) _ f .0 (u .3))) (after-rules work book rules _ f .0 e),
+  λ e. ⊎-elim rules-first (λ u. ⊎-elim (in-request (u .2)) (λ v. accepts _ f (v .2)) (need-refused (readRequest (u .0) (u .1) request) _ f .0 (u .3)))
+      (after-rules work book rules _ f .0 e),
   back f,
 ))
   where
@@ -105,10 +118,13 @@ request-table work book rules request = exactly _ (RequestTable work book rules 
     back f (in-request {b} {r} u e) = after-rules work book rules _ f .1 (inr (b, r, u, need-refused (readRequest b r request) _ f .1 (inl e)))
 
 -- refused if k is over m or over n
-either-refused : {A : Type 0} (m n k : ℕ) (g : Refusal) (a : A) (f : Refusal) → (pick (ltb m k || ltb n k) (refused g) (accepted a) ≡ refused f) ↔ (((m < k) ⊎ (n < k)) × (f ≡ g))
+either-refused : {A : Type 0} (m n k : ℕ) (g : Refusal) (a : A) (f : Refusal)
+    → (pick (ltb m k || ltb n k) (refused g) (accepted a) ≡ refused f) ↔ (((m < k) ⊎ (n < k)) × (f ≡ g))
 either-refused {A} m n k g a f = ⊎-elim
-    (λ t. rw (is-true (ltb m k || ltb n k) t) (λ e. (⊎-elim (λ u. inl (ltb→lt m k u)) (λ u. inr (ltb→lt n k u)) (or-cases (ltb m k) (ltb n k) t), cc), λ u. ap refused (sym (u .1))))
-    (λ t. rw (is-false (ltb m k || ltb n k) t) (λ e. accepts a f e, λ u. absurd (t (⊎-elim (λ l. or-l (ltb m k) (ltb n k) (lt→ltb m k l)) (λ l. or-r (ltb m k) (ltb n k) (lt→ltb n k l)) (u .0)))))
+    (λ t. rw (is-true (ltb m k || ltb n k) t)
+    (λ e. (⊎-elim (λ u. inl (ltb→lt m k u)) (λ u. inr (ltb→lt n k u)) (or-cases (ltb m k) (ltb n k) t), cc), λ u. ap refused (sym (u .1))))
+    (λ t. rw (is-false (ltb m k || ltb n k) t)
+    (λ e. accepts a f e, λ u. absurd (t (⊎-elim (λ l. or-l (ltb m k) (ltb n k) (lt→ltb m k l)) (λ l. or-r (ltb m k) (ltb n k) (lt→ltb n k l)) (u .0)))))
     (test (ltb m k || ltb n k))
 
 -- the written query is refused by the writer's table, and else given
@@ -116,7 +132,8 @@ pub writer-table : (work room : ℕ) (book rules query : Bytes) → Exactly (wri
 unfolding writerText refusal
 writer-table work room book rules query = exactly _ (WriterTable work room book rules query) (λ f. (
   λ e. ⊎-elim rules-first (λ u. ⊎-elim (in-query (u .2))
-      (λ v. let w = either-refused room 2048 (length (writtenQuery (patternOf (v .0)))) (returned 14 3 1) (writtenQuery (patternOf (v .0))) f .0 (v .2) in no-room (u .2) (v .1) (w .0) (w .1))
+      (λ v. let w = either-refused room 2048 (length (writtenQuery (patternOf (v .0)))) (returned 14 3 1) (writtenQuery (patternOf (v .0))) f .0 (v .2) in
+      no-room (u .2) (v .1) (w .0) (w .1))
       (need-refused (readQuery (u .0) query) _ f .0 (u .3))) (after-rules work book rules _ f .0 e),
   back f,
 ))
@@ -135,57 +152,79 @@ writer-table work room book rules query = exactly _ (WriterTable work room book 
 -- behind the four texts the list gives this refusal
 abbrev Behind : ℕ → Book → Rules → QueryText → Request → Refusal → Type 0
 Behind words b r q x f =
-    refusedIf (wovenNumber r q x) 5 0 (pick (ltb words (length (rowsFor b r q x) * length (q .returns))) (refused (returned 14 5 0)) (accepted (foundFor b r q x))) ≡ refused f
+    refusedIf (wovenNumber r q x) 5 0 (pick (ltb words (length (rowsFor b r q x) * length (q .returns))) (refused (returned 14 5 0))
+    (accepted (foundFor b r q x))) ≡ refused f
 
 woven-refused : (words : ℕ) (b : Book) (r : Rules) (q : QueryText) (x : Request) (f : Refusal)
-    → Behind words b r q x f ↔ (((n : ℕ) × (wovenNumber r q x ≡ just n) × (f ≡ returned n 5 0)) ⊎ ((wovenNumber r q x ≡ nothing) × (words < length (rowsFor b r q x) * length (q .returns)) × (f ≡ returned 14 5 0)))
+    → Behind words b r q x f ↔ (((n : ℕ) × (wovenNumber r q x ≡ just n) × (f ≡ returned n 5 0)) ⊎
+    ((wovenNumber r q x ≡ nothing) × (words < length (rowsFor b r q x) * length (q .returns)) × (f ≡ returned 14 5 0)))
 woven-refused words b r q x f =
-    let h = number-refused (wovenNumber r q x) 5 0 (pick (ltb words (length (rowsFor b r q x) * length (q .returns))) (refused (returned 14 5 0)) (accepted (foundFor b r q x))) f in
+    let h = number-refused (wovenNumber r q x) 5 0
+    (pick (ltb words (length (rowsFor b r q x) * length (q .returns))) (refused (returned 14 5 0)) (accepted (foundFor b r q x))) f in
     let o = over-refused words (length (rowsFor b r q x) * length (q .returns)) (returned 14 5 0) (accepted (foundFor b r q x)) f in (
       λ e. ⊎-elim inl (λ u. inr (⊎-elim (λ v. (u .0, v .0, v .1)) (λ v. accepts _ f (v .1)) (o .0 (u .1)))) (h .0 e),
       λ u. h .1 (⊎-elim inl (λ v. inr (v .0, o .1 (inl (v .1, v .2)))) u),
     )
 
 -- what the list finds is refused by the list's table, and else given
-pub found-table : (work words : ℕ) (book rules query request : Bytes) → Exactly (listFound work words book rules query request) (ListTable work words book rules query request)
+pub found-table : (work words : ℕ) (book rules query request : Bytes)
+    → Exactly (listFound work words book rules query request) (ListTable work words book rules query request)
 unfolding listFound refusal
 found-table work words book rules query request = exactly _ (ListTable work words book rules query request) (λ f. (
   λ e. ⊎-elim rules-first (λ u. ⊎-elim (in-query (u .2)) (λ v. ⊎-elim (in-request (u .2) (v .1))
-      (λ w. let a : AllRead work book rules query request (u .0) (u .1) (v .0) (w .0) = record { rules-before = u .2; query-read = v .1; request-read = w .1 } in
+      (λ w. let a : AllRead work book rules query request (u .0) (u .1) (v .0) (w .0) =
+      record { rules-before = u .2; query-read = v .1; request-read = w .1 } in
       ⊎-elim (λ z. in-woven a (z .1) (z .2)) (λ z. no-room a (z .0) (z .1) (z .2)) (woven-refused words (u .0) (u .1) (v .0) (w .0) f .0 (w .2)))
       (need-refused (readRequest (u .0) (u .1) request) _ f .0 (v .2)))
       (need-refused (readQuery (u .0) query) _ f .0 (u .3))) (after-rules work book rules _ f .0 e),
   back f,
 ))
   where
-    behind-texts : (f : Refusal) (b : Book) (r : Rules) (q : QueryText) (x : Request) → AllRead work book rules query request b r q x → Behind words b r q x f → listFound work words book rules query request ≡ refused f
-    behind-texts f b r q x a e = after-rules work book rules _ f .1 (inr (b, r, a .rules-before, need-refused (readQuery b query) _ f .1 (inr (q, a .query-read, need-refused (readRequest b r request) _ f .1 (inr (x, a .request-read, e))))))
+    behind-texts : (f : Refusal) (b : Book) (r : Rules) (q : QueryText) (x : Request) → AllRead work book rules query request b r q x
+        → Behind words b r q x f → listFound work words book rules query request ≡ refused f
+    behind-texts f b r q x a e = after-rules work book rules _ f .1
+        (inr (
+          b,
+          r,
+          a .rules-before,
+          need-refused (readQuery b query) _ f .1
+              (inr (q, a .query-read, need-refused (readRequest b r request) _ f .1 (inr (x, a .request-read, e)))),
+        ))
 
     back : (f : Refusal) → ListTable work words book rules query request f → listFound work words book rules query request ≡ refused f
     back f (rules-first t) = after-rules work book rules _ f .1 (inl t)
     back f (in-query {b} {r} u e) = after-rules work book rules _ f .1 (inr (b, r, u, need-refused (readQuery b query) _ f .1 (inl e)))
-    back f (in-request {b} {r} {q} u e d) = after-rules work book rules _ f .1 (inr (b, r, u, need-refused (readQuery b query) _ f .1 (inr (q, e, need-refused (readRequest b r request) _ f .1 (inl d)))))
+    back f (in-request {b} {r} {q} u e d) = after-rules work book rules _ f .1
+        (inr (b, r, u, need-refused (readQuery b query) _ f .1 (inr (q, e, need-refused (readRequest b r request) _ f .1 (inl d)))))
     back f (in-woven {b} {r} {q} {x} {n} a e d) = behind-texts f b r q x a (woven-refused words b r q x f .1 (inl (n, e, d)))
     back f (no-room {b} {r} {q} {x} a e l d) = behind-texts f b r q x a (woven-refused words b r q x f .1 (inr (e, l, d)))
 
 -- an answer made of what is accepted is refused as that is
 answer-exactly : {A B : Type 0} (o : Outcome A) (g : A → B) (Table : Refusal → Type 0) → Exactly o Table → Exactly (onAccept o (λ a. accepted (g a))) Table
-answer-exactly o g Table h = exactly _ Table (λ f. let n = need-refused o (λ a. accepted (g a)) f in (λ e. ⊎-elim (h .refused-if f .0) (λ u. accepts _ f (u .2)) (n .0 e), λ t. n .1 (inl (h .refused-if f .1 t))))
+answer-exactly o g Table h = exactly _ Table
+    (λ f. let n = need-refused o (λ a. accepted (g a)) f in
+    (λ e. ⊎-elim (h .refused-if f .0) (λ u. accepts _ f (u .2)) (n .0 e), λ t. n .1 (inl (h .refused-if f .1 t))))
 
 -- the rows are refused by the list's table, and else given
-pub list-table : (work words : ℕ) (book rules query request : Bytes) → Exactly (listRows work words book rules query request) (ListTable work words book rules query request)
+pub list-table : (work words : ℕ) (book rules query request : Bytes)
+    → Exactly (listRows work words book rules query request) (ListTable work words book rules query request)
 unfolding listRows
-list-table work words book rules query request = answer-exactly (listFound work words book rules query request) (λ f. f .rows) _ (found-table work words book rules query request)
+list-table work words book rules query request = answer-exactly (listFound work words book rules query request) (λ f. f .rows) _
+    (found-table work words book rules query request)
 
 -- the query writer refuses by its table, and else answers
-pub writer-service-table : (work : ℕ) (buffer book rules query : Bytes) → Exactly (writerService work buffer book rules query .answer) (WriterTable work (length buffer) book rules query)
+pub writer-service-table : (work : ℕ) (buffer book rules query : Bytes)
+    → Exactly (writerService work buffer book rules query .answer) (WriterTable work (length buffer) book rules query)
 unfolding writerService
-writer-service-table work buffer book rules query = answer-exactly (writerText work (length buffer) book rules query) length _ (writer-table work (length buffer) book rules query)
+writer-service-table work buffer book rules query = answer-exactly (writerText work (length buffer) book rules query) length _
+    (writer-table work (length buffer) book rules query)
 
 -- the list refuses by its table, and else answers
-pub list-service-table : (work words : ℕ) (book rules query request : Bytes) → Exactly (listService work words book rules query request .answer) (ListTable work words book rules query request)
+pub list-service-table : (work words : ℕ) (book rules query request : Bytes)
+    → Exactly (listService work words book rules query request .answer) (ListTable work words book rules query request)
 unfolding listService
-list-service-table work words book rules query request = answer-exactly (listFound work words book rules query request) (λ f. record { rows = length (f .rows); width = f .width }) _ (found-table work words book rules query request)
+list-service-table work words book rules query request = answer-exactly (listFound work words book rules query request)
+    (λ f. record { rows = length (f .rows); width = f .width }) _ (found-table work words book rules query request)
 
 -- an accepted list: all four texts are read, the woven pattern has no fault, the rows fit, and they are the rows that may be had
 pub record ListGiven (work words : ℕ) (book rules query request : Bytes) (found : FoundRows) : Type 0 where
@@ -199,13 +238,15 @@ pub record ListGiven (work words : ℕ) (book rules query request : Bytes) (foun
   pub found-is : found ≡ foundFor b r q x
 
 within : {A : Type 0} (m n : ℕ) (g : Refusal) (o : Outcome A) (a : A) → pick (ltb m n) (refused g) o ≡ accepted a → (n ≤ m) × (o ≡ accepted a)
-within m n g o a e = ⊎-elim (λ t. never g a (rw (is-true (ltb m n) t) at e)) (λ t. (nltb→le m n (not-T (ltb m n) t), rw (is-false (ltb m n) t) at e)) (test (ltb m n))
+within m n g o a e = ⊎-elim (λ t. never g a (rw (is-true (ltb m n) t) at e)) (λ t. (nltb→le m n (not-T (ltb m n) t), rw (is-false (ltb m n) t) at e))
+    (test (ltb m n))
 
 same-accepted : {A : Type 0} (a c : A) → _≡_ {A = Outcome A} (accepted a) (accepted c) → a ≡ c
 same-accepted a c e = cc
 
 -- a list that is accepted is so given
-pub list-given : (work words : ℕ) (book rules query request : Bytes) (found : FoundRows) → listFound work words book rules query request ≡ accepted found → ListGiven work words book rules query request found
+pub list-given : (work words : ℕ) (book rules query request : Bytes) (found : FoundRows) → listFound work words book rules query request ≡ accepted found
+    → ListGiven work words book rules query request found
 unfolding listFound withWork refusal
 list-given work words book rules query request found e =
     let w = within work 16384 (returned 15 0 0) _ found e in
@@ -215,15 +256,31 @@ list-given work words book rules query request found e =
     let f = accept-e (readRequest (a .0) (c .0) request) _ found (d .2) in
     let g = if-e (wovenNumber (c .0) (d .0) (f .0)) 5 0 _ found (f .2) in
     let read : AllRead work book rules query request (a .0) (c .0) (d .0) (f .0) =
-    record { rules-before = record { book-before = record { memory-whole = w .0; book-read = a .1 }; rules-read = c .1 }; query-read = d .1; request-read = f .1 } in
+    record {
+      rules-before = record { book-before = record { memory-whole = w .0; book-read = a .1 }; rules-read = c .1 };
+      query-read = d .1;
+      request-read =
+          f .1;
+    } in
     last (a .0) (c .0) (d .0) (f .0) read (g .0) (g .1)
   where
     last : (b : Book) (r : Rules) (q : QueryText) (x : Request) → AllRead work book rules query request b r q x → wovenNumber r q x ≡ nothing
-        → pick (ltb words (length (rowsFor b r q x) * length (q .returns))) (refused (returned 14 5 0)) (accepted (foundFor b r q x)) ≡ accepted found → ListGiven work words book rules query request found
+        → pick (ltb words (length (rowsFor b r q x) * length (q .returns))) (refused (returned 14 5 0)) (accepted (foundFor b r q x)) ≡ accepted found
+        → ListGiven work words book rules query request found
     last b r q x read n e =
         let h = within words (length (rowsFor b r q x) * length (q .returns)) (returned 14 5 0) (accepted (foundFor b r q x)) found e in
         let i = same-accepted (foundFor b r q x) found (h .1) in
-        record { b = b; r = r; q = q; x = x; read = read; woven = n; fits = subst (λ (z : FoundRows). length (z .rows) * length (q .returns) ≤ words) i (h .0); found-is = sym i }
+        record {
+          b = b;
+          r = r;
+          q = q;
+          x = x;
+          read = read;
+          woven = n;
+          fits = subst (λ (z : FoundRows). length (z .rows) * length (q .returns) ≤ words) i
+              (h .0);
+          found-is = sym i;
+        }
 
 -- rows that are accepted stand in an accepted list
 pub rows-found : (work words : ℕ) (book rules query request : Bytes) (rows : List (List ℕ)) → listRows work words book rules query request ≡ accepted rows

@@ -48,9 +48,21 @@ record Case : Type 0 where
 -- one identity; many spaces; no spaces beside brackets, two identities of one node, an actor named like its category; none for the requestor; a second line
 abbrev cases : List Case
 cases =
-    record { request = "(request view (id requestor ana))\n"; answer = gives 0 1 (at 18 9 0 ∷ noIdentity ∷ noIdentity ∷ noIdentity ∷ noIdentity ∷ noIdentity ∷ noIdentity ∷ noIdentity ∷ []) }
-    ∷ record { request = "  ( request   view  (  id   requestor  hub  )  )  \n"; answer = gives 0 1 (at 28 9 1 ∷ noIdentity ∷ noIdentity ∷ noIdentity ∷ noIdentity ∷ noIdentity ∷ noIdentity ∷ noIdentity ∷ []) }
-    ∷ record { request = "(request edit(id edit hub)(id requestor hub))\n"; answer = gives 1 2 (at 17 4 1 ∷ at 30 9 1 ∷ noIdentity ∷ noIdentity ∷ noIdentity ∷ noIdentity ∷ noIdentity ∷ noIdentity ∷ []) }
+    record {
+      request = "(request view (id requestor ana))\n";
+      answer = gives 0 1
+          (at 18 9 0 ∷ noIdentity ∷ noIdentity ∷ noIdentity ∷ noIdentity ∷ noIdentity ∷ noIdentity ∷ noIdentity ∷ []);
+    }
+    ∷ record {
+      request = "  ( request   view  (  id   requestor  hub  )  )  \n";
+      answer = gives 0 1
+          (at 28 9 1 ∷ noIdentity ∷ noIdentity ∷ noIdentity ∷ noIdentity ∷ noIdentity ∷ noIdentity ∷ noIdentity ∷ []);
+    }
+    ∷ record {
+      request = "(request edit(id edit hub)(id requestor hub))\n";
+      answer = gives 1 2
+          (at 17 4 1 ∷ at 30 9 1 ∷ noIdentity ∷ noIdentity ∷ noIdentity ∷ noIdentity ∷ noIdentity ∷ noIdentity ∷ []);
+    }
     ∷ record { request = "(request edit (id edit hub))\n"; answer = refuses 11 1 }
     ∷ record { request = "(request view (id requestor ana))\n\n"; answer = refuses 3 2 }
     ∷ []

@@ -57,7 +57,8 @@ round-trip b s q e l = let v = accepted-vertex b s q e in record {
 }
 
 -- and for the policies of accepted rules
-pub policy-round-trip : (b : Book) (s : Bytes) (r : Rules) → readRules b s ≡ accepted r → (p : Policy) → p ∈ r .policies → length (writtenQuery (patternOf (p .text))) ≤ 2048 → ReadsBack b (p .text)
+pub policy-round-trip : (b : Book) (s : Bytes) (r : Rules) → readRules b s ≡ accepted r → (p : Policy) → p ∈ r .policies
+    → length (writtenQuery (patternOf (p .text))) ≤ 2048 → ReadsBack b (p .text)
 policy-round-trip b s r e p k = let t = policy-is-query b s r e p k in round-trip b (t .0) (p .text) (t .1)
 
 -- `Match (v)` and `Match (u)-[e:label]->(v)`
@@ -78,7 +79,8 @@ paperForm q =
 -- the written text of an accepted query has this form
 pub written-in-paper-form : (b : Book) (s : Bytes) (q : QueryText) → readQuery b s ≡ accepted q → writtenQuery (patternOf q) ≡ paperForm q
 written-in-paper-form b s q e = written-form q (query-named b s q e) ∙ ap with-matches
-    (map-append matchText (map vertexMatch (vertexNames q)) (map matchOfEdge (edgesOf q)) ∙ (λ i. map-map matchText vertexMatch (vertexNames q) i ++ map-map matchText matchOfEdge (edgesOf q) i))
+    (map-append matchText (map vertexMatch (vertexNames q)) (map matchOfEdge (edgesOf q))
+    ∙ (λ i. map-map matchText vertexMatch (vertexNames q) i ++ map-map matchText matchOfEdge (edgesOf q) i))
   where
     with-matches : List Bytes → Bytes
     with-matches ms =
@@ -105,7 +107,16 @@ writer-gives work room book rules query t e =
     let d = accept-e (readQuery (a .0) query) _ t (c .2) in
     let q : QueryText = d .0 in
     let f = fits (writtenQuery (patternOf q)) (ltb room (length (writtenQuery (patternOf q)))) (ltb 2048 (length (writtenQuery (patternOf q)))) refl (d .2) in
-    record { b = a .0; q = q; book-read = a .1; query-read = d .1; is-written = f .0; in-form = sym (f .0) ∙ written-in-paper-form (a .0) query q (d .1); reads-back = round-trip (a .0) query q (d .1) (f .1) }
+    record {
+      b = a .0;
+      q = q;
+      book-read = a .1;
+      query-read = d .1;
+      is-written = f .0;
+      in-form = sym (f .0)
+          ∙ written-in-paper-form (a .0) query q (d .1);
+      reads-back = round-trip (a .0) query q (d .1) (f .1);
+    }
   where
     fits : (w : Bytes) (c d : Bool) → ltb 2048 (length w) ≡ d → pick (c || d) (refusal 14 3 1) (accepted w) ≡ accepted t → (w ≡ t) × (length w ≤ 2048)
     fits w true d z e = never _ t e

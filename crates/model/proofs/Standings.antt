@@ -46,7 +46,8 @@ pub placed-skip : (chain close : Bool) (k i : ℕ) (s : Bytes) → placed chain 
 unfolding placed
 placed-skip chain close zero i s = let e : i ≡ i + 0 = omega arith in ap (λ n. placed chain close 0 n s) e
 placed-skip chain close (suc k) i [] = refl
-placed-skip chain close (suc k) i (b ∷ s) = let e : i + 1 + k ≡ i + suc k = omega arith in placed-skip chain close k (i + 1) s ∙ ap (λ n. placed chain close 0 n (drop k s)) e
+placed-skip chain close (suc k) i (b ∷ s) = let e : i + 1 + k ≡ i + suc k = omega arith in
+    placed-skip chain close k (i + 1) s ∙ ap (λ n. placed chain close 0 n (drop k s)) e
 
 -- a sign has no more bytes than there are; a text value leaves its apostrophes
 abbrev Fits : ℕ → Sign → Type 0
@@ -70,7 +71,8 @@ unfolding before andThen
 before-fits q [] t e = let z : _≡_ {A = ℕ} 0 1 = cc in omega arith
 before-fits q (b ∷ s) t e = go (eqb b q) (before q s) (λ u f. before-fits q s u f) e
   where
-    go : (x : Bool) (m : Maybe Bytes) → ((u : Bytes) → m ≡ just u → length u < length s) → pick x (just []) (andThen m (λ t. just (b ∷ t))) ≡ just t → length t < suc (length s)
+    go : (x : Bool) (m : Maybe Bytes) → ((u : Bytes) → m ≡ just u → length u < length s) → pick x (just []) (andThen m (λ t. just (b ∷ t))) ≡ just t
+        → length t < suc (length s)
     go true m f e = let z : [] ≡ t = cc in rw (← z) (omega arith)
     go false nothing f e = let z : _≡_ {A = ℕ} 0 1 = cc in omega arith
     go false (just u) f e = let z : (b ∷ u) ≡ t = cc in let l = f u refl in rw (← z) (omega arith)
@@ -92,7 +94,8 @@ text-fits : (s : Bytes) → Fits (suc (length s)) (orBroken text (textAt s) .got
 unfolding orBroken textAt andThen
 text-fits s = go (before 39 s) refl
   where
-    go : (m : Maybe Bytes) → before 39 s ≡ m → Fits (suc (length s)) (orBroken text (andThen m (λ t. pick (isText t) (just (record { got = t; size = length t + 2 })) nothing)) .got)
+    go : (m : Maybe Bytes) → before 39 s ≡ m
+        → Fits (suc (length s)) (orBroken text (andThen m (λ t. pick (isText t) (just (record { got = t; size = length t + 2 })) nothing)) .got)
     go nothing e = tt
     go (just t) e = some (isText t)
       where
@@ -113,7 +116,9 @@ sign-fits : (chain : Bool) (b : ℕ) (s : Bytes) → Fits (suc (length s)) (sign
 unfolding signAt
 sign-fits chain b s = go (isLetter b) (isDigit b || eqb b 45 && digitNext s) (eqb b 39)
   where
-    go : (x y z : Bool) → Fits (suc (length s)) (pick x (orBroken word (wordAt (b ∷ s))) (pick y (orBroken whole (wholeAt (b ∷ s))) (pick z (orBroken text (textAt s)) (markAt (marks chain) (b ∷ s)))) .got)
+    go : (x y z : Bool) → Fits (suc (length s))
+        (pick x (orBroken word (wordAt (b ∷ s)))
+        (pick y (orBroken whole (wholeAt (b ∷ s))) (pick z (orBroken text (textAt s)) (markAt (marks chain) (b ∷ s)))) .got)
     go true y z = word-fits (b ∷ s)
     go false true z = whole-fits (suc (length s)) (wholeAt (b ∷ s))
     go false false true = text-fits s
@@ -148,7 +153,8 @@ standings-end chain close (suc k) i (b ∷ s) o = let e : i + 1 + length s ≡ i
 standings-end chain close zero i (b ∷ s) o =
     let g = signAt chain b s in
     let rest = placed (chainBehind chain (g .got)) (wordy (g .got)) (g .size - 1) (i + 1) s in
-    go (eqb b 32 || eqb b 10) (close && wordy (g .got)) (g .got) (placed chain false 0 (i + 1) s) rest (sign-fits chain b s) (standings-end chain false 0 (i + 1) s o)
+    go (eqb b 32 || eqb b 10) (close && wordy (g .got)) (g .got) (placed chain false 0 (i + 1) s) rest (sign-fits chain b s)
+    (standings-end chain false 0 (i + 1) s o)
     (λ o. standings-end (chainBehind chain (g .got)) (wordy (g .got)) (g .size - 1) (i + 1) s o)
   where
     one : i + 1 + length s ≡ i + suc (length s)
@@ -158,5 +164,7 @@ standings-end chain close zero i (b ∷ s) o =
         → ((o : Bracket) → Each (EndsBy (i + 1 + length s)) (standings o rest))
         → Each (EndsBy (i + suc (length s))) (standings o (pick x blanks (here (pick y broken t) i ∷ rest)))
     go true y t blanks rest h e f = rw one at e
-    go false true t blanks rest h e f = each-more (EndsBy (i + suc (length s))) (standingAt broken o i) _ (sign-ends (suc (length s)) i broken o tt) (rw one at (f (bracketOf broken)))
-    go false false t blanks rest h e f = each-more (EndsBy (i + suc (length s))) (standingAt t o i) _ (sign-ends (suc (length s)) i t o h) (rw one at (f (bracketOf t)))
+    go false true t blanks rest h e f = each-more (EndsBy (i + suc (length s))) (standingAt broken o i) _ (sign-ends (suc (length s)) i broken o tt)
+        (rw one at (f (bracketOf broken)))
+    go false false t blanks rest h e f = each-more (EndsBy (i + suc (length s))) (standingAt t o i) _ (sign-ends (suc (length s)) i t o h)
+        (rw one at (f (bracketOf t)))

@@ -18,11 +18,17 @@ use Rattle.model.specs.ReadRules.{RulesLine, category, policy, rulesFaul
 use Rattle.model.specs.Request.{requestFault, requestStep, readRequest}
 use Rattle.model.specs.Graph.{Each}
 use Rattle.model.specs.Service.{bookService, rulesService, queryService, requestService, writerService, listService}
-use Rattle.model.specs.RefusalTable.{IsText, LineOf, NameOn, TableRow, memory-is-short, text-too-long, byte-not-allowed, grammar-broken, not-declared, second-time, not-of-the-type, passes-the-limit, excluded-from-itself, lacks-an-actor, has-no-policy, no-requestor, woven-limit-passed, vertex-not-tied, rows-exceed-words, written-too-long, InTable}
-use Rattle.model.specs.Refused.{returned, BookTable, memory-short, in-book, RulesTable, book-first, in-rules, QueryTable, in-query, RequestTable, rules-first, in-request, WriterTable, no-room, ListTable, in-woven, woven}
+use Rattle.model.specs.RefusalTable.{IsText, LineOf, NameOn, TableRow, memory-is-short, text-too-long, byte-not-allowed, grammar-broken}
+use Rattle.model.specs.RefusalTable.{not-declared, second-time, not-of-the-type, passes-the-limit, excluded-from-itself, lacks-an-actor}
+use Rattle.model.specs.RefusalTable.{has-no-policy, no-requestor, woven-limit-passed, vertex-not-tied, rows-exceed-words, written-too-long}
+use Rattle.model.specs.RefusalTable.{InTable}
+use Rattle.model.specs.Refused.{returned, BookTable, memory-short, in-book, RulesTable, book-first, in-rules, QueryTable, in-query}
+use Rattle.model.specs.Refused.{RequestTable, rules-first, in-request, WriterTable, no-room, ListTable, in-woven, woven}
 use Rattle.model.proofs.Members.{test, is-true, is-false}
 use Rattle.model.proofs.Faults.{AtLine}
-use Rattle.model.proofs.TextRefusals.{first-bad-byte, OfText, too-long, bad-byte, own, book-refused, book-line-fault, OfRules, at-line, no-policy, rules-refused, rules-line-fault, OfQuery, broken, has-fault, query-refused, OfRequest, no-line, second-line, request-refused, request-line-fault}
+use Rattle.model.proofs.TextRefusals.{first-bad-byte, OfText, too-long, bad-byte, own, book-refused, book-line-fault, OfRules, at-line}
+use Rattle.model.proofs.TextRefusals.{no-policy, rules-refused, rules-line-fault, OfQuery, broken, has-fault, query-refused, OfRequest}
+use Rattle.model.proofs.TextRefusals.{no-line, second-line, request-refused, request-line-fault}
 use Rattle.model.proofs.Refusals.{book-table, rules-table, query-table, request-table, writer-service-table, list-service-table}
 use Rattle.model.proofs.ListRefusals.{woven-number}
 
@@ -105,7 +111,10 @@ book-row b x n l h e = go x e
     name = (row-5 1 l (omega arith) (omega arith) h, (row-7 1 l (omega arith) (omega arith) h, tt))
 
     entry : In 4 × (In 5 × (In 6 × (In 7 × Unit {0})))
-    entry = (row-4 1 l (omega arith) (omega arith) h, (row-5 1 l (omega arith) (omega arith) h, (row-6 1 l (omega arith) (omega arith) h, (row-7 1 l (omega arith) (omega arith) h, tt))))
+    entry = (
+      row-4 1 l (omega arith) (omega arith) h,
+      (row-5 1 l (omega arith) (omega arith) h, (row-6 1 l (omega arith) (omega arith) h, (row-7 1 l (omega arith) (omega arith) h, tt))),
+    )
 
     go : (x : BookLine) → lineFault b x ≡ just n → In n
     go (vattr m k) e = number-in In _ n name e
@@ -141,8 +150,16 @@ rules-row b r x n l h e = go x e
 
     go : (x : RulesLine) → rulesFault b r x ≡ just n → In n
     go (category m actors over) e = number-in In _ n (four, (five, (seven, (lacks-an-actor h, tt)))) e
-    go (policy c bytes q) e = number-in In _ n
-        (four, (five, (row-6 2 l (omega arith) (omega arith) h, (seven, (excluded-from-itself (line-of 2 l (omega arith) (omega arith) h) (omega arith) (omega arith), tt))))) e
+    go (policy c bytes q) e = number-in In _ n (
+      four,
+      (
+        five,
+        (
+          row-6 2 l (omega arith) (omega arith) h,
+          (seven, (excluded-from-itself (line-of 2 l (omega arith) (omega arith) h) (omega arith) (omega arith), tt)),
+        ),
+      ),
+    ) e
 
 -- a refusal of the rules is a row
 rules-in-table : (b : Book) (s : Bytes) (f : Refusal) → readRules b s ≡ refused f → InTable f
@@ -160,7 +177,16 @@ unfolding queryFault
 query-in-table b s f e = text-row (omega arith, omega arith) (λ l h. query-line) go (query-refused b s f .0 e)
   where
     rows : TableRow 4 3 1 × (TableRow 5 3 1 × (TableRow 6 3 1 × (TableRow 7 3 1 × (TableRow 8 3 1 × Unit {0}))))
-    rows = (not-declared query-name, (second-time query-name, (not-of-the-type query-line (omega arith), (passes-the-limit query-line (omega arith), (excluded-from-itself query-line (omega arith) (omega arith), tt)))))
+    rows = (
+      not-declared query-name,
+      (
+        second-time query-name,
+        (
+          not-of-the-type query-line (omega arith),
+          (passes-the-limit query-line (omega arith), (excluded-from-itself query-line (omega arith) (omega arith), tt)),
+        ),
+      ),
+    )
 
     go : OfQuery b s f → InTable f
     go (broken d e) = in-table e (grammar-broken query-line (λ z. absurd (omega arith)))

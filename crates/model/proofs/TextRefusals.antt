@@ -45,7 +45,11 @@ pub record BadByte (n : ℕ) (s : Bytes) (l : ℕ) : Type 0 where
 -- 2 names the line of the first byte not allowed
 pub first-bad-byte : (n : ℕ) (s : Bytes) (l : ℕ) → (badLine n s ≡ just l) ↔ BadByte n s l
 unfolding badLine keep
-first-bad-byte n s l = (first n s, λ h. subst (λ z. badLine n z ≡ just l) (sym (h .stands)) (back n (h .earlier) (h .byte) (h .later) (h .earlier-allowed) (h .not-allowed) (h .at)))
+first-bad-byte n s l = (
+  first n s,
+  λ h. subst (λ z. badLine n z ≡ just l) (sym (h .stands))
+      (back n (h .earlier) (h .byte) (h .later) (h .earlier-allowed) (h .not-allowed) (h .at)),
+)
   where
     count : (n : ℕ) (b : ℕ) (s : Bytes) → (n + pick (eqb b 10) 1 0) + lineFeeds s ≡ n + lineFeeds (b ∷ s)
     count n b s = go (eqb b 10)
@@ -58,13 +62,25 @@ first-bad-byte n s l = (first n s, λ h. subst (λ z. badLine n z ≡ just l) (s
     first n [] e = let z : _≡_ {A = ℕ} 0 1 = cc in absurd (omega arith)
     first n (b ∷ s) e = ⊎-elim
         (λ t. let h = first (n + pick (eqb b 10) 1 0) s (rw (is-true (isAllowed b) t) at e) in
-        record { earlier = b ∷ h .earlier; byte = h .byte; later = h .later; stands = ap (λ z. b ∷ z) (h .stands); earlier-allowed = (t, h .earlier-allowed); not-allowed = h .not-allowed; at = h .at ∙ count n b (h .earlier) })
-        (λ t. let d : n ≡ l = cc (rw (is-false (isAllowed b) t) at e) in record { earlier = []; byte = b; later = s; stands = refl; earlier-allowed = tt; not-allowed = t; at = omega arith })
+        record {
+          earlier = b ∷ h .earlier;
+          byte = h .byte;
+          later = h .later;
+          stands = ap (λ z. b ∷ z) (h .stands);
+          earlier-allowed =
+              (t, h .earlier-allowed);
+          not-allowed = h .not-allowed;
+          at = h .at ∙ count n b (h .earlier);
+        })
+        (λ t. let d : n ≡ l = cc (rw (is-false (isAllowed b) t) at e) in
+        record { earlier = []; byte = b; later = s; stands = refl; earlier-allowed = tt; not-allowed = t; at = omega arith })
         (test (isAllowed b))
 
-    back : (n : ℕ) (earlier : Bytes) (b : ℕ) (later : Bytes) → Each (λ b. T (isAllowed b)) earlier → (T (isAllowed b) → ⊥) → l ≡ n + lineFeeds earlier → badLine n (earlier ++ (b ∷ later)) ≡ just l
+    back : (n : ℕ) (earlier : Bytes) (b : ℕ) (later : Bytes) → Each (λ b. T (isAllowed b)) earlier → (T (isAllowed b) → ⊥) → l ≡ n + lineFeeds earlier
+        → badLine n (earlier ++ (b ∷ later)) ≡ just l
     back n [] b later u t e = let d : n ≡ l = omega arith in rw (is-false (isAllowed b) t, d) refl
-    back n (a ∷ earlier) b later u t e = rw (is-true (isAllowed a) (u .0)) (back (n + pick (eqb a 10) 1 0) earlier b later (u .1) t (e ∙ sym (count n a earlier)))
+    back n (a ∷ earlier) b later u t e = rw (is-true (isAllowed a) (u .0))
+        (back (n + pick (eqb a 10) 1 0) earlier b later (u .1) t (e ∙ sym (count n a earlier)))
 
 -- a text's refusals: 1, then 2, then those of its own
 pub data OfText (t limit : ℕ) (line : ℕ → ℕ) (s : Bytes) (Own : Refusal → Type 0) (f : Refusal) : Type 0 where
@@ -72,24 +88,33 @@ pub data OfText (t limit : ℕ) (line : ℕ → ℕ) (s : Bytes) (Own : Refusal 
   bad-byte : {l : ℕ} → length s ≤ limit → badLine 1 s ≡ just l → f ≡ returned 2 t (line l) → OfText t limit line s Own f
   own : length s ≤ limit → badLine 1 s ≡ nothing → Own f → OfText t limit line s Own f
 
-byte-refused : {A : Type 0} (m : Maybe ℕ) (t : ℕ) (line : ℕ → ℕ) (o : Outcome A) (f : Refusal) → (refusedAt m t line o ≡ refused f) ↔ (((l : ℕ) × (m ≡ just l) × (f ≡ returned 2 t (line l))) ⊎ ((m ≡ nothing) × (o ≡ refused f)))
+byte-refused : {A : Type 0} (m : Maybe ℕ) (t : ℕ) (line : ℕ → ℕ) (o : Outcome A) (f : Refusal)
+    → (refusedAt m t line o ≡ refused f) ↔ (((l : ℕ) × (m ≡ just l) × (f ≡ returned 2 t (line l))) ⊎ ((m ≡ nothing) × (o ≡ refused f)))
 unfolding refusedAt refusedIf
 byte-refused nothing t line o f = (λ e. inr (refl, e), λ u. ⊎-elim (λ h. let z : _≡_ {A = ℕ} 0 1 = cc (h .1) in absurd (omega arith)) (λ h. h .1) u)
 byte-refused {A} (just l) t line o f =
     let r = number-refused (just 2) t (line l) o f in (
-      λ e. ⊎-elim (λ h. inl (l, refl, (let d : 2 ≡ h .0 = cc (h .1) in rw d (h .2)))) (λ h. inr (let z : _≡_ {A = ℕ} 0 1 = cc (h .0) in absurd (omega arith))) (r .0 e),
-      λ u. ⊎-elim (λ h. r .1 (inl (2, refl, (let d : l ≡ h .0 = cc (h .1) in rw d (h .2))))) (λ h. let z : _≡_ {A = ℕ} 0 1 = cc (h .0) in absurd (omega arith)) u,
+      λ e. ⊎-elim (λ h. inl (l, refl, (let d : 2 ≡ h .0 = cc (h .1) in rw d (h .2))))
+          (λ h. inr (let z : _≡_ {A = ℕ} 0 1 = cc (h .0) in absurd (omega arith))) (r .0 e),
+      λ u. ⊎-elim (λ h. r .1 (inl (2, refl, (let d : l ≡ h .0 = cc (h .1) in rw d (h .2)))))
+          (λ h. let z : _≡_ {A = ℕ} 0 1 = cc (h .0) in absurd (omega arith)) u,
     )
 
 text-refused : {A : Type 0} (t limit : ℕ) (line : ℕ → ℕ) (s : Bytes) (o : Outcome A) (Own : Refusal → Type 0) → ((f : Refusal) → (o ≡ refused f) ↔ Own f)
     → (f : Refusal) → (bytesFirst t limit line s o ≡ refused f) ↔ OfText t limit line s Own f
 unfolding bytesFirst refusal
-text-refused t limit line s o Own h f = (λ e. ⊎-elim (λ u. too-long (u .0) (u .1)) (λ u. ⊎-elim (λ v. bad-byte (u .0) (v .1) (v .2)) (λ v. own (u .0) (v .0) (h f .0 (v .1))) (bytes .0 (u .1))) (long .0 e), back)
+text-refused t limit line s o Own h f = (
+  λ e. ⊎-elim (λ u. too-long (u .0) (u .1))
+      (λ u. ⊎-elim (λ v. bad-byte (u .0) (v .1) (v .2)) (λ v. own (u .0) (v .0) (h f .0 (v .1))) (bytes .0 (u .1))) (long .0 e),
+  back,
+)
   where
-    bytes : (refusedAt (badLine 1 s) t line o ≡ refused f) ↔ (((l : ℕ) × (badLine 1 s ≡ just l) × (f ≡ returned 2 t (line l))) ⊎ ((badLine 1 s ≡ nothing) × (o ≡ refused f)))
+    bytes : (refusedAt (badLine 1 s) t line o ≡ refused f) ↔
+        (((l : ℕ) × (badLine 1 s ≡ just l) × (f ≡ returned 2 t (line l))) ⊎ ((badLine 1 s ≡ nothing) × (o ≡ refused f)))
     bytes = byte-refused (badLine 1 s) t line o f
 
-    long : (bytesFirst t limit line s o ≡ refused f) ↔ (((limit < length s) × (f ≡ returned 1 t 0)) ⊎ ((length s ≤ limit) × (refusedAt (badLine 1 s) t line o ≡ refused f)))
+    long : (bytesFirst t limit line s o ≡ refused f) ↔
+        (((limit < length s) × (f ≡ returned 1 t 0)) ⊎ ((length s ≤ limit) × (refusedAt (badLine 1 s) t line o ≡ refused f)))
     long = over-refused limit (length s) (returned 1 t 0) (refusedAt (badLine 1 s) t line o) f
 
     back : OfText t limit line s Own f → bytesFirst t limit line s o ≡ refused f
@@ -100,10 +125,13 @@ text-refused t limit line s o Own h f = (λ e. ⊎-elim (λ u. too-long (u .0) (
 -- text 1: the book is refused by 1, 2, then lines upwards
 pub book-refused : (s : Bytes) (f : Refusal) → (readBook s ≡ refused f) ↔ OfText 1 65536 (λ l. l) s (AtLine 1 bookStep 1 emptyBook (linesOf s)) f
 unfolding readBook
-book-refused s f = text-refused 1 65536 (λ l. l) s (readLines 1 bookStep 1 emptyBook (linesOf s)) (AtLine 1 bookStep 1 emptyBook (linesOf s)) (first-line 1 bookStep 1 emptyBook (linesOf s)) f
+book-refused s f = text-refused 1 65536 (λ l. l) s (readLines 1 bookStep 1 emptyBook (linesOf s)) (AtLine 1 bookStep 1 emptyBook (linesOf s))
+    (first-line 1 bookStep 1 emptyBook (linesOf s)) f
 
 -- a book line's fault: a broken grammar, then its table
-pub book-line-fault : (b : Book) (l : Line) (n : ℕ) → (bookStep b l ≡ fault n) ↔ (((andThen (formOf l) bookLine ≡ nothing) × (n ≡ 3)) ⊎ ((x : BookLine) × (andThen (formOf l) bookLine ≡ just x) × (lineFault b x ≡ just n)))
+pub book-line-fault : (b : Book) (l : Line) (n : ℕ)
+    → (bookStep b l ≡ fault n) ↔ (((andThen (formOf l) bookLine ≡ nothing) × (n ≡ 3)) ⊎
+    ((x : BookLine) × (andThen (formOf l) bookLine ≡ just x) × (lineFault b x ≡ just n)))
 unfolding bookStep
 book-line-fault b l n = step-fault (andThen (formOf l) bookLine) (lineFault b) (addLine b) n
 
@@ -114,18 +142,22 @@ noRules = record { categories = []; policies = [] }
 -- text 2: lines upwards, then 10 for a category over nothing without a policy
 pub data OfRules (b : Book) (ls : List Line) (f : Refusal) : Type 0 where
   at-line : AtLine 2 (rulesStep b) 1 noRules ls f → OfRules b ls f
-  no-policy : {r : Rules} {c : Category} → readLines 2 (rulesStep b) 1 noRules ls ≡ accepted r → c ∈ r .categories → T (isNil (c .over)) → (T (hasPolicy r (c .name)) → ⊥) → f ≡ returned 10 2 0 → OfRules b ls f
+  no-policy : {r : Rules} {c : Category} → readLines 2 (rulesStep b) 1 noRules ls ≡ accepted r → c ∈ r .categories → T (isNil (c .over))
+      → (T (hasPolicy r (c .name)) → ⊥) → f ≡ returned 10 2 0 → OfRules b ls f
 
-covered-refused : (r : Rules) (f : Refusal) → (covered r ≡ refused f) ↔ ((c : Category) × (c ∈ r .categories) × T (isNil (c .over)) × (T (hasPolicy r (c .name)) → ⊥) × (f ≡ returned 10 2 0))
+covered-refused : (r : Rules) (f : Refusal)
+    → (covered r ≡ refused f) ↔ ((c : Category) × (c ∈ r .categories) × T (isNil (c .over)) × (T (hasPolicy r (c .name)) → ⊥) × (f ≡ returned 10 2 0))
 unfolding covered refusal
 covered-refused r f = ⊎-elim
     (λ t. rw (is-true (any bare (r .categories)) t) (
-      λ e. let c = any-e bare (r .categories) t in let u = and-iff (isNil (c .0 .over)) (not (hasPolicy r (c .0 .name))) .1 (c .2) in (c .0, c .1, u .0, not-both (hasPolicy r (c .0 .name)) (u .1), cc),
+      λ e. let c = any-e bare (r .categories) t in let u = and-iff (isNil (c .0 .over)) (not (hasPolicy r (c .0 .name))) .1 (c .2) in
+          (c .0, c .1, u .0, not-both (hasPolicy r (c .0 .name)) (u .1), cc),
       λ u. ap refused (sym (u .4)),
     ))
     (λ t. rw (is-false (any bare (r .categories)) t) (
       λ e. let z : _≡_ {A = ℕ} 0 1 = cc in absurd (omega arith),
-      λ u. absurd (t (any-i bare (r .categories) (u .0) (u .1) (and-iff (isNil (u .0 .over)) (not (hasPolicy r (u .0 .name))) .0 (u .2, not-T (hasPolicy r (u .0 .name)) (u .3))))),
+      λ u. absurd (t (any-i bare (r .categories) (u .0) (u .1)
+          (and-iff (isNil (u .0 .over)) (not (hasPolicy r (u .0 .name))) .0 (u .2, not-T (hasPolicy r (u .0 .name)) (u .3))))),
     ))
     (test (any bare (r .categories)))
   where
@@ -142,9 +174,15 @@ unfolding readRules
 rules-refused b s f = text-refused 2 16384 (λ l. l) s (onAccept (readLines 2 (rulesStep b) 1 noRules (linesOf s)) covered) (OfRules b (linesOf s)) own-refused f
   where
     own-refused : (f : Refusal) → (onAccept (readLines 2 (rulesStep b) 1 noRules (linesOf s)) covered ≡ refused f) ↔ OfRules b (linesOf s) f
-    own-refused f = (λ e. ⊎-elim (λ u. at-line (first-line 2 (rulesStep b) 1 noRules (linesOf s) f .0 u)) (λ u. let c = covered-refused (u .0) f .0 (u .2) in no-policy (u .1) (c .1) (c .2) (c .3) (c .4)) (need .0 e), back)
+    own-refused f = (
+      λ e. ⊎-elim (λ u. at-line (first-line 2 (rulesStep b) 1 noRules (linesOf s) f .0 u))
+          (λ u. let c = covered-refused (u .0) f .0 (u .2) in no-policy (u .1) (c .1) (c .2) (c .3) (c .4)) (need .0 e),
+      back,
+    )
       where
-        need : (onAccept (readLines 2 (rulesStep b) 1 noRules (linesOf s)) covered ≡ refused f) ↔ ((readLines 2 (rulesStep b) 1 noRules (linesOf s) ≡ refused f) ⊎ ((r : Rules) × (readLines 2 (rulesStep b) 1 noRules (linesOf s) ≡ accepted r) × (covered r ≡ refused f)))
+        need : (onAccept (readLines 2 (rulesStep b) 1 noRules (linesOf s)) covered ≡ refused f) ↔
+            ((readLines 2 (rulesStep b) 1 noRules (linesOf s) ≡ refused f) ⊎
+            ((r : Rules) × (readLines 2 (rulesStep b) 1 noRules (linesOf s) ≡ accepted r) × (covered r ≡ refused f)))
         need = need-refused (readLines 2 (rulesStep b) 1 noRules (linesOf s)) covered f
 
         back : OfRules b (linesOf s) f → onAccept (readLines 2 (rulesStep b) 1 noRules (linesOf s)) covered ≡ refused f
@@ -153,7 +191,8 @@ rules-refused b s f = text-refused 2 16384 (λ l. l) s (onAccept (readLines 2 (r
 
 -- a rules line's fault: a broken grammar, then its table
 pub rules-line-fault : (b : Book) (r : Rules) (l : Line) (n : ℕ)
-    → (rulesStep b r l ≡ fault n) ↔ (((andThen (formOf l) rulesLine ≡ nothing) × (n ≡ 3)) ⊎ ((x : RulesLine) × (andThen (formOf l) rulesLine ≡ just x) × (rulesFault b r x ≡ just n)))
+    → (rulesStep b r l ≡ fault n) ↔ (((andThen (formOf l) rulesLine ≡ nothing) × (n ≡ 3)) ⊎
+    ((x : RulesLine) × (andThen (formOf l) rulesLine ≡ just x) × (rulesFault b r x ≡ just n)))
 unfolding rulesStep
 rules-line-fault b r l n = step-fault (andThen (formOf l) rulesLine) (rulesFault b r) (addRule r) n
 
@@ -169,7 +208,8 @@ query-refused b s f = text-refused 3 2048 (λ l. 1) s (textOrFault b (queryText 
   where
     first : (f : Refusal) (m : Maybe QueryText) → queryText s ≡ m → textOrFault b m ≡ refused f → OfQuery b s f
     first f nothing d e = broken d (cc)
-    first f (just q) d e = ⊎-elim (λ u. has-fault d (u .1) (u .2)) (λ u. let z : _≡_ {A = ℕ} 0 1 = cc (u .1) in absurd (omega arith)) (number-refused (queryFault b q) 3 1 (accepted q) f .0 e)
+    first f (just q) d e = ⊎-elim (λ u. has-fault d (u .1) (u .2)) (λ u. let z : _≡_ {A = ℕ} 0 1 = cc (u .1) in absurd (omega arith))
+        (number-refused (queryFault b q) 3 1 (accepted q) f .0 e)
 
     back : (f : Refusal) → OfQuery b s f → textOrFault b (queryText s) ≡ refused f
     back f (broken d e) = rw (d, e) refl
@@ -182,7 +222,8 @@ pub data OfRequest (b : Book) (r : Rules) (ls : List Line) (f : Refusal) : Type 
   second-line : {l k : Line} {more : List Line} {x : Request} → ls ≡ l ∷ k ∷ more → requestStep b r l ≡ known x → f ≡ returned 3 4 2 → OfRequest b r ls f
 
 -- the request is refused by 1, 2, then those
-pub request-refused : (b : Book) (r : Rules) (s : Bytes) (f : Refusal) → (readRequest b r s ≡ refused f) ↔ OfText 4 2048 (λ l. l) s (OfRequest b r (linesOf s)) f
+pub request-refused : (b : Book) (r : Rules) (s : Bytes) (f : Refusal)
+    → (readRequest b r s ≡ refused f) ↔ OfText 4 2048 (λ l. l) s (OfRequest b r (linesOf s)) f
 unfolding readRequest oneLine stepThen refusal isNil
 request-refused b r s f = text-refused 4 2048 (λ l. l) s (oneLine b r (linesOf s)) (OfRequest b r (linesOf s)) (λ g. (first g (linesOf s) refl, back g)) f
   where
@@ -190,7 +231,8 @@ request-refused b r s f = text-refused 4 2048 (λ l. l) s (oneLine b r (linesOf 
     first f [] d e = no-line d (cc)
     first f (l ∷ ls) d e = go (requestStep b r l) refl ls d e
       where
-        go : (y : Step Request) → requestStep b r l ≡ y → (ls : List Line) → linesOf s ≡ l ∷ ls → stepThen y 4 1 (λ x. pick (isNil ls) (accepted x) (refusal 3 4 2)) ≡ refused f → OfRequest b r (linesOf s) f
+        go : (y : Step Request) → requestStep b r l ≡ y → (ls : List Line) → linesOf s ≡ l ∷ ls
+            → stepThen y 4 1 (λ x. pick (isNil ls) (accepted x) (refusal 3 4 2)) ≡ refused f → OfRequest b r (linesOf s) f
         go (fault n) k ls d e = at-line d k (cc)
         go (known x) k [] d e = let z : _≡_ {A = ℕ} 0 1 = cc in absurd (omega arith)
         go (known x) k (m ∷ ls) d e = second-line d k (cc)
@@ -202,7 +244,8 @@ request-refused b r s f = text-refused 4 2048 (λ l. l) s (oneLine b r (linesOf 
 
 -- the request line's fault: a broken grammar, then its table
 pub request-line-fault : (b : Book) (r : Rules) (l : Line) (n : ℕ)
-    → (requestStep b r l ≡ fault n) ↔ (((andThen (formOf l) requestLine ≡ nothing) × (n ≡ 3)) ⊎ ((x : RequestLine) × (andThen (formOf l) requestLine ≡ just x) × (requestFault b r x ≡ just n)))
+    → (requestStep b r l ≡ fault n) ↔ (((andThen (formOf l) requestLine ≡ nothing) × (n ≡ 3)) ⊎
+    ((x : RequestLine) × (andThen (formOf l) requestLine ≡ just x) × (requestFault b r x ≡ just n)))
 unfolding requestStep
 request-line-fault b r l n = step-fault (andThen (formOf l) requestLine) (requestFault b r) (requestOf b) n
 

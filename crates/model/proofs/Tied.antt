@@ -119,4 +119,5 @@ module _ (p : WovenPattern) where
       all v w h (here k) = steps-keep numbers leads leads-own (length numbers) (withIdentity p ids) start v (identity-i ids v h)
       all v w h (along {u} {e} k m j q) =
           let S = reached ids in
-          closed numbers leads leads-own (withIdentity p ids) start v (below-i (length (p .vertices)) v k) (or-r (memℕ v S) _ (any-i (touches S v) (p .edges) e m (touches-i S v u e j (all u w h q))))
+          closed numbers leads leads-own (withIdentity p ids) start v (below-i (length (p .vertices)) v k)
+          (or-r (memℕ v S) _ (any-i (touches S v) (p .edges) e m (touches-i S v u e j (all u w h q))))

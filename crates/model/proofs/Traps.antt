@@ -51,11 +51,13 @@ absent-example = refl
 
 -- = <> < <= > >= of 1 and 2, of 2 and 2, of 3 and 2
 relations-of-numbers : map (λ r. compares r 1 2 ∷ compares r 2 2 ∷ compares r 3 2 ∷ []) (eq ∷ ne ∷ lt ∷ le ∷ gt ∷ ge ∷ [])
-    ≡ (false ∷ true ∷ false ∷ []) ∷ (true ∷ false ∷ true ∷ []) ∷ (true ∷ false ∷ false ∷ []) ∷ (true ∷ true ∷ false ∷ []) ∷ (false ∷ false ∷ true ∷ []) ∷ (false ∷ true ∷ true ∷ []) ∷ []
+    ≡ (false ∷ true ∷ false ∷ []) ∷ (true ∷ false ∷ true ∷ []) ∷ (true ∷ false ∷ false ∷ []) ∷ (true ∷ true ∷ false ∷ []) ∷ (false ∷ false ∷ true ∷ []) ∷
+    (false ∷ true ∷ true ∷ []) ∷ []
 unfolding computing
 relations-of-numbers = refl
 
--- The policy's `guest` is no actor of its own category low, only of the request's, high: it is a vertex of its own and may be hub (1), though the request's guest is bob (2).
+-- The policy's `guest` is no actor of its own category low, only of the request's, high: it is a vertex of its own and may be hub (1), though the
+-- request's guest is bob (2).
 abbrev two : String
 two = "(label runs)\n(node ana)\n(node hub)\n(node bob)\n(rel runs ana hub)\n"
 

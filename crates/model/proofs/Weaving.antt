@@ -46,21 +46,25 @@ pub record ExactWeaving (b : Book) (ids : List Identity) (asked : List Asked) : 
 -- texts whose names are clear are woven exactly
 clear-exact : (b : Book) (ids : List Identity) (asked : List Asked) → ((a : Asked) → a ∈ asked → ClearNames (a .text)) → ExactWeaving b ids asked
 clear-exact b ids asked clear = record {
-  to-woven = λ hs f. by hs f (λ z. WovenModel b ids z (wovenOf hs) × (wovenRow z (wovenOf hs) ≡ familyRow hs)) (λ g w. (woven-model b ids hs g w, woven-row b ids hs g w));
+  to-woven = λ hs f. by hs f (λ z. WovenModel b ids z (wovenOf hs) × (wovenRow z (wovenOf hs) ≡ familyRow hs))
+      (λ g w. (woven-model b ids hs g w, woven-row b ids hs g w));
   to-family = λ m w. (family-of-woven b ids asked m w clear, family-row asked m clear);
   family-back = λ hs f. by hs f (λ z. SameFamily (familyOf z (wovenOf hs)) hs) (λ g w. family-again b ids hs g w);
   woven-back = λ m w. woven-again b ids asked m w clear;
 }
   where
-    by : (hs : List Mapped) → Family b ids asked hs → (C : List Asked → Type 0) → (Family b ids (map askedOf hs) hs → ((h : Mapped) → h ∈ hs → ClearNames (h .asked .text)) → C (map askedOf hs)) → C asked
-    by hs f C k = subst C (f .one-each) (k (subst (λ z. Family b ids z hs) (sym (f .one-each)) f) (λ h i. clear (h .asked) (subst (λ z. h .asked ∈ z) (f .one-each) (map-i askedOf hs h i))))
+    by : (hs : List Mapped) → Family b ids asked hs → (C : List Asked → Type 0)
+        → (Family b ids (map askedOf hs) hs → ((h : Mapped) → h ∈ hs → ClearNames (h .asked .text)) → C (map askedOf hs)) → C asked
+    by hs f C k = subst C (f .one-each) (k (subst (λ z. Family b ids z hs) (sym (f .one-each)) f)
+        (λ h i. clear (h .asked) (subst (λ z. h .asked ∈ z) (f .one-each) (map-i askedOf hs h i))))
 
 -- the query and the enforced policies
 abbrev pub askedAll : Rules → Request → QueryText → List Asked
 askedAll r x q = askedQuery r x q ∷ askedPolicies r x
 
 -- the names of accepted texts are clear
-pub accepted-clear : (b : Book) (rules query : Bytes) (r : Rules) (q : QueryText) (x : Request) → readRules b rules ≡ accepted r → readQuery b query ≡ accepted q → (a : Asked)
+pub accepted-clear : (b : Book) (rules query : Bytes) (r : Rules) (q : QueryText) (x : Request) → readRules b rules ≡ accepted r
+    → readQuery b query ≡ accepted q → (a : Asked)
     → a ∈ askedAll r x q → ClearNames (a .text)
 unfolding askedQuery
 accepted-clear b rules query r q x e f a k = ⊎-elim
@@ -84,8 +88,10 @@ rows-of-woven b rules query r q x e f row =
     )
 
 -- and exactly the rows of an accepted list
-pub list-of-woven : (work words : ℕ) (book rules query request : Bytes) (rows : List (List ℕ)) (e : listRows work words book rules query request ≡ accepted rows)
-    → let R = list-is-exact work words book rules query request rows e in (row : List ℕ) → (row ∈ rows) ↔ WovenRow (R .b) (R .x .identities) (askedAll (R .r) (R .x) (R .q)) row
+pub list-of-woven : (work words : ℕ) (book rules query request : Bytes) (rows : List (List ℕ))
+    (e : listRows work words book rules query request ≡ accepted rows)
+    → let R = list-is-exact work words book rules query request rows e in (row : List ℕ)
+    → (row ∈ rows) ↔ WovenRow (R .b) (R .x .identities) (askedAll (R .r) (R .x) (R .q)) row
 list-of-woven work words book rules query request rows e row =
     let R = list-is-exact work words book rules query request rows e in
     let w = rows-of-woven (R .b) rules query (R .r) (R .q) (R .x) (R .rules-read) (R .query-read) row in
@@ -112,7 +118,8 @@ joined-are-actors asked j k a c d v u n m =
     (λ e. w .0 (vertex-by-place (weave asked .vertices) _ _ n m e), λ h. ap (λ z. placeVertex z (weave asked .vertices)) (w .1 h))
 
 -- and no two vertices of one text are joined
-pub apart-within-a-text : (asked : List Asked) (k : ℕ) (a : Asked) (v u : Bytes) → IsWoven asked k a v → IsWoven asked k a u → wovenVertex asked k a v ≡ wovenVertex asked k a u → v ≡ u
+pub apart-within-a-text : (asked : List Asked) (k : ℕ) (a : Asked) (v u : Bytes) → IsWoven asked k a v → IsWoven asked k a u
+    → wovenVertex asked k a v ≡ wovenVertex asked k a u → v ≡ u
 apart-within-a-text asked k a v u n m e = never-joined-within k (a .actors) v u (vertex-by-place (weave asked .vertices) _ _ n m e)
 
 -- Not vacuous: the paper's rules, query and request are accepted,
@@ -120,7 +127,8 @@ weaving-example : ExactWeaving theBook (theRequest .identities) (askedAll theRul
 weaving-example = exact-weaving theBook (bytesOf rules) (bytesOf query) theRules theQuery theRequest rules-read query-read
 
 -- the two requestors are joined and the two h, of the query and of the policy, are not,
-vertices-example : weave (askedAll theRules theRequest theQuery) .vertices ≡ actor (bytesOf "requestor") ∷ own 0 (bytesOf "h") ∷ own 0 (bytesOf "s") ∷ own 1 (bytesOf "h") ∷ []
+vertices-example : weave (askedAll theRules theRequest theQuery) .vertices
+    ≡ actor (bytesOf "requestor") ∷ own 0 (bytesOf "h") ∷ own 0 (bytesOf "s") ∷ own 1 (bytesOf "h") ∷ []
 unfolding computing
 vertices-example = refl
 
@@ -170,6 +178,7 @@ unfolding computing
 more-example = refl
 
 -- so S5 and S6 are had, each as boss
-more-rows-example : listRows 16384 16384 (bytesOf book) (bytesOf more-rules) (bytesOf more-query) (bytesOf more-request) ≡ accepted ((1 ∷ 2 ∷ []) ∷ (1 ∷ 3 ∷ []) ∷ [])
+more-rows-example : listRows 16384 16384 (bytesOf book) (bytesOf more-rules) (bytesOf more-query) (bytesOf more-request)
+    ≡ accepted ((1 ∷ 2 ∷ []) ∷ (1 ∷ 3 ∷ []) ∷ [])
 unfolding computing
 more-rows-example = refl

@@ -12,7 +12,8 @@ use Rattle.model.specs.Words.{Got}
 use Rattle.model.specs.Lines.{isAllowed}
 use Rattle.model.specs.Signs.{Sign, isWord, signs, signsOf}
 use Rattle.model.specs.QueryText.{Chain, end, right, left, Match, QueryText}
-use Rattle.model.specs.Grammar.{Piece, start, goes, comes, asks, returns, Spot, atStart, inChain, inWhere, inReturn, spotAfter, startAt, pieceAt, endsAt, pieces, Tail, tailOf, queryText}
+use Rattle.model.specs.Grammar.{Piece, start, goes, comes, asks, returns, Spot, atStart, inChain, inWhere, inReturn, spotAfter, startAt}
+use Rattle.model.specs.Grammar.{pieceAt, endsAt, pieces, Tail, tailOf, queryText}
 use Rattle.model.specs.Query.{hd, ChainEdge, chainVertices, chainEdges, vertexNames, edgesOf, conditionsOf}
 use Rattle.model.specs.Graph.{Each}
 use Rattle.model.proofs.Members.{_∈_, each-e, each-i, map-e}
@@ -50,13 +51,39 @@ tail-writable : (ps : List Piece) → Each WritablePiece ps → WritableTail (ta
 unfolding tailOf
 tail-writable [] h = record { chain-writable = λ v n. n; conditions-writable = tt; matches-writable = tt; returns-names = tt }
 tail-writable (start v ∷ ps) h = let t = tail-writable ps (h .1) in
-    record { chain-writable = λ v n. n; conditions-writable = tt; matches-writable = ((t .chain-writable v (h .0), t .conditions-writable), t .matches-writable); returns-names = t .returns-names }
+    record {
+      chain-writable = λ v n. n;
+      conditions-writable = tt;
+      matches-writable =
+          ((t .chain-writable v (h .0), t .conditions-writable), t .matches-writable);
+      returns-names = t .returns-names;
+    }
 tail-writable (goes e l u ∷ ps) h = let t = tail-writable ps (h .1) in
-    record { chain-writable = λ v n. (n, h .0 .0, h .0 .1, t .chain-writable u (h .0 .2)); conditions-writable = t .conditions-writable; matches-writable = t .matches-writable; returns-names = t .returns-names }
+    record {
+      chain-writable = λ v n. (n, h .0 .0, h .0 .1, t .chain-writable u (h .0 .2));
+      conditions-writable = t .conditions-writable;
+      matches-writable =
+          t .matches-writable;
+      returns-names = t .returns-names;
+    }
 tail-writable (comes e l u ∷ ps) h = let t = tail-writable ps (h .1) in
-    record { chain-writable = λ v n. (n, h .0 .0, h .0 .1, t .chain-writable u (h .0 .2)); conditions-writable = t .conditions-writable; matches-writable = t .matches-writable; returns-names = t .returns-names }
-tail-writable (asks c ∷ ps) h = let t = tail-writable ps (h .1) in record { chain-writable = λ v n. n; conditions-writable = (h .0, t .conditions-writable); matches-writable = t .matches-writable; returns-names = t .returns-names }
-tail-writable (returns v ∷ ps) h = let t = tail-writable ps (h .1) in record { chain-writable = λ v n. n; conditions-writable = tt; matches-writable = tt; returns-names = (h .0, t .returns-names) }
+    record {
+      chain-writable = λ v n. (n, h .0 .0, h .0 .1, t .chain-writable u (h .0 .2));
+      conditions-writable = t .conditions-writable;
+      matches-writable =
+          t .matches-writable;
+      returns-names = t .returns-names;
+    }
+tail-writable (asks c ∷ ps) h = let t = tail-writable ps (h .1) in
+    record {
+      chain-writable = λ v n. n;
+      conditions-writable = (h .0, t .conditions-writable);
+      matches-writable = t .matches-writable;
+      returns-names =
+          t .returns-names;
+    }
+tail-writable (returns v ∷ ps) h = let t = tail-writable ps (h .1) in
+    record { chain-writable = λ v n. n; conditions-writable = tt; matches-writable = tt; returns-names = (h .0, t .returns-names) }
 
 -- a spot before Return
 abbrev NotYetReturned : Spot → Type 0
@@ -90,7 +117,8 @@ pieces-returned p k [] = end-returned p
 pieces-returned p (suc k) (t ∷ ts) = pieces-returned p k ts
 pieces-returned p zero (t ∷ ts) =
     then-case (λ (g : Got Piece). T true) (Returned p) (pieceAt p t ts) _ (any-where (pieceAt p t ts))
-    (λ g n. then-case (Returned (spotAfter (g .got))) (Returned p) (pieces (spotAfter (g .got)) (g .size - 1) ts) (λ ps. just (g .got ∷ ps)) (pieces-returned (spotAfter (g .got)) (g .size - 1) ts) (λ ps m o. piece-returned (g .got) ps m))
+    (λ g n. then-case (Returned (spotAfter (g .got))) (Returned p) (pieces (spotAfter (g .got)) (g .size - 1) ts) (λ ps. just (g .got ∷ ps))
+    (pieces-returned (spotAfter (g .got)) (g .size - 1) ts) (λ ps m o. piece-returned (g .got) ps m))
 
 -- a text begins with a Match
 abbrev Starts : Piece → Type 0
@@ -124,7 +152,8 @@ unfolding pieces endsAt
 pieces-matched [] h = tt
 pieces-matched (t ∷ ts) h =
     then-case (λ (g : Got Piece). Starts (g .got)) Matched (pieceAt atStart t ts) _ (piece-starts t ts (h .1))
-    (λ g n. then-case (λ (ps : List Piece). T true) Matched (pieces (spotAfter (g .got)) (g .size - 1) ts) (λ ps. just (g .got ∷ ps)) (any-where (pieces (spotAfter (g .got)) (g .size - 1) ts)) (λ ps m. starts-match (g .got) ps n))
+    (λ g n. then-case (λ (ps : List Piece). T true) Matched (pieces (spotAfter (g .got)) (g .size - 1) ts) (λ ps. just (g .got ∷ ps))
+    (any-where (pieces (spotAfter (g .got)) (g .size - 1) ts)) (λ ps m. starts-match (g .got) ps n))
 
 both-there : {A : Type 0} (P Q : A → Type 0) (m : Maybe A) → IfThere P m → IfThere Q m → IfThere (λ a. P a × Q a) m
 both-there P Q nothing h k = tt
@@ -137,8 +166,10 @@ text-wellformed s h =
     let g = signs-writable false false 0 s h in
     let m = pieces atStart 0 ts in
     then-case (λ ps. Each WritablePiece ps × (Returned atStart ps × Matched ps)) Wellformed m (λ ps. just (tailOf ps .later))
-    (both-there (Each WritablePiece) (λ ps. Returned atStart ps × Matched ps) m (pieces-writable atStart 0 ts g) (both-there (Returned atStart) Matched m (pieces-returned atStart 0 ts) (pieces-matched ts g)))
-    (λ ps k. let t = tail-writable ps (k .0) in record { matches-writable = t .matches-writable; returns-names = t .returns-names; some-match = k .1 .1; some-return = k .1 .0 tt })
+    (both-there (Each WritablePiece) (λ ps. Returned atStart ps × Matched ps) m (pieces-writable atStart 0 ts g)
+    (both-there (Returned atStart) Matched m (pieces-returned atStart 0 ts) (pieces-matched ts g)))
+    (λ ps k. let t = tail-writable ps (k .0) in
+    record { matches-writable = t .matches-writable; returns-names = t .returns-names; some-match = k .1 .1; some-return = k .1 .0 tt })
 
 -- a query text that was read from allowed bytes is well formed
 pub wellformed : (s : Bytes) (q : QueryText) → T (all isAllowed s) → queryText s ≡ just q → Wellformed q
@@ -176,13 +207,15 @@ module _ (q : QueryText) (w : Wellformed q) where
 
   -- its conditions can be written
   pub conditions-writable : Each WritableCondition (conditionsOf q)
-  conditions-writable = each-i WritableCondition (conditionsOf q) (λ c m. let r = condition-of q c m in each-e WritableCondition (r .0 .conditions) (match-writable (r .0) (r .1) .1) c (r .2))
+  conditions-writable = each-i WritableCondition (conditionsOf q)
+      (λ c m. let r = condition-of q c m in each-e WritableCondition (r .0 .conditions) (match-writable (r .0) (r .1) .1) c (r .2))
 
   -- the Matches that are written for it are of names
   pub matches-for-writable : Each AllNames (matchesFor q)
   matches-for-writable = each-i AllNames (matchesFor q) (λ p m. ⊎-elim
       (λ n. let r = map-e vertexMatch (vertexNames q) p n in subst AllNames (sym (r .2)) (vertex-name (r .0) (r .1)))
-      (λ n. let r = map-e matchOfEdge (edgesOf q) p n in let e = edge-name (r .0) (r .1) in let k = edge-ends q (r .0) (r .1) in subst AllNames (sym (r .2)) (vertex-name _ (k .0), e .0, e .1, vertex-name _ (k .1)))
+      (λ n. let r = map-e matchOfEdge (edgesOf q) p n in let e = edge-name (r .0) (r .1) in let k = edge-ends q (r .0) (r .1) in
+      subst AllNames (sym (r .2)) (vertex-name _ (k .0), e .0, e .1, vertex-name _ (k .1)))
       (append-cases (map vertexMatch (vertexNames q)) m))
 
   -- it has a vertex

@@ -58,7 +58,8 @@ values = "Match (h)-[a:runs]->(s)<-[b:feeds]-(h) Where h.kind = '(h' AND h <> s 
 values-example : queryRead 16384 (bytesOf book) (bytesOf values) ≡ gives (record {
   vertices = padded 8 noPart (part 7 1 ∷ part 21 1 ∷ []);
   edges = padded 16 noEdge (edge 11 0 0 1 ∷ edge 26 1 0 1 ∷ []);
-  clauses = padded 32 noClause (has 0 0 Equal (Text 55 2) ∷ record { condition = Excluded 0 1 } ∷ has 1 0 Differs (Text 85 0) ∷ has 1 0 Equal (Text 101 3) ∷ []);
+  clauses = padded 32 noClause (has 0 0 Equal (Text 55 2) ∷ record { condition = Excluded 0 1 } ∷ has 1 0 Differs (Text 85 0) ∷ has 1 0 Equal
+      (Text 101 3) ∷ []);
   returns = padded 4 0 (1 ∷ 0 ∷ []);
   counts = record { vertices = 2; edges = 2; clauses = 4; returns = 2 };
 })

@@ -47,7 +47,8 @@ pub first-vertices-e : (seen vs : List WovenVertex) (v : WovenVertex) → v ∈ 
 first-vertices-e seen vs v m = firstsBy-e sameVertex vertex-tells seen vs v m
 
 -- each of the first appearances stands at its own place
-pub first-vertices-once : (vs : List WovenVertex) (i : ℕ) → i < length (firstVertices [] vs) → placeVertex (getD (firstVertices [] vs) i noVertex) (firstVertices [] vs) ≡ i
+pub first-vertices-once : (vs : List WovenVertex) (i : ℕ) → i < length (firstVertices [] vs)
+    → placeVertex (getD (firstVertices [] vs) i noVertex) (firstVertices [] vs) ≡ i
 unfolding placeVertex
 first-vertices-once vs = firstsBy-once sameVertex vertex-tells noVertex [] vs (λ i l. absurd (omega arith))
 

@@ -12,7 +12,8 @@ use Rattle.model.specs.Values.{Value, bool}
 use Rattle.model.specs.Forms.{neverNames, nameOf, truthOf}
 use Rattle.model.specs.Signs.{Sign, word, whole, text, mark, broken, isWord, isMark, signName, signValue, next, expect}
 use Rattle.model.specs.QueryText.{differ, demand}
-use Rattle.model.specs.Grammar.{Piece, start, goes, comes, asks, returns, Spot, atStart, inChain, inWhere, inReturn, spotAfter, signRelation, vertexAt, startAt, linkAt, conditionAt, returnAt, pieceAt, endsAt, pieces}
+use Rattle.model.specs.Grammar.{Piece, start, goes, comes, asks, returns, Spot, atStart, inChain, inWhere, inReturn, spotAfter, signRelation}
+use Rattle.model.specs.Grammar.{vertexAt, startAt, linkAt, conditionAt, returnAt, pieceAt, endsAt, pieces}
 use Rattle.model.specs.Graph.{Each}
 use Rattle.model.proofs.Members.{test, is-true, is-false}
 use Rattle.model.proofs.WrittenConditions.{IsName, WritableValue, WritableCondition}
@@ -28,7 +29,8 @@ WritablePiece (returns v) = IsName v
 
 truth-writable : (w : Bytes) → IfThere WritableValue (truthOf w)
 unfolding truthOf
-truth-writable w = pick-case (IfThere WritableValue) (same w (bytesOf "true")) (just (bool true)) (pick (same w (bytesOf "false")) (just (bool false)) nothing) (λ t. tt)
+truth-writable w = pick-case (IfThere WritableValue) (same w (bytesOf "true")) (just (bool true))
+    (pick (same w (bytesOf "false")) (just (bool false)) nothing) (λ t. tt)
     (pick-case (IfThere WritableValue) (same w (bytesOf "false")) (just (bool false)) nothing (λ t. tt) tt)
 
 value-writable : (t : Sign) → WritableSign t → IfThere WritableValue (signValue t)
@@ -45,17 +47,20 @@ any-where nothing = tt
 any-where (just a) = tt
 
 module _ {B : Type 0} (P : B → Type 0) where
-  next-name : (ts : List Sign) (f : Bytes → List Sign → Maybe B) → Each WritableSign ts → ((v : Bytes) (us : List Sign) → IsName v → Each WritableSign us → IfThere P (f v us))
+  next-name : (ts : List Sign) (f : Bytes → List Sign → Maybe B) → Each WritableSign ts
+      → ((v : Bytes) (us : List Sign) → IsName v → Each WritableSign us → IfThere P (f v us))
       → IfThere P (next signName ts f)
   unfolding next signName nameOf andThen
   next-name [] f h k = tt
-  next-name (word w ∷ ts) f h k = ⊎-elim (λ t. rw (is-true (mem w neverNames) t) tt) (λ t. rw (is-false (mem w neverNames) t) (k w ts (h .0, is-false (mem w neverNames) t) (h .1))) (test (mem w neverNames))
+  next-name (word w ∷ ts) f h k = ⊎-elim (λ t. rw (is-true (mem w neverNames) t) tt)
+      (λ t. rw (is-false (mem w neverNames) t) (k w ts (h .0, is-false (mem w neverNames) t) (h .1))) (test (mem w neverNames))
   next-name (whole n ∷ ts) f h k = tt
   next-name (text t ∷ ts) f h k = tt
   next-name (mark m ∷ ts) f h k = tt
   next-name (broken ∷ ts) f h k = tt
 
-  next-value : (ts : List Sign) (f : Value → List Sign → Maybe B) → Each WritableSign ts → ((v : Value) (us : List Sign) → WritableValue v → Each WritableSign us → IfThere P (f v us))
+  next-value : (ts : List Sign) (f : Value → List Sign → Maybe B) → Each WritableSign ts
+      → ((v : Value) (us : List Sign) → WritableValue v → Each WritableSign us → IfThere P (f v us))
       → IfThere P (next signValue ts f)
   unfolding next
   next-value [] f h k = tt
@@ -67,7 +72,8 @@ module _ {B : Type 0} (P : B → Type 0) where
   next-any read [] f h k = tt
   next-any read (t ∷ ts) f h k = then-case (λ a. T true) P (read t) (λ a. f a ts) (any-where (read t)) (λ a g. k a ts (h .1))
 
-  expect-writable : (m : Bytes) (ts : List Sign) (f : List Sign → Maybe B) → Each WritableSign ts → ((us : List Sign) → Each WritableSign us → IfThere P (f us)) → IfThere P (expect m ts f)
+  expect-writable : (m : Bytes) (ts : List Sign) (f : List Sign → Maybe B) → Each WritableSign ts
+      → ((us : List Sign) → Each WritableSign us → IfThere P (f us)) → IfThere P (expect m ts f)
   unfolding expect
   expect-writable m [] f h k = tt
   expect-writable m (t ∷ ts) f h k = pick-case (IfThere P) (isMark m t) (f ts) nothing (λ u. k ts (h .1)) tt
@@ -84,12 +90,15 @@ start-writable : (ts : List Sign) → Each WritableSign ts → IfThere PieceGot 
 unfolding startAt
 start-writable ts h = vertex-writable PieceGot ts (λ v. just (record { got = start v; size = 4 })) h (λ v n. n)
 
-link-writable : (make : Bytes → Bytes → Bytes → Piece) → ((e l v : Bytes) → IsName e → IsName l → IsName v → WritablePiece (make e l v)) → (arrow : Bytes) (ts : List Sign) → Each WritableSign ts
+link-writable : (make : Bytes → Bytes → Bytes → Piece) → ((e l v : Bytes) → IsName e → IsName l → IsName v → WritablePiece (make e l v))
+    → (arrow : Bytes) (ts : List Sign) → Each WritableSign ts
     → IfThere PieceGot (linkAt make arrow ts)
 unfolding linkAt
 link-writable make g arrow ts h =
-    expect-writable PieceGot _ ts _ h (λ ts h. next-name PieceGot ts _ h (λ e ts ne h. expect-writable PieceGot _ ts _ h (λ ts h. next-name PieceGot ts _ h (λ l ts nl h. expect-writable PieceGot _ ts _ h (λ ts h.
-    expect-writable PieceGot arrow ts _ h (λ ts h. vertex-writable PieceGot ts (λ v. just (record { got = make e l v; size = 10 })) h (λ v n. g e l v ne nl n)))))))
+    expect-writable PieceGot _ ts _ h (λ ts h. next-name PieceGot ts _ h
+    (λ e ts ne h. expect-writable PieceGot _ ts _ h (λ ts h. next-name PieceGot ts _ h (λ l ts nl h. expect-writable PieceGot _ ts _ h (λ ts h.
+    expect-writable PieceGot arrow ts _ h (λ ts h. vertex-writable PieceGot ts (λ v. just (record { got = make e l v; size = 10 })) h
+    (λ v n. g e l v ne nl n)))))))
 
 condition-writable : (ts : List Sign) → Each WritableSign ts → IfThere PieceGot (conditionAt ts)
 unfolding conditionAt
@@ -145,4 +154,5 @@ pieces-writable p k [] h = end-writable p
 pieces-writable p (suc k) (t ∷ ts) h = pieces-writable p k ts (h .1)
 pieces-writable p zero (t ∷ ts) h =
     then-case PieceGot (Each WritablePiece) (pieceAt p t ts) _ (piece-writable p t ts (h .1))
-    (λ g n. then-case (Each WritablePiece) (Each WritablePiece) (pieces (spotAfter (g .got)) (g .size - 1) ts) (λ ps. just (g .got ∷ ps)) (pieces-writable (spotAfter (g .got)) (g .size - 1) ts (h .1)) (λ ps m. (n, m)))
+    (λ g n. then-case (Each WritablePiece) (Each WritablePiece) (pieces (spotAfter (g .got)) (g .size - 1) ts) (λ ps. just (g .got ∷ ps))
+    (pieces-writable (spotAfter (g .got)) (g .size - 1) ts (h .1)) (λ ps m. (n, m)))

@@ -10,7 +10,8 @@ use lib.Dec.{T, leb, eqb, leb→le, not-T}
 use Rattle.model.specs.Bytes.{Bytes}
 use Rattle.model.specs.Choice.{pick, Maybe, nothing, just, andThen}
 use Rattle.model.specs.Lists.{all}
-use Rattle.model.specs.Words.{Got, isLetter, isDigit, isWordByte, run, before, wordAt, biased, decimal, plainDigits, isWhole, digitsAt, wholeAt, isText, textAt}
+use Rattle.model.specs.Words.{Got, isLetter, isDigit, isWordByte, run, before, wordAt, biased, decimal, plainDigits, isWhole, digitsAt, wholeAt}
+use Rattle.model.specs.Words.{isText, textAt}
 use Rattle.model.specs.Lines.{isAllowed}
 use Rattle.model.specs.Values.{str}
 use Rattle.model.specs.Signs.{Sign, word, whole, text, mark, broken, marks, begins, markAt, orBroken, digitNext, signAt, wordy, signs}
@@ -32,7 +33,8 @@ pick-case P true x y f g = f tt
 pick-case P false x y f g = g
 
 -- what follows from what is there
-pub then-case : {A B : Type 0} (P : A → Type 0) (Q : B → Type 0) (m : Maybe A) (f : A → Maybe B) → IfThere P m → ((a : A) → P a → IfThere Q (f a)) → IfThere Q (andThen m f)
+pub then-case : {A B : Type 0} (P : A → Type 0) (Q : B → Type 0) (m : Maybe A) (f : A → Maybe B) → IfThere P m → ((a : A) → P a → IfThere Q (f a))
+    → IfThere Q (andThen m f)
 unfolding andThen
 then-case P Q nothing f h k = tt
 then-case P Q (just a) f h k = k a h
@@ -88,11 +90,13 @@ unfolding digitsAt isWhole
 digits-writable minus s =
     let ds = run isDigit s in
     pick-case (IfThere (λ (g : Got ℕ). WritableSign (whole (g .got)))) (plainDigits minus ds && leb (decimal 0 ds) (pick minus (2 ^ 63) (2 ^ 63 - 1))) _ nothing
-    (λ u. biased-small minus (decimal 0 ds) (leb→le (decimal 0 ds) (pick minus (2 ^ 63) (2 ^ 63 - 1)) (and-iff (plainDigits minus ds) (leb (decimal 0 ds) (pick minus (2 ^ 63) (2 ^ 63 - 1))) .1 u .1))) tt
+    (λ u. biased-small minus (decimal 0 ds) (leb→le (decimal 0 ds) (pick minus (2 ^ 63) (2 ^ 63 - 1))
+    (and-iff (plainDigits minus ds) (leb (decimal 0 ds) (pick minus (2 ^ 63) (2 ^ 63 - 1))) .1 u .1))) tt
 
 whole-writable : (b : ℕ) (s : Bytes) → IfThere (λ (g : Got ℕ). WritableSign (whole (g .got))) (wholeAt (b ∷ s))
 unfolding wholeAt
-whole-writable b s = pick-case (IfThere (λ (g : Got ℕ). WritableSign (whole (g .got)))) (eqb b 45) _ _ (λ t. digits-writable true s) (digits-writable false (b ∷ s))
+whole-writable b s = pick-case (IfThere (λ (g : Got ℕ). WritableSign (whole (g .got)))) (eqb b 45) _ _ (λ t. digits-writable true s)
+    (digits-writable false (b ∷ s))
 
 -- allowed bytes without an apostrophe
 abbrev NoApostrophe : Bytes → Type 0
@@ -104,11 +108,16 @@ before-apostrophe [] h = tt
 before-apostrophe (b ∷ s) h = ⊎-elim (λ t. rw (is-true (eqb b 39) t) (tt, tt))
     (λ t. let u = pick-iff (isAllowed b) (all isAllowed s) .1 h in
     rw (is-false (eqb b 39) t) (then-case NoApostrophe NoApostrophe (before 39 s) (λ t. just (b ∷ t)) (before-apostrophe s (u .1))
-    (λ w k. (pick-iff (not (eqb b 39)) (all (λ b. not (eqb b 39)) w) .0 (not-T (eqb b 39) t, k .0), pick-iff (isAllowed b) (all isAllowed w) .0 (u .0, k .1))))) (test (eqb b 39))
+    (λ w k. (
+      pick-iff (not (eqb b 39)) (all (λ b. not (eqb b 39)) w) .0 (not-T (eqb b 39) t, k .0),
+      pick-iff (isAllowed b) (all isAllowed w) .0
+          (u .0, k .1),
+    )))) (test (eqb b 39))
 
 text-writable : (s : Bytes) → T (all isAllowed s) → IfThere (λ (g : Got Bytes). WritableSign (text (g .got))) (textAt s)
 unfolding textAt
-text-writable s h = then-case NoApostrophe (λ (g : Got Bytes). WritableSign (text (g .got))) (before 39 s) (λ t. pick (isText t) (just (record { got = t; size = length t + 2 })) nothing) (before-apostrophe s h)
+text-writable s h = then-case NoApostrophe (λ (g : Got Bytes). WritableSign (text (g .got))) (before 39 s)
+    (λ t. pick (isText t) (just (record { got = t; size = length t + 2 })) nothing) (before-apostrophe s h)
     (λ t k. pick-case (IfThere (λ (g : Got Bytes). WritableSign (text (g .got)))) (isText t) _ nothing (λ u. (u, k .0, k .1)) tt)
 
 mark-writable : (ms : List Bytes) (s : Bytes) → WritableGot (markAt ms s)
@@ -131,5 +140,8 @@ signs-writable c k (suc n) (b ∷ s) h = signs-writable c k n s (pick-iff (isAll
 signs-writable c k zero (b ∷ s) h =
     let u = pick-iff (isAllowed b) (all isAllowed s) .1 h .1 in
     let g = signAt c b s in
-    pick-case (Each WritableSign) (eqb b 32 || eqb b 10) _ _ (λ t. signs-writable c false 0 s u)
-    (pick-case WritableSign (k && wordy (g .got)) broken (g .got) (λ t. tt) (sign-writable c b s u), signs-writable (Rattle.model.specs.Signs.chainBehind c (g .got)) (wordy (g .got)) (g .size - 1) s u)
+    pick-case (Each WritableSign) (eqb b 32 || eqb b 10) _ _ (λ t. signs-writable c false 0 s u) (
+      pick-case WritableSign (k && wordy (g .got)) broken (g .got) (λ t. tt) (sign-writable c b s u),
+      signs-writable
+          (Rattle.model.specs.Signs.chainBehind c (g .got)) (wordy (g .got)) (g .size - 1) s u,
+    )

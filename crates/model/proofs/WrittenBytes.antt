@@ -53,13 +53,15 @@ relation-bytes ge = record { bytes = tt }
 condition-bytes : (c : Condition) → WritableCondition c → AllowedText (conditionText c)
 unfolding demandText all isAllowed
 condition-bytes (differ v u) h = name-bytes v (h .0) & literal (bytesOf " <> ") tt & name-bytes u (h .1)
-condition-bytes (demand x a r v) h = name-bytes x (h .0) & literal (bytesOf ".") tt & name-bytes a (h .1) & literal (bytesOf " ") tt & relation-bytes r & literal (bytesOf " ") tt & literal (valueText v) (value-allowed v (h .2))
+condition-bytes (demand x a r v) h = name-bytes x (h .0) & literal (bytesOf ".") tt & name-bytes a (h .1) & literal (bytesOf " ") tt & relation-bytes r &
+    literal (bytesOf " ") tt & literal (valueText v) (value-allowed v (h .2))
 
 match-allowed : (p : WrittenMatch) → AllNames p → AllowedText (matchText p)
 unfolding all isAllowed
 match-allowed (vertexMatch v) h = literal (bytesOf "Match (") tt & name-bytes v h & literal (bytesOf ")") tt
 match-allowed (edgeMatch u e l v) h =
-    literal (bytesOf "Match (") tt & name-bytes u (h .0) & literal (bytesOf ")-[") tt & name-bytes e (h .1) & literal (bytesOf ":") tt & name-bytes l (h .2) & literal (bytesOf "]->(") tt & name-bytes v (h .3) & literal (bytesOf ")") tt
+    literal (bytesOf "Match (") tt & name-bytes u (h .0) & literal (bytesOf ")-[") tt & name-bytes e (h .1) & literal (bytesOf ":") tt & name-bytes l
+    (h .2) & literal (bytesOf "]->(") tt & name-bytes v (h .3) & literal (bytesOf ")") tt
 
 behind-bytes : (sep : Bytes) (ts : List Bytes) → AllowedText sep → Each AllowedText ts → AllowedText (eachBehind sep ts)
 unfolding eachBehind all
@@ -83,14 +85,17 @@ pick-bytes : (t : Bool) (a b : Bytes) → AllowedText a → AllowedText b → Al
 pick-bytes true a b h k = h
 pick-bytes false a b h k = k
 
-written-bytes : (ps : List WrittenMatch) (cs : List Condition) (vs : List Bytes) → Each AllNames ps → Each WritableCondition cs → Each IsName vs → AllowedText (writtenText ps cs vs)
+written-bytes : (ps : List WrittenMatch) (cs : List Condition) (vs : List Bytes) → Each AllNames ps → Each WritableCondition cs → Each IsName vs
+    → AllowedText (writtenText ps cs vs)
 unfolding all isAllowed
 written-bytes ps cs vs g h k =
     join-bytes (bytesOf " ") (map matchText ps) (literal (bytesOf " ") tt) (map-bytes AllNames matchText match-allowed ps g)
     & pick-bytes (isNil cs) [] (bytesOf " Where " ++ joinBy (bytesOf " AND ") (map conditionText cs)) (literal [] tt)
-    (literal (bytesOf " Where ") tt & join-bytes (bytesOf " AND ") (map conditionText cs) (literal (bytesOf " AND ") tt) (map-bytes WritableCondition conditionText condition-bytes cs h))
+    (literal (bytesOf " Where ") tt & join-bytes (bytesOf " AND ") (map conditionText cs) (literal (bytesOf " AND ") tt)
+    (map-bytes WritableCondition conditionText condition-bytes cs h))
     & literal (bytesOf " Return ") tt & join-bytes (bytesOf ", ") vs (literal (bytesOf ", ") tt) (names-bytes vs k)
 
 -- a written text of names, conditions that can be written and names is of allowed bytes
-pub written-text-allowed : (ps : List WrittenMatch) (cs : List Condition) (vs : List Bytes) → Each AllNames ps → Each WritableCondition cs → Each IsName vs → Allowed (writtenText ps cs vs)
+pub written-text-allowed : (ps : List WrittenMatch) (cs : List Condition) (vs : List Bytes) → Each AllNames ps → Each WritableCondition cs → Each IsName vs
+    → Allowed (writtenText ps cs vs)
 written-text-allowed ps cs vs g h k = written-bytes ps cs vs g h k .bytes

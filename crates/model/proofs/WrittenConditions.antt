@@ -28,12 +28,14 @@ pub name-is : (v : Bytes) → IsName v → nameOf v ≡ just v
 unfolding nameOf
 name-is v h = rw (h .1)
 
-not-keyword : (v : Bytes) → mem v neverNames ≡ false → (same v (bytesOf "Match") ≡ false) × (same v (bytesOf "Where") ≡ false) × (same v (bytesOf "Return") ≡ false)
+not-keyword : (v : Bytes) → mem v neverNames ≡ false
+    → (same v (bytesOf "Match") ≡ false) × (same v (bytesOf "Where") ≡ false) × (same v (bytesOf "Return") ≡ false)
 unfolding mem any neverNames
 not-keyword v h = (
   is-false (same v (bytesOf "Match")) (λ t. subst T h (any-i (same v) neverNames (bytesOf "Match") (List·Memᴰ·head refl) t)),
   is-false (same v (bytesOf "Where")) (λ t. subst T h (any-i (same v) neverNames (bytesOf "Where") (List·Memᴰ·tail (List·Memᴰ·head refl)) t)),
-  is-false (same v (bytesOf "Return")) (λ t. subst T h (any-i (same v) neverNames (bytesOf "Return") (List·Memᴰ·tail (List·Memᴰ·tail (List·Memᴰ·tail (List·Memᴰ·head refl)))) t)),
+  is-false (same v (bytesOf "Return")) (λ t. subst T h
+      (any-i (same v) neverNames (bytesOf "Return") (List·Memᴰ·tail (List·Memᴰ·tail (List·Memᴰ·tail (List·Memᴰ·head refl)))) t)),
 )
 
 chain-stays : (c : Bool) (v : Bytes) → IsName v → chainBehind c (word v) ≡ c
@@ -89,7 +91,8 @@ unfolding valueText isLetter isWordByte isDigit between all chainBehind isWord s
 lex-value (int n) s h f = lex-whole n s h (follows-digit f) ∙ ap (λ x. whole n ∷ x) (needs-no-space f)
 lex-value (str t) s h f = rw append-assoc (lex-text t s (h .0) (h .1))
 lex-value (bool true) s h f = lex-word false (bytesOf "true") s (tt, tt, omega arith) (follows-word f) ∙ ap (λ x. word (bytesOf "true") ∷ x) (needs-no-space f)
-lex-value (bool false) s h f = lex-word false (bytesOf "false") s (tt, tt, omega arith) (follows-word f) ∙ ap (λ x. word (bytesOf "false") ∷ x) (needs-no-space f)
+lex-value (bool false) s h f = lex-word false (bytesOf "false") s (tt, tt, omega arith) (follows-word f)
+    ∙ ap (λ x. word (bytesOf "false") ∷ x) (needs-no-space f)
 
 -- a condition
 abbrev pub WritableCondition : Condition → Type 0
@@ -115,7 +118,8 @@ lex-relation le s = refl
 lex-relation gt s = refl
 lex-relation ge s = refl
 
-demand-text : (x a : Bytes) (r : Relation) (v : Value) (s : Bytes) → demandText x a r v ++ s ≡ x ++ (46 ∷ (a ++ (32 ∷ (relationText r ++ (32 ∷ (valueText v ++ s))))))
+demand-text : (x a : Bytes) (r : Relation) (v : Value) (s : Bytes)
+    → demandText x a r v ++ s ≡ x ++ (46 ∷ (a ++ (32 ∷ (relationText r ++ (32 ∷ (valueText v ++ s))))))
 unfolding demandText
 demand-text x a r v s = simp append-assoc
 
@@ -136,12 +140,14 @@ unfolding signs signAt isLetter isDigit between markAt marks begins wordy chainB
 lex-dot s = refl
 
 -- a written condition gives its signs
-pub lex-condition : (c : Condition) (s : Bytes) → WritableCondition c → Follows s → signs false false 0 (conditionText c ++ s) ≡ conditionSigns c ++ signs false false 0 s
+pub lex-condition : (c : Condition) (s : Bytes) → WritableCondition c → Follows s
+    → signs false false 0 (conditionText c ++ s) ≡ conditionSigns c ++ signs false false 0 s
 unfolding isWordByte isLetter isDigit between
 lex-condition (differ v u) s h f =
     ap (signs false false 0) (differ-text v u s)
     ∙ lex-name false v _ (h .0) (ends-word 32 _ refl)
-    ∙ ap (λ z. word v ∷ z) (lex-not (u ++ s) ∙ ap (λ z. mark (bytesOf "<>") ∷ z) (lex-name false u s (h .1) (follows-word f) ∙ ap (λ z. word u ∷ z) (needs-no-space f)))
+    ∙ ap (λ z. word v ∷ z) (lex-not (u ++ s)
+    ∙ ap (λ z. mark (bytesOf "<>") ∷ z) (lex-name false u s (h .1) (follows-word f) ∙ ap (λ z. word u ∷ z) (needs-no-space f)))
 lex-condition (demand x a r v) s h f =
     ap (signs false false 0) (demand-text x a r v s)
     ∙ lex-name false x _ (h .0) (ends-word 46 _ refl)

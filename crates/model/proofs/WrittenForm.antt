@@ -58,7 +58,8 @@ module _ (q : QueryText) where
   clause-text (differ v u) n = let a = vertex-back v (n .0) in let b = vertex-back u (n .1) in λ i. a i ++ bytesOf " <> " ++ b i
   clause-text (demand x a r v) n = ⊎-elim
       (λ t. rw (is-true (mem x (vertexNames q)) t) (ap (λ z. demandText z a r v) (vertex-back x (mem-e x (vertexNames q) t))))
-      (λ t. rw (is-false (mem x (vertexNames q)) t) (ap (λ z. demandText z a r v) (edge-back x (⊎-elim (λ m. m) (λ m. absurd (t (mem-i x (vertexNames q) m))) n))))
+      (λ t. rw (is-false (mem x (vertexNames q)) t)
+      (ap (λ z. demandText z a r v) (edge-back x (⊎-elim (λ m. m) (λ m. absurd (t (mem-i x (vertexNames q) m))) n))))
       (test (mem x (vertexNames q)))
 
   vertex-texts : map (λ v. bytesOf "Match (" ++ v ++ bytesOf ")") (patternOf q .vertices) ≡ map matchText (map vertexMatch (vertexNames q))
@@ -68,7 +69,8 @@ module _ (q : QueryText) where
   edge-texts : map (edgeText (patternOf q)) (patternOf q .edges) ≡ map matchText (map matchOfEdge (edgesOf q))
   edge-texts = map-edges q (edgeText (patternOf q)) edge-text
 
-  written-matches : map (λ v. bytesOf "Match (" ++ v ++ bytesOf ")") (patternOf q .vertices) ++ map (edgeText (patternOf q)) (patternOf q .edges) ≡ map matchText (matchesFor q)
+  written-matches : map (λ v. bytesOf "Match (" ++ v ++ bytesOf ")") (patternOf q .vertices) ++ map (edgeText (patternOf q)) (patternOf q .edges)
+      ≡ map matchText (matchesFor q)
   written-matches = (λ i. vertex-texts i ++ edge-texts i) ∙ sym (map-append matchText (map vertexMatch (vertexNames q)) (map matchOfEdge (edgesOf q)))
 
   module _ (d : Named q) where

@@ -9,11 +9,13 @@ use Rattle.model.specs.Values.{Value, int, str, bool}
 use Rattle.model.specs.Forms.{truthOf}
 use Rattle.model.specs.Signs.{Sign, word, mark, isWord, isMark, signName, signValue, next, expect}
 use Rattle.model.specs.QueryText.{Relation, eq, ne, lt, le, gt, ge, Condition, differ, demand}
-use Rattle.model.specs.Grammar.{Piece, start, goes, asks, returns, atStart, inChain, inWhere, inReturn, spotAfter, signRelation, vertexAt, startAt, linkAt, conditionAt, returnAt, pieceAt, endsAt, pieces}
+use Rattle.model.specs.Grammar.{Piece, start, goes, asks, returns, atStart, inChain, inWhere, inReturn, spotAfter, signRelation, vertexAt}
+use Rattle.model.specs.Grammar.{startAt, linkAt, conditionAt, returnAt, pieceAt, endsAt, pieces}
 use Rattle.model.specs.Writing.{relationText}
 use Rattle.model.specs.Graph.{Each}
 use Rattle.model.proofs.WrittenConditions.{IsName, name-is, valueSign, WritableCondition, conditionSigns}
-use Rattle.model.proofs.WrittenText.{WrittenMatch, vertexMatch, edgeMatch, AllNames, vertexSigns, matchSigns, andSigns, whereSigns, commaSigns, returnSigns, writtenSigns}
+use Rattle.model.proofs.WrittenText.{WrittenMatch, vertexMatch, edgeMatch, AllNames, vertexSigns, matchSigns, andSigns, whereSigns, commaSigns}
+use Rattle.model.proofs.WrittenText.{returnSigns, writtenSigns}
 
 -- the pieces of a written Match
 abbrev pub matchPieces : WrittenMatch → List Piece
@@ -26,7 +28,8 @@ unfolding pieces pieceAt startAt vertexAt expect next signName isMark isWord sam
 piece-start v ts qs h e = (rw (name-is v h, e) refl, rw (name-is v h, e) refl)
 
 piece-goes : (e l v : Bytes) (ts : List Sign) (qs : List Piece) → IsName e → IsName l → IsName v → pieces inChain 0 ts ≡ just qs
-    → pieces inChain 0 (mark (bytesOf "-") ∷ mark (bytesOf "[") ∷ word e ∷ mark (bytesOf ":") ∷ word l ∷ mark (bytesOf "]") ∷ mark (bytesOf "->") ∷ vertexSigns v ++ ts) ≡ just (goes e l v ∷ qs)
+    → pieces inChain 0 (mark (bytesOf "-") ∷ mark (bytesOf "[") ∷ word e ∷ mark (bytesOf ":") ∷ word l ∷ mark (bytesOf "]") ∷ mark
+    (bytesOf "->") ∷ vertexSigns v ++ ts) ≡ just (goes e l v ∷ qs)
 unfolding pieces pieceAt linkAt vertexAt expect next signName isMark isWord same andThen spotAfter
 piece-goes e l v ts qs h i j d = rw (name-is e h, name-is l i, name-is v j, d) refl
 
@@ -54,10 +57,12 @@ value-is (bool false) = refl
 
 -- the signs of a condition make its piece
 pub piece-condition : (c : Condition) (ts : List Sign) (qs : List Piece) → WritableCondition c → pieces inWhere 0 ts ≡ just qs
-    → (pieces inChain 0 (word (bytesOf "Where") ∷ conditionSigns c ++ ts) ≡ just (asks c ∷ qs)) × (pieces inWhere 0 (word (bytesOf "AND") ∷ conditionSigns c ++ ts) ≡ just (asks c ∷ qs))
+    → (pieces inChain 0 (word (bytesOf "Where") ∷ conditionSigns c ++ ts) ≡ just (asks c ∷ qs))
+    × (pieces inWhere 0 (word (bytesOf "AND") ∷ conditionSigns c ++ ts) ≡ just (asks c ∷ qs))
 unfolding pieces pieceAt conditionAt expect next signName isMark isWord same andThen spotAfter
 piece-condition (differ v u) ts qs h e = (rw (name-is v (h .0), name-is u (h .1), e) refl, rw (name-is v (h .0), name-is u (h .1), e) refl)
-piece-condition (demand x a r v) ts qs h e = (rw (name-is x (h .0), name-is a (h .1), relation-is r, value-is v, e) refl, rw (name-is x (h .0), name-is a (h .1), relation-is r, value-is v, e) refl)
+piece-condition (demand x a r v) ts qs h e =
+    (rw (name-is x (h .0), name-is a (h .1), relation-is r, value-is v, e) refl, rw (name-is x (h .0), name-is a (h .1), relation-is r, value-is v, e) refl)
 
 piece-commas : (vs : List Bytes) → Each IsName vs → pieces inReturn 0 (joined commaSigns vs) ≡ just (map returns vs)
 unfolding pieces pieceAt returnAt next signName isMark same andThen spotAfter joined endsAt
@@ -73,7 +78,8 @@ piece-ands : (cs : List Condition) (ts : List Sign) (qs : List Piece) → Each W
     → pieces inWhere 0 (joined andSigns cs ++ ts) ≡ just (map asks cs ++ qs)
 unfolding joined
 piece-ands [] ts qs h e = e
-piece-ands (c ∷ cs) ts qs h e = ap (pieces inWhere 0) (append-assoc (andSigns c) (joined andSigns cs) ts) ∙ piece-condition c _ _ (h .0) (piece-ands cs ts qs (h .1) e) .1
+piece-ands (c ∷ cs) ts qs h e = ap (pieces inWhere 0) (append-assoc (andSigns c) (joined andSigns cs) ts)
+    ∙ piece-condition c _ _ (h .0) (piece-ands cs ts qs (h .1) e) .1
 
 piece-rest : (cs : List Condition) (v : Bytes) (vs : List Bytes) → Each WritableCondition cs → Each IsName (v ∷ vs)
     → pieces inChain 0 (whereSigns cs ++ returnSigns (v ∷ vs)) ≡ just (map asks cs ++ map returns (v ∷ vs))
@@ -96,7 +102,8 @@ abbrev pub writtenPieces : List WrittenMatch → List Condition → List Bytes �
 writtenPieces ps cs vs = joined matchPieces ps ++ (map asks cs ++ map returns vs)
 
 -- the signs of a written query make its pieces
-pub pieces-of-written : (p : WrittenMatch) (ps : List WrittenMatch) (cs : List Condition) (v : Bytes) (vs : List Bytes) → Each AllNames (p ∷ ps) → Each WritableCondition cs → Each IsName (v ∷ vs)
+pub pieces-of-written : (p : WrittenMatch) (ps : List WrittenMatch) (cs : List Condition) (v : Bytes) (vs : List Bytes) → Each AllNames (p ∷ ps)
+    → Each WritableCondition cs → Each IsName (v ∷ vs)
     → pieces atStart 0 (writtenSigns (p ∷ ps) cs (v ∷ vs)) ≡ just (writtenPieces (p ∷ ps) cs (v ∷ vs))
 unfolding joined
 pieces-of-written p ps cs v vs g h k =

@@ -28,7 +28,8 @@ use Rattle.model.proofs.WrittenForm.{written-form}
 use Rattle.model.proofs.WrittenBytes.{written-text-allowed}
 
 -- a written text is read as its syntax tree
-written-text-is-read : (ps : List WrittenMatch) (cs : List Condition) (vs : List Bytes) → NonEmpty ps → NonEmpty vs → Each AllNames ps → Each WritableCondition cs → Each IsName vs
+written-text-is-read : (ps : List WrittenMatch) (cs : List Condition) (vs : List Bytes) → NonEmpty ps → NonEmpty vs → Each AllNames ps
+    → Each WritableCondition cs → Each IsName vs
     → queryText (writtenText ps cs vs) ≡ just (writtenTree ps cs vs)
 unfolding queryText signsOf andThen
 written-text-is-read [] cs vs a b g h k = absurd a
@@ -37,7 +38,8 @@ written-text-is-read (p ∷ ps) cs (v ∷ vs) a b g h k =
     rw (signs-of-written p ps cs v vs g h k, pieces-of-written p ps cs v vs g h k) (ap just (tail-of-written (p ∷ ps) cs (v ∷ vs)))
 
 -- the written text of an accepted query, where it keeps 2,048 bytes, is accepted, and read as the tree `readBack`
-pub written-read : (b : Book) (s : Bytes) (q : QueryText) → readQuery b s ≡ accepted q → length (writtenQuery (patternOf q)) ≤ 2048 → readQuery b (writtenQuery (patternOf q)) ≡ accepted (readBack q)
+pub written-read : (b : Book) (s : Bytes) (q : QueryText) → readQuery b s ≡ accepted q → length (writtenQuery (patternOf q)) ≤ 2048
+    → readQuery b (writtenQuery (patternOf q)) ≡ accepted (readBack q)
 written-read b s q e l =
     let t = query-accepted b s q e in
     let w = wellformed s q (line-allowed 1 s (t .allowed)) (t .is-text) in
@@ -49,7 +51,8 @@ written-read b s q e l =
     accept-query b (writtenQuery (patternOf q)) (readBack q) (record {
       short = l;
       allowed = ap (badLine 1) f ∙ allowed-line 1 (writtenText ps cs (q .returns)) (written-text-allowed ps cs (q .returns) g h (w .returns-names));
-      is-text = ap queryText f ∙ written-text-is-read ps cs (q .returns) (some-match-for (vertexNames q) (edgesOf q) (some-vertex q w)) (w .some-return) g h (w .returns-names);
+      is-text = ap queryText f ∙ written-text-is-read ps cs (q .returns) (some-match-for (vertexNames q) (edgesOf q) (some-vertex q w))
+          (w .some-return) g h (w .returns-names);
       faultless = back-fault b q (some-vertex q w) (t .faultless);
     })
 

@@ -12,7 +12,8 @@ use lib.Dec.{T, leb, ltb, eqb, eqb→eq, leb→le, le→leb, ltb→lt, nltb→le
 use Rattle.model.specs.Bytes.{Bytes}
 use Rattle.model.specs.Choice.{pick, just, andThen}
 use Rattle.model.specs.Lists.{isNil, all}
-use Rattle.model.specs.Words.{Got, between, isLetter, isDigit, isWordByte, run, before, wordAt, biased, decimal, plainDigits, isWhole, digitsAt, wholeAt, isText, textAt}
+use Rattle.model.specs.Words.{Got, between, isLetter, isDigit, isWordByte, run, before, wordAt, biased, decimal, plainDigits, isWhole, digitsAt}
+use Rattle.model.specs.Words.{wholeAt, isText, textAt}
 use Rattle.model.specs.Signs.{Sign, word, whole, text, orBroken, digitNext, signAt, isWord, wordy, chainBehind, signs}
 use Rattle.model.specs.Writing.{digits, wholeText}
 use Rattle.model.proofs.Decides.{and-iff, pick-iff}
@@ -25,7 +26,8 @@ pub eqb-no : (a b : ℕ) → a ≢ b → eqb a b ≡ false
 eqb-no a b h = is-false (eqb a b) (λ t. h (eqb→eq a b t))
 
 -- one sign of size n + 1
-pub signs-step : (c k : Bool) (b : ℕ) (s : Bytes) (g : Sign) (n : ℕ) → (eqb b 32 || eqb b 10) ≡ false → signAt c b s ≡ record { got = g; size = suc n } → (k && wordy g) ≡ false
+pub signs-step : (c k : Bool) (b : ℕ) (s : Bytes) (g : Sign) (n : ℕ) → (eqb b 32 || eqb b 10) ≡ false → signAt c b s ≡ record { got = g; size = suc n }
+    → (k && wordy g) ≡ false
     → signs c k 0 (b ∷ s) ≡ g ∷ signs (chainBehind c g) (wordy g) 0 (drop n s)
 unfolding signs
 signs-step c k b s g n e f d =
@@ -60,7 +62,8 @@ lex-word c (b ∷ w) s h e =
     let l = letter-e b (h .0) in
     let p : b ≢ 32 = λ z. omega arith in
     let q : b ≢ 10 = λ z. omega arith in
-    signs-step c false b (w ++ s) (word (b ∷ w)) (length w) (no-blank b p q) (word-sign c b w s h e) refl ∙ ap (λ r. word (b ∷ w) ∷ signs (chainBehind c (word (b ∷ w))) true 0 r) (drop-append-seam w s)
+    signs-step c false b (w ++ s) (word (b ∷ w)) (length w) (no-blank b p q) (word-sign c b w s h e) refl
+    ∙ ap (λ r. word (b ∷ w) ∷ signs (chainBehind c (word (b ∷ w))) true 0 r) (drop-append-seam w s)
 
 -- a text value
 pub before-all : (q : ℕ) (t s : Bytes) → T (all (λ b. not (eqb b q)) t) → eqb q q ≡ true → before q (t ++ q ∷ s) ≡ just t
@@ -126,7 +129,8 @@ digits-of (suc k) n h p = ⊎-elim
     (λ t. let l = ltb→lt n 10 t in rw (is-true (ltb n 10) t) (one-digit n l))
     (λ t. let l : 10 ≤ n = nltb→le n 10 (not-T (ltb n 10) t) in rw (is-false (ltb n 10) t) (more k h l (digits-of k (n / 10)))) (test (ltb n 10))
   where
-    more : (k : ℕ) → n < 10 * tenTo k → 10 ≤ n → (n / 10 < tenTo k → 0 < k → Digits (n / 10) (digits k (n / 10))) → Digits n (digits k (n / 10) ++ ((48 + n % 10) ∷ []))
+    more : (k : ℕ) → n < 10 * tenTo k → 10 ≤ n → (n / 10 < tenTo k → 0 < k → Digits (n / 10) (digits k (n / 10)))
+        → Digits n (digits k (n / 10) ++ ((48 + n % 10) ∷ []))
     more zero h l ih = absurd (omega arith)
     more (suc k) h l ih = last (digits (suc k) (n / 10)) (ih (omega (arith, div-add-mod' n 10)) (omega arith)) l
       where
@@ -163,18 +167,21 @@ digit-no-letter : (b : ℕ) → T (isDigit b) → isLetter b ≡ false
 digit-no-letter b t = is-false (isLetter b) (λ u. let p = letter-e b u in let q = digit-e b t in omega arith)
 
 -- a sign where a digit stands
-digit-sign : (d : ℕ) (s : Bytes) (g : Got ℕ) → T (isDigit d) → digitsAt false (d ∷ s) ≡ just g → signAt false d s ≡ record { got = whole (g .got); size = g .size }
+digit-sign : (d : ℕ) (s : Bytes) (g : Got ℕ) → T (isDigit d) → digitsAt false (d ∷ s) ≡ just g
+    → signAt false d s ≡ record { got = whole (g .got); size = g .size }
 unfolding signAt wholeAt orBroken
 digit-sign d s g t e =
     let p = digit-e d t in
     let q : d ≢ 45 = λ z. omega arith in
     rw (digit-no-letter d t, is-true (isDigit d) t, eqb-no d 45 q, e) refl
 
-minus-sign : (d : ℕ) (s : Bytes) (g : Got ℕ) → T (isDigit d) → digitsAt true (d ∷ s) ≡ just g → signAt false 45 (d ∷ s) ≡ record { got = whole (g .got); size = g .size }
+minus-sign : (d : ℕ) (s : Bytes) (g : Got ℕ) → T (isDigit d) → digitsAt true (d ∷ s) ≡ just g
+    → signAt false 45 (d ∷ s) ≡ record { got = whole (g .got); size = g .size }
 unfolding signAt wholeAt orBroken isLetter between digitNext isDigit
 minus-sign d s g t e = rw (is-true (isDigit d) t, e) refl
 
-lex-plus : (n : ℕ) (ds s : Bytes) → Digits n ds → (n ≡ 0 → ds ≡ 48 ∷ []) → n ≤ 2 ^ 63 - 1 → run isDigit s ≡ [] → signs false false 0 (ds ++ s) ≡ whole (2 ^ 63 + n) ∷ signs false true 0 s
+lex-plus : (n : ℕ) (ds s : Bytes) → Digits n ds → (n ≡ 0 → ds ≡ 48 ∷ []) → n ≤ 2 ^ 63 - 1 → run isDigit s ≡ []
+    → signs false false 0 (ds ++ s) ≡ whole (2 ^ 63 + n) ∷ signs false true 0 s
 unfolding wordy chainBehind isWord biased plainDigits all
 lex-plus n [] s r z h e = absurd (plain-digits n [] r z)
 lex-plus n (d ∷ ds) s r z h e =
@@ -184,17 +191,20 @@ lex-plus n (d ∷ ds) s r z h e =
     let w : d ≢ 10 = λ z. omega arith in
     let m : suc (length ds) + 0 ≡ suc (length ds) = omega arith in
     signs-step false false d (ds ++ s) (whole (2 ^ 63 + n)) (length ds) (no-blank d q w)
-    (digit-sign d (ds ++ s) (record { got = 2 ^ 63 + n; size = suc (length ds) + 0 }) (t .0) (digits-at false n (d ∷ ds) s r (plain-digits n (d ∷ ds) r z) h e) ∙ (λ i. record { got = whole (2 ^ 63 + n); size = m i })) refl
+    (digit-sign d (ds ++ s) (record { got = 2 ^ 63 + n; size = suc (length ds) + 0 }) (t .0)
+    (digits-at false n (d ∷ ds) s r (plain-digits n (d ∷ ds) r z) h e) ∙ (λ i. record { got = whole (2 ^ 63 + n); size = m i })) refl
     ∙ ap (λ x. whole (2 ^ 63 + n) ∷ signs false true 0 x) (drop-append-seam ds s)
 
-lex-minus : (n : ℕ) (ds s : Bytes) → Digits n ds → 0 < n → n ≤ 2 ^ 63 → run isDigit s ≡ [] → signs false false 0 (45 ∷ ds ++ s) ≡ whole (2 ^ 63 - n) ∷ signs false true 0 s
+lex-minus : (n : ℕ) (ds s : Bytes) → Digits n ds → 0 < n → n ≤ 2 ^ 63 → run isDigit s ≡ []
+    → signs false false 0 (45 ∷ ds ++ s) ≡ whole (2 ^ 63 - n) ∷ signs false true 0 s
 unfolding wordy chainBehind isWord biased all
 lex-minus n [] s r z h e = absurd (r .first z)
 lex-minus n (d ∷ ds) s r z h e =
     let t = pick-iff (isDigit d) (all isDigit ds) .1 (r .every) in
     let m : suc (length ds) + 1 ≡ suc (suc (length ds)) = omega arith in
     signs-step false false 45 (d ∷ ds ++ s) (whole (2 ^ 63 - n)) (suc (length ds)) refl
-    (minus-sign d (ds ++ s) (record { got = 2 ^ 63 - n; size = suc (length ds) + 1 }) (t .0) (digits-at true n (d ∷ ds) s r (noZeroFirst-plain true (d ∷ ds) (r .first z)) h e) ∙ (λ i. record { got = whole (2 ^ 63 - n); size = m i })) refl
+    (minus-sign d (ds ++ s) (record { got = 2 ^ 63 - n; size = suc (length ds) + 1 }) (t .0)
+    (digits-at true n (d ∷ ds) s r (noZeroFirst-plain true (d ∷ ds) (r .first z)) h e) ∙ (λ i. record { got = whole (2 ^ 63 - n); size = m i })) refl
     ∙ ap (λ x. whole (2 ^ 63 - n) ∷ signs false true 0 x) (drop-append-seam ds s)
 
 -- a number is read as it is written
@@ -203,10 +213,12 @@ unfolding wholeText tenTo
 lex-whole n s h e = ⊎-elim
     (λ t. let l = leb→le (2 ^ 63) n t in
     let z : 2 ^ 63 + (n - 2 ^ 63) ≡ n = omega arith in
-    rw (is-true (leb (2 ^ 63) n) t) (lex-plus (n - 2 ^ 63) (digits 20 (n - 2 ^ 63)) s (digits-of 20 (n - 2 ^ 63) (omega arith) (omega arith)) (zero-digits (n - 2 ^ 63)) (omega arith) e ∙ ap (λ x. whole x ∷ signs false true 0 s) z))
+    rw (is-true (leb (2 ^ 63) n) t) (lex-plus (n - 2 ^ 63) (digits 20 (n - 2 ^ 63)) s (digits-of 20 (n - 2 ^ 63) (omega arith) (omega arith))
+    (zero-digits (n - 2 ^ 63)) (omega arith) e ∙ ap (λ x. whole x ∷ signs false true 0 s) z))
     (λ t. let l : n < 2 ^ 63 = nleb→lt (2 ^ 63) n (not-T (leb (2 ^ 63) n) t) in
     let z : 2 ^ 63 - (2 ^ 63 - n) ≡ n = omega arith in
-    rw (is-false (leb (2 ^ 63) n) t) (lex-minus (2 ^ 63 - n) (digits 20 (2 ^ 63 - n)) s (digits-of 20 (2 ^ 63 - n) (omega arith) (omega arith)) (omega arith) (omega arith) e ∙ ap (λ x. whole x ∷ signs false true 0 s) z))
+    rw (is-false (leb (2 ^ 63) n) t) (lex-minus (2 ^ 63 - n) (digits 20 (2 ^ 63 - n)) s (digits-of 20 (2 ^ 63 - n) (omega arith) (omega arith))
+    (omega arith) (omega arith) e ∙ ap (λ x. whole x ∷ signs false true 0 s) z))
     (test (leb (2 ^ 63) n))
 
 -- the bytes of a written number
@@ -215,5 +227,6 @@ unfolding wholeText tenTo all
 whole-bytes p h m n k = ⊎-elim
     (λ t. rw (is-true (leb (2 ^ 63) n) t) (all-more isDigit p h (digits 20 (n - 2 ^ 63)) (digits-of 20 (n - 2 ^ 63) (omega arith) (omega arith) .every)))
     (λ t. let l : n < 2 ^ 63 = nleb→lt (2 ^ 63) n (not-T (leb (2 ^ 63) n) t) in
-    rw (is-false (leb (2 ^ 63) n) t) (pick-iff (p 45) (all p (digits 20 (2 ^ 63 - n))) .0 (m, all-more isDigit p h (digits 20 (2 ^ 63 - n)) (digits-of 20 (2 ^ 63 - n) (omega arith) (omega arith) .every))))
+    rw (is-false (leb (2 ^ 63) n) t) (pick-iff (p 45) (all p (digits 20 (2 ^ 63 - n))) .0
+    (m, all-more isDigit p h (digits 20 (2 ^ 63 - n)) (digits-of 20 (2 ^ 63 - n) (omega arith) (omega arith) .every))))
     (test (leb (2 ^ 63) n))

@@ -10,7 +10,8 @@ use Rattle.model.specs.Signs.{Sign, word, mark, marks, begins, markAt, o
 use Rattle.model.specs.QueryText.{Condition}
 use Rattle.model.specs.Writing.{eachBehind, joinBy}
 use Rattle.model.specs.Graph.{Each}
-use Rattle.model.proofs.WrittenConditions.{IsName, lex-name, Follows, nil, space, comma, follows-word, needs-no-space, WritableCondition, conditionText, conditionSigns, ends-word, lex-condition}
+use Rattle.model.proofs.WrittenConditions.{IsName, lex-name, Follows, nil, space, comma, follows-word, needs-no-space, WritableCondition}
+use Rattle.model.proofs.WrittenConditions.{conditionText, conditionSigns, ends-word, lex-condition}
 
 -- a Match of one vertex, or of one edge
 pub data WrittenMatch : Type 0 where
@@ -34,7 +35,8 @@ vertexSigns v = mark (bytesOf "(") ∷ word v ∷ mark (bytesOf ")") ∷ []
 -- the signs of a written Match
 abbrev pub matchSigns : WrittenMatch → List Sign
 matchSigns (vertexMatch v) = word (bytesOf "Match") ∷ vertexSigns v
-matchSigns (edgeMatch u e l v) = word (bytesOf "Match") ∷ vertexSigns u ++ (mark (bytesOf "-") ∷ mark (bytesOf "[") ∷ word e ∷ mark (bytesOf ":") ∷ word l ∷ mark (bytesOf "]") ∷ mark (bytesOf "->") ∷ vertexSigns v)
+matchSigns (edgeMatch u e l v) = word (bytesOf "Match") ∷ vertexSigns u
+    ++ (mark (bytesOf "-") ∷ mark (bytesOf "[") ∷ word e ∷ mark (bytesOf ":") ∷ word l ∷ mark (bytesOf "]") ∷ mark (bytesOf "->") ∷ vertexSigns v)
 
 lex-match-word : (c : Bool) (s : Bytes) → signs c false 0 (bytesOf "Match (" ++ s) ≡ word (bytesOf "Match") ∷ mark (bytesOf "(") ∷ signs true false 0 s
 unfolding signs signAt orBroken wordAt run isWordByte isLetter isDigit between markAt marks begins wordy chainBehind isWord digitNext same
@@ -60,7 +62,8 @@ lex-to s = refl
 vertex-match-text : (v s : Bytes) → matchText (vertexMatch v) ++ s ≡ bytesOf "Match (" ++ (v ++ (41 ∷ s))
 vertex-match-text v s = simp append-assoc
 
-edge-match-text : (u e l v s : Bytes) → matchText (edgeMatch u e l v) ++ s ≡ bytesOf "Match (" ++ (u ++ (bytesOf ")-[" ++ (e ++ (58 ∷ (l ++ (bytesOf "]->(" ++ (v ++ (41 ∷ s))))))))
+edge-match-text : (u e l v s : Bytes) → matchText (edgeMatch u e l v) ++ s
+    ≡ bytesOf "Match (" ++ (u ++ (bytesOf ")-[" ++ (e ++ (58 ∷ (l ++ (bytesOf "]->(" ++ (v ++ (41 ∷ s))))))))
 edge-match-text u e l v s = simp append-assoc
 
 -- a written Match gives its signs
@@ -72,9 +75,11 @@ lex-match c (vertexMatch v) s h =
 lex-match c (edgeMatch u e l v) s h =
     ap (signs c false 0) (edge-match-text u e l v s) ∙ lex-match-word c _
     ∙ ap (λ z. word (bytesOf "Match") ∷ mark (bytesOf "(") ∷ z) (lex-name true u _ (h .0) (ends-word 41 _ refl)
-    ∙ ap (λ z. word u ∷ z) (lex-from _ ∙ ap (λ z. mark (bytesOf ")") ∷ mark (bytesOf "-") ∷ mark (bytesOf "[") ∷ z) (lex-name true e _ (h .1) (ends-word 58 _ refl)
+    ∙ ap (λ z. word u ∷ z) (lex-from _ ∙ ap (λ z. mark (bytesOf ")") ∷ mark (bytesOf "-") ∷ mark (bytesOf "[") ∷ z)
+    (lex-name true e _ (h .1) (ends-word 58 _ refl)
     ∙ ap (λ z. word e ∷ z) (lex-colon _ ∙ ap (λ z. mark (bytesOf ":") ∷ z) (lex-name true l _ (h .2) (ends-word 93 _ refl)
-    ∙ ap (λ z. word l ∷ z) (lex-to _ ∙ ap (λ z. mark (bytesOf "]") ∷ mark (bytesOf "->") ∷ mark (bytesOf "(") ∷ z) (lex-name true v _ (h .3) (ends-word 41 _ refl)
+    ∙ ap (λ z. word l ∷ z) (lex-to _ ∙ ap (λ z. mark (bytesOf "]") ∷ mark (bytesOf "->") ∷ mark (bytesOf "(") ∷ z)
+    (lex-name true v _ (h .3) (ends-word 41 _ refl)
     ∙ ap (λ z. word v ∷ z) (lex-round s))))))))
 
 -- texts behind separators
@@ -86,7 +91,8 @@ lex-space : (s : Bytes) → signs true false 0 (32 ∷ s) ≡ signs true false 0
 unfolding signs
 lex-space s = refl
 
-lex-matches : (ps : List WrittenMatch) (s : Bytes) → Each AllNames ps → signs true false 0 (eachBehind (bytesOf " ") (map matchText ps) ++ s) ≡ joined matchSigns ps ++ signs true false 0 s
+lex-matches : (ps : List WrittenMatch) (s : Bytes) → Each AllNames ps
+    → signs true false 0 (eachBehind (bytesOf " ") (map matchText ps) ++ s) ≡ joined matchSigns ps ++ signs true false 0 s
 unfolding eachBehind joined
 lex-matches [] s h = refl
 lex-matches (p ∷ ps) s h =
@@ -144,7 +150,8 @@ unfolding eachBehind joined
 lex-ands [] s h f = refl
 lex-ands (c ∷ cs) s h f =
     ap (signs false false 0) (behind-text (bytesOf " AND ") (conditionText c) (map conditionText cs) s) ∙ lex-and _
-    ∙ ap (λ z. word (bytesOf "AND") ∷ z) (lex-condition c _ (h .0) (follows-and cs s f) ∙ ap (λ z. conditionSigns c ++ z) (lex-ands cs s (h .1) f) ∙ sym (append-assoc (conditionSigns c) (joined andSigns cs) (signs false false 0 s)))
+    ∙ ap (λ z. word (bytesOf "AND") ∷ z) (lex-condition c _ (h .0) (follows-and cs s f) ∙ ap (λ z. conditionSigns c ++ z) (lex-ands cs s (h .1) f)
+    ∙ sym (append-assoc (conditionSigns c) (joined andSigns cs) (signs false false 0 s)))
 
 lex-commas : (vs : List Bytes) → Each IsName vs → signs false false 0 (eachBehind (bytesOf ", ") vs) ≡ joined commaSigns vs
 unfolding eachBehind joined signs
@@ -157,10 +164,13 @@ lex-commas (v ∷ vs) h =
 abbrev whereText : List Condition → Bytes
 whereText cs = pick (isNil cs) [] (bytesOf " Where " ++ joinBy (bytesOf " AND ") (map conditionText cs))
 
-lex-returns : (c : Bool) (v : Bytes) (vs : List Bytes) → Each IsName (v ∷ vs) → signs c false 0 (bytesOf " Return " ++ (v ++ eachBehind (bytesOf ", ") vs)) ≡ returnSigns (v ∷ vs)
-lex-returns c v vs h = lex-return c _ ∙ ap (λ z. word (bytesOf "Return") ∷ z) (lex-name false v _ (h .0) (follows-word (follows-comma vs)) ∙ ap (λ z. word v ∷ z) (needs-no-space (follows-comma vs) ∙ lex-commas vs (h .1)))
+lex-returns : (c : Bool) (v : Bytes) (vs : List Bytes) → Each IsName (v ∷ vs)
+    → signs c false 0 (bytesOf " Return " ++ (v ++ eachBehind (bytesOf ", ") vs)) ≡ returnSigns (v ∷ vs)
+lex-returns c v vs h = lex-return c _ ∙ ap (λ z. word (bytesOf "Return") ∷ z)
+    (lex-name false v _ (h .0) (follows-word (follows-comma vs)) ∙ ap (λ z. word v ∷ z) (needs-no-space (follows-comma vs) ∙ lex-commas vs (h .1)))
 
-where-text : (c : Condition) (cs : List Condition) (s : Bytes) → whereText (c ∷ cs) ++ s ≡ bytesOf " Where " ++ (conditionText c ++ (eachBehind (bytesOf " AND ") (map conditionText cs) ++ s))
+where-text : (c : Condition) (cs : List Condition) (s : Bytes)
+    → whereText (c ∷ cs) ++ s ≡ bytesOf " Where " ++ (conditionText c ++ (eachBehind (bytesOf " AND ") (map conditionText cs) ++ s))
 unfolding isNil joinBy
 where-text c cs s = simp append-assoc
 
@@ -171,7 +181,8 @@ lex-rest [] v vs h k = lex-returns true v vs k
 lex-rest (c ∷ cs) v vs h k =
     let X = bytesOf " Return " ++ (v ++ eachBehind (bytesOf ", ") vs) in
     ap (signs true false 0) (where-text c cs X) ∙ lex-where _
-    ∙ ap (λ z. word (bytesOf "Where") ∷ z) (lex-condition c _ (h .0) (follows-and cs X space) ∙ ap (λ z. conditionSigns c ++ z) (lex-ands cs X (h .1) space ∙ ap (λ z. joined andSigns cs ++ z) (lex-returns false v vs k))
+    ∙ ap (λ z. word (bytesOf "Where") ∷ z) (lex-condition c _ (h .0) (follows-and cs X space)
+    ∙ ap (λ z. conditionSigns c ++ z) (lex-ands cs X (h .1) space ∙ ap (λ z. joined andSigns cs ++ z) (lex-returns false v vs k))
     ∙ sym (append-assoc (conditionSigns c) (joined andSigns cs) (returnSigns (v ∷ vs))))
 
 -- the text of a query: Matches of one vertex or edge each, conditions, Return
@@ -183,12 +194,14 @@ abbrev pub writtenSigns : List WrittenMatch → List Condition → List Bytes �
 writtenSigns ps cs vs = joined matchSigns ps ++ (whereSigns cs ++ returnSigns vs)
 
 written-text : (p : WrittenMatch) (ps : List WrittenMatch) (cs : List Condition) (v : Bytes) (vs : List Bytes)
-    → writtenText (p ∷ ps) cs (v ∷ vs) ≡ matchText p ++ (eachBehind (bytesOf " ") (map matchText ps) ++ (whereText cs ++ (bytesOf " Return " ++ (v ++ eachBehind (bytesOf ", ") vs))))
+    → writtenText (p ∷ ps) cs (v ∷ vs) ≡ matchText p
+    ++ (eachBehind (bytesOf " ") (map matchText ps) ++ (whereText cs ++ (bytesOf " Return " ++ (v ++ eachBehind (bytesOf ", ") vs))))
 unfolding joinBy
 written-text p ps cs v vs = simp append-assoc
 
 -- the text of a written query gives its signs
-pub signs-of-written : (p : WrittenMatch) (ps : List WrittenMatch) (cs : List Condition) (v : Bytes) (vs : List Bytes) → Each AllNames (p ∷ ps) → Each WritableCondition cs → Each IsName (v ∷ vs)
+pub signs-of-written : (p : WrittenMatch) (ps : List WrittenMatch) (cs : List Condition) (v : Bytes) (vs : List Bytes) → Each AllNames (p ∷ ps)
+    → Each WritableCondition cs → Each IsName (v ∷ vs)
     → signs false false 0 (writtenText (p ∷ ps) cs (v ∷ vs)) ≡ writtenSigns (p ∷ ps) cs (v ∷ vs)
 unfolding joined
 signs-of-written p ps cs v vs g h k =

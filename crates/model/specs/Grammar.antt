@@ -109,7 +109,12 @@ pub record Tail : Type 0 where
 unfoldable pub tailOf : List Piece → Tail
 tailOf [] = record { chain = end; conditions = []; later = record { matches = []; returns = [] } }
 tailOf (start v ∷ ps) = let t = tailOf ps in
-    record { chain = end; conditions = []; later = record { matches = record { chain = t .chain v; conditions = t .conditions } ∷ t .later .matches; returns = t .later .returns } }
+    record {
+      chain = end;
+      conditions = [];
+      later =
+          record { matches = record { chain = t .chain v; conditions = t .conditions } ∷ t .later .matches; returns = t .later .returns };
+    }
 tailOf (goes e l u ∷ ps) = let t = tailOf ps in record { chain = λ v. right v e l (t .chain u); conditions = t .conditions; later = t .later }
 tailOf (comes e l u ∷ ps) = let t = tailOf ps in record { chain = λ v. left v e l (t .chain u); conditions = t .conditions; later = t .later }
 tailOf (asks c ∷ ps) = let t = tailOf ps in record { chain = end; conditions = c ∷ t .conditions; later = t .later }

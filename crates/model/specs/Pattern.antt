@@ -44,4 +44,10 @@ edgeOf vs e = record { name = e .name; label = e .label; from = place (e .from) 
 unfoldable pub patternOf : QueryText → Pattern
 patternOf q =
     let vs = vertexNames q in
-    record { vertices = vs; edges = map (edgeOf vs) (edgesOf q); clauses = map (clauseOf vs (edgeNames q)) (conditionsOf q); returns = map (λ v. place v vs) (q .returns) }
+    record {
+      vertices = vs;
+      edges = map (edgeOf vs) (edgesOf q);
+      clauses = map (clauseOf vs (edgeNames q)) (conditionsOf q);
+      returns = map
+          (λ v. place v vs) (q .returns);
+    }

@@ -72,10 +72,31 @@ lineFault b (rel l x y es) = relFault b l x y es
 
 -- the book with a line more
 unfoldable pub addLine : Book → BookLine → Book
-addLine b (vattr n k) = record { vattrs = b .vattrs ++ (record { name = n; kind = k } ∷ []); eattrs = b .eattrs; labels = b .labels; nodes = b .nodes; rels = b .rels }
-addLine b (eattr n k) = record { vattrs = b .vattrs; eattrs = b .eattrs ++ (record { name = n; kind = k } ∷ []); labels = b .labels; nodes = b .nodes; rels = b .rels }
+addLine b (vattr n k) = record {
+  vattrs = b .vattrs
+      ++ (record { name = n; kind = k } ∷ []);
+  eattrs = b .eattrs;
+  labels = b .labels;
+  nodes = b .nodes;
+  rels = b .rels;
+}
+addLine b (eattr n k) = record {
+  vattrs = b .vattrs;
+  eattrs = b .eattrs
+      ++ (record { name = n; kind = k } ∷ []);
+  labels = b .labels;
+  nodes = b .nodes;
+  rels = b .rels;
+}
 addLine b (label n) = record { vattrs = b .vattrs; eattrs = b .eattrs; labels = b .labels ++ (n ∷ []); nodes = b .nodes; rels = b .rels }
-addLine b (node n es) = record { vattrs = b .vattrs; eattrs = b .eattrs; labels = b .labels; nodes = b .nodes ++ (record { name = n; entries = es } ∷ []); rels = b .rels }
+addLine b (node n es) = record {
+  vattrs = b .vattrs;
+  eattrs = b .eattrs;
+  labels = b .labels;
+  nodes = b .nodes
+      ++ (record { name = n; entries = es } ∷ []);
+  rels = b .rels;
+}
 addLine b (rel l x y es) =
     record {
       vattrs = b .vattrs;

@@ -54,7 +54,8 @@ requestLine is =
 -- the table of faults of the request's line
 abbrev pub requestFaults : Book → Rules → RequestLine → List Row
 requestFaults b r x =
-    (4 if not (mem (x .category) (categoryNames r)) || any (λ c. not (mem (c .actor) (actorsOf r (x .category))) || not (mem (c .node) (nodeNames b))) (x .claims))
+    (4 if not (mem (x .category) (categoryNames r))
+    || any (λ c. not (mem (c .actor) (actorsOf r (x .category))) || not (mem (c .node) (nodeNames b))) (x .claims))
     ∷ (5 if twice (map (λ c. c .actor) (x .claims)))
     ∷ (11 if not (mem (bytesOf "requestor") (map (λ c. c .actor) (x .claims))))
     ∷ []

@@ -10,9 +10,15 @@ use Rattle.model.specs.RequestPlaces.{identityPlaces, slots}
 use Rattle.model.specs.declared.Verdict.the-variants as verdict
 use Rattle.model.specs.declared.RequestRead.{RequestRead}
 
--- the answer about a text: accepted with the category's number and the identities, each where its own actor stands; or refused, beside no category and no identity
+-- the answer about a text: accepted with the category's number and the identities, each where its own actor stands; or refused, beside no category and no
+-- identity
 unfoldable pub toldRequest : Bytes → Outcome RequestAnswer → RequestRead
-toldRequest text (accepted a) = record { verdict = verdict.Accepted; category = a .category; identities = slots (identityPlaces text (a .identities)); count = length (a .identities) }
+toldRequest text (accepted a) = record {
+  verdict = verdict.Accepted;
+  category = a .category;
+  identities = slots (identityPlaces text (a .identities));
+  count = length (a .identities);
+}
 toldRequest text (refused r) = record { verdict = verdict.Refused (refusalData r); category = 0; identities = slots []; count = 0 }
 
 -- the whole answer for the words of working memory, the book, the rules and the request

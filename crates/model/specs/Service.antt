@@ -60,7 +60,8 @@ bookService work book = record {
 -- the rules reader needs the book
 unfoldable pub rulesService : ℕ → Bytes → Bytes → Read RulesAnswer
 rulesService work book rules = record {
-  answer = withWork work (onAccept (readBook book) (λ b. onAccept (readRules b rules) (λ r. accepted (record { categories = length (r .categories); policies = length (r .policies) }))));
+  answer = withWork work (onAccept (readBook book)
+      (λ b. onAccept (readRules b rules) (λ r. accepted (record { categories = length (r .categories); policies = length (r .policies) }))));
   work = ones work;
 }
 

@@ -122,7 +122,8 @@ withIdentity p ids = keep (λ v. any (identifiedBy (getD (p .vertices) v noVerte
 
 -- these vertices and those that an edge joins to one of them
 unfoldable pub stepAlong : WovenPattern → List ℕ → List ℕ
-stepAlong p vs = keep (λ v. memℕ v vs || any (λ e. eqb v (e .from) && memℕ (e .to) vs || eqb v (e .to) && memℕ (e .from) vs) (p .edges)) (below (length (p .vertices)))
+stepAlong p vs = keep (λ v. memℕ v vs || any (λ e. eqb v (e .from) && memℕ (e .to) vs || eqb v (e .to) && memℕ (e .from) vs) (p .edges))
+    (below (length (p .vertices)))
 
 -- k steps along edges, either way
 unfoldable pub stepsAlong : ℕ → WovenPattern → List ℕ → List ℕ

@@ -24,7 +24,8 @@ use Rattle.query_signs.specs.declared.ValueRead.{ValueRead}
 use Rattle.query_signs.specs.declared.ValueRead.the-variants as value
 use Rattle.query_signs.specs.Marks.{markBytes}
 use Rattle.query_signs.specs.Reads.{signsFrom, standingsFrom}
-use Rattle.query_signs.specs.Expected.{behindMark, MarkBehind, MarkStands, MarkNext, behindName, NameBehind, NameStands, NameNext, behindRelation, RelationBehind, RelationStands, RelationNext, behindValue, ValueBehind, ValueStands, ValueNext, valueStanding}
+use Rattle.query_signs.specs.Expected.{behindMark, MarkBehind, MarkStands, MarkNext, behindName, NameBehind, NameStands, NameNext, behindRelation}
+use Rattle.query_signs.specs.Expected.{RelationBehind, RelationStands, RelationNext, behindValue, ValueBehind, ValueStands, ValueNext, valueStanding}
 use Rattle.query_signs.proofs.ExpectLaws.{expect-then, next-then}
 use Rattle.query_pieces.specs.Walk.{Walk}
 use native.Mathlib.Omega.{arith}
@@ -33,7 +34,8 @@ use Rattle.query_pieces.specs.declared.PieceRead.the-variants as read
 use Rattle.query_pieces.specs.Steps.{otherThen, valueThen, restThen, vertexThen, onVertex, VertexBehind, VertexStands, VertexNext, StepBehind, StepStands}
 
 module _ (chain close : Bool) (s : Bytes) (from code : ℕ) (r : End) (h : MarkNext chain close s from code r) where
-  pub mark-read : (q : ℕ) → r ≡ end.At q → (f : List Sign → Maybe Walk) → expect (markBytes code) (signsFrom chain close s from) f ≡ f (signsFrom chain false s q)
+  pub mark-read : (q : ℕ) → r ≡ end.At q → (f : List Sign → Maybe Walk)
+      → expect (markBytes code) (signsFrom chain close s from) f ≡ f (signsFrom chain false s q)
   unfolding behindMark andThen
   mark-read q e f = expect-then (markBytes code) (signsFrom chain close s from) f ∙ rw (h .reads, e)
 
@@ -44,11 +46,13 @@ module _ (chain close : Bool) (s : Bytes) (from code : ℕ) (r : End) (h : MarkN
   pub mark-moves : (q : ℕ) → r ≡ end.At q → from < q
   mark-moves q e = subst (MarkBehind from) e (h .moves)
 
-  pub mark-stands : (q : ℕ) → r ≡ end.At q → (o : Bracket) → standingsFrom o chain close s from ≡ standingsFrom (bracketOf (mark (markBytes code))) chain false s q
+  pub mark-stands : (q : ℕ) → r ≡ end.At q → (o : Bracket)
+      → standingsFrom o chain close s from ≡ standingsFrom (bracketOf (mark (markBytes code))) chain false s q
   mark-stands q e o = subst (MarkStands o chain close s from code) e (h .stands o)
 
 module _ (chain close : Bool) (s : Bytes) (from : ℕ) (r : NameRead) (h : NameNext chain close s from r) where
-  pub name-read : (p : Part) (q : ℕ) → r ≡ name.Found p q → (f : Bytes → List Sign → Maybe Walk) → next signName (signsFrom chain close s from) f ≡ f (nameAt s p) (signsFrom chain true s q)
+  pub name-read : (p : Part) (q : ℕ) → r ≡ name.Found p q → (f : Bytes → List Sign → Maybe Walk)
+      → next signName (signsFrom chain close s from) f ≡ f (nameAt s p) (signsFrom chain true s q)
   unfolding behindName andThen
   name-read p q e f = next-then signName (signsFrom chain close s from) f ∙ rw (h .reads, e)
 
@@ -59,11 +63,13 @@ module _ (chain close : Bool) (s : Bytes) (from : ℕ) (r : NameRead) (h : NameN
   pub name-moves : (p : Part) (q : ℕ) → r ≡ name.Found p q → from < q
   name-moves p q e = subst (NameBehind from) e (h .moves)
 
-  pub name-stands : (p : Part) (q : ℕ) → r ≡ name.Found p q → (o : Bracket) → standingsFrom o chain close s from ≡ variableAt o p ++ standingsFrom none chain true s q
+  pub name-stands : (p : Part) (q : ℕ) → r ≡ name.Found p q → (o : Bracket)
+      → standingsFrom o chain close s from ≡ variableAt o p ++ standingsFrom none chain true s q
   name-stands p q e o = subst (NameStands o chain close s from) e (h .stands o)
 
 module _ (close : Bool) (s : Bytes) (from : ℕ) (r : RelationRead) (h : RelationNext close s from r) where
-  pub relation-read : (d : RelationData) (q : ℕ) → r ≡ relation.Found d q → (f : Relation → List Sign → Maybe Walk) → next signRelation (signsFrom false close s from) f ≡ f (relationOf d) (signsFrom false false s q)
+  pub relation-read : (d : RelationData) (q : ℕ) → r ≡ relation.Found d q → (f : Relation → List Sign → Maybe Walk)
+      → next signRelation (signsFrom false close s from) f ≡ f (relationOf d) (signsFrom false false s q)
   unfolding behindRelation andThen
   relation-read d q e f = next-then signRelation (signsFrom false close s from) f ∙ rw (h .reads, e)
 
@@ -74,11 +80,13 @@ module _ (close : Bool) (s : Bytes) (from : ℕ) (r : RelationRead) (h : Relatio
   pub relation-moves : (d : RelationData) (q : ℕ) → r ≡ relation.Found d q → from < q
   relation-moves d q e = subst (RelationBehind from) e (h .moves)
 
-  pub relation-stands : (d : RelationData) (q : ℕ) → r ≡ relation.Found d q → (o : Bracket) → standingsFrom o false close s from ≡ standingsFrom none false false s q
+  pub relation-stands : (d : RelationData) (q : ℕ) → r ≡ relation.Found d q → (o : Bracket)
+      → standingsFrom o false close s from ≡ standingsFrom none false false s q
   relation-stands d q e o = subst (RelationStands o close s from) e (h .stands o)
 
 module _ (close : Bool) (s : Bytes) (from : ℕ) (r : ValueRead) (h : ValueNext close s from r) where
-  pub value-read : (v : ValueData) (q : ℕ) (c : Bool) → r ≡ value.Found v q c → (f : Value → List Sign → Maybe Walk) → next signValue (signsFrom false close s from) f ≡ f (valueOf s v) (signsFrom false c s q)
+  pub value-read : (v : ValueData) (q : ℕ) (c : Bool) → r ≡ value.Found v q c → (f : Value → List Sign → Maybe Walk)
+      → next signValue (signsFrom false close s from) f ≡ f (valueOf s v) (signsFrom false c s q)
   unfolding behindValue andThen
   value-read v q c e f = next-then signValue (signsFrom false close s from) f ∙ rw (h .reads, e)
 
@@ -89,11 +97,13 @@ module _ (close : Bool) (s : Bytes) (from : ℕ) (r : ValueRead) (h : ValueNext 
   pub value-moves : (v : ValueData) (q : ℕ) (c : Bool) → r ≡ value.Found v q c → from < q
   value-moves v q c e = subst (ValueBehind from) e (h .moves)
 
-  pub value-stands : (v : ValueData) (q : ℕ) (c : Bool) → r ≡ value.Found v q c → standingsFrom none false close s from ≡ valueStanding v ++ standingsFrom none false c s q
+  pub value-stands : (v : ValueData) (q : ℕ) (c : Bool) → r ≡ value.Found v q c
+      → standingsFrom none false close s from ≡ valueStanding v ++ standingsFrom none false c s q
   value-stands v q c e = subst (ValueStands close s from) e (h .stands)
 
 -- a condition by the sign behind its variable
-differs-read : (x : Bytes) (ts rest : List Sign) (f : Condition → List Sign → Maybe Walk) → expect (bytesOf "<>") ts just ≡ just rest → restThen x ts f ≡ otherThen x rest f
+differs-read : (x : Bytes) (ts rest : List Sign) (f : Condition → List Sign → Maybe Walk) → expect (bytesOf "<>") ts just ≡ just rest
+    → restThen x ts f ≡ otherThen x rest f
 unfolding expect restThen next andThen
 differs-read x [] rest f e = absurd-maybe e
   where
@@ -101,16 +111,19 @@ differs-read x [] rest f e = absurd-maybe e
     absurd-maybe e = cc
 differs-read x (t ∷ ts) rest f e = go (isMark (bytesOf "<>") t) e
   where
-    go : (b : Bool) → pick b (just ts) nothing ≡ just rest → pick b (otherThen x ts f) (pick (isMark (bytesOf ".") t) (valueThen x ts f) nothing) ≡ otherThen x rest f
+    go : (b : Bool) → pick b (just ts) nothing ≡ just rest
+        → pick b (otherThen x ts f) (pick (isMark (bytesOf ".") t) (valueThen x ts f) nothing) ≡ otherThen x rest f
     go true e = let z : ts ≡ rest = cc in rw z
     go false e = cc
 
-differs-unread : (x : Bytes) (ts : List Sign) (f : Condition → List Sign → Maybe Walk) → expect (bytesOf "<>") ts just ≡ nothing → restThen x ts f ≡ expect (bytesOf ".") ts (λ ts. valueThen x ts f)
+differs-unread : (x : Bytes) (ts : List Sign) (f : Condition → List Sign → Maybe Walk) → expect (bytesOf "<>") ts just ≡ nothing
+    → restThen x ts f ≡ expect (bytesOf ".") ts (λ ts. valueThen x ts f)
 unfolding expect restThen next andThen
 differs-unread x [] f e = refl
 differs-unread x (t ∷ ts) f e = go (isMark (bytesOf "<>") t) e
   where
-    go : (b : Bool) → pick b (just ts) nothing ≡ nothing → pick b (otherThen x ts f) (pick (isMark (bytesOf ".") t) (valueThen x ts f) nothing) ≡ pick (isMark (bytesOf ".") t) (valueThen x ts f) nothing
+    go : (b : Bool) → pick b (just ts) nothing ≡ nothing
+        → pick b (otherThen x ts f) (pick (isMark (bytesOf ".") t) (valueThen x ts f) nothing) ≡ pick (isMark (bytesOf ".") t) (valueThen x ts f) nothing
     go true e = cc
     go false e = refl
 
@@ -124,7 +137,8 @@ module _ (s : Bytes) (from : ℕ) (r : End) (h : MarkNext false true s from 1542
   rest-asks e = differs-unread x (signsFrom false true s from) f (h .reads ∙ ap (behindMark false s) e)
 
 module _ (close : Bool) (s : Bytes) (from : ℕ) (r : NameRead) (h : VertexNext close s from r) where
-  pub vertex-read : (p : Part) (q : ℕ) → r ≡ name.Found p q → (f : Bytes → List Sign → Maybe Walk) → vertexThen (signsFrom true close s from) f ≡ f (nameAt s p) (signsFrom true false s q)
+  pub vertex-read : (p : Part) (q : ℕ) → r ≡ name.Found p q → (f : Bytes → List Sign → Maybe Walk)
+      → vertexThen (signsFrom true close s from) f ≡ f (nameAt s p) (signsFrom true false s q)
   unfolding onVertex
   vertex-read p q e f = h .reads f ∙ ap (λ x. onVertex s x f) e
 

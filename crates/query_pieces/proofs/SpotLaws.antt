@@ -55,7 +55,8 @@ module _ (s : Bytes) (t : SignData) (q : ℕ) where
       go (read.Mark c) h = refl
 
   by-sign : (p : SpotData) (x : Sign) → signOf s t ≡ x → standingAt x none 0 ≡ []
-      → (walkBy p s t q ≡ piecesBy (pieceAt (spotOf p) x (signsFrom (chainBehind (chainAt p) x) (wordy x) s q)) (signsFrom (chainBehind (chainAt p) x) (wordy x) s q))
+      → (walkBy p s t q ≡ piecesBy (pieceAt (spotOf p) x (signsFrom (chainBehind (chainAt p) x) (wordy x) s q))
+      (signsFrom (chainBehind (chainAt p) x) (wordy x) s q))
       × (standingsBy p s t q ≡ standingsFrom (bracketOf x) (chainBehind (chainAt p) x) (wordy x) s q)
   unfolding walkBy
   by-sign p x e n = (rw e, rw (quiet x e n, e))
@@ -64,43 +65,60 @@ module _ (s : Bytes) (t : SignData) (q : ℕ) where
   pub by-spot : {o p : SpotData} → o ≡ p → (walkBy o s t q ≡ walkBy p s t q) × (standingsBy o s t q ≡ standingsBy p s t q)
   by-spot e = (ap (λ p. walkBy p s t q) e, ap (λ p. standingsBy p s t q) e)
 
-  pub first-match : isWord (bytesOf "Match") (signOf s t) ≡ true → (walkBy AtStart s t q ≡ piecesBy (startAt (signsFrom true true s q)) (signsFrom true true s q)) × (standingsBy AtStart s t q ≡ standingsFrom none true true s q)
+  pub first-match : isWord (bytesOf "Match") (signOf s t) ≡ true
+      → (walkBy AtStart s t q ≡ piecesBy (startAt (signsFrom true true s q)) (signsFrom true true s q))
+      × (standingsBy AtStart s t q ≡ standingsFrom none true true s q)
   unfolding pieceAt isWord isMark same chainBehind chainAt spotOf wordy bracketOf standingAt variableAt
   first-match e = by-sign AtStart (word (bytesOf "Match")) (word-is (bytesOf "Match") (signOf s t) e) refl
 
-  pub chain-match : isWord (bytesOf "Match") (signOf s t) ≡ true → (walkBy InChain s t q ≡ piecesBy (startAt (signsFrom true true s q)) (signsFrom true true s q)) × (standingsBy InChain s t q ≡ standingsFrom none true true s q)
+  pub chain-match : isWord (bytesOf "Match") (signOf s t) ≡ true
+      → (walkBy InChain s t q ≡ piecesBy (startAt (signsFrom true true s q)) (signsFrom true true s q))
+      × (standingsBy InChain s t q ≡ standingsFrom none true true s q)
   unfolding pieceAt isWord isMark same chainBehind chainAt spotOf wordy bracketOf standingAt variableAt
   chain-match e = by-sign InChain (word (bytesOf "Match")) (word-is (bytesOf "Match") (signOf s t) e) refl
 
-  pub where-match : isWord (bytesOf "Match") (signOf s t) ≡ true → (walkBy InWhere s t q ≡ piecesBy (startAt (signsFrom true true s q)) (signsFrom true true s q)) × (standingsBy InWhere s t q ≡ standingsFrom none true true s q)
+  pub where-match : isWord (bytesOf "Match") (signOf s t) ≡ true
+      → (walkBy InWhere s t q ≡ piecesBy (startAt (signsFrom true true s q)) (signsFrom true true s q))
+      × (standingsBy InWhere s t q ≡ standingsFrom none true true s q)
   unfolding pieceAt isWord isMark same chainBehind chainAt spotOf wordy bracketOf standingAt variableAt
   where-match e = by-sign InWhere (word (bytesOf "Match")) (word-is (bytesOf "Match") (signOf s t) e) refl
 
-  pub chain-where : isWord (bytesOf "Where") (signOf s t) ≡ true → (walkBy InChain s t q ≡ piecesBy (conditionAt (signsFrom false true s q)) (signsFrom false true s q)) × (standingsBy InChain s t q ≡ standingsFrom none false true s q)
+  pub chain-where : isWord (bytesOf "Where") (signOf s t) ≡ true
+      → (walkBy InChain s t q ≡ piecesBy (conditionAt (signsFrom false true s q)) (signsFrom false true s q))
+      × (standingsBy InChain s t q ≡ standingsFrom none false true s q)
   unfolding pieceAt isWord isMark same chainBehind chainAt spotOf wordy bracketOf standingAt variableAt
   chain-where e = by-sign InChain (word (bytesOf "Where")) (word-is (bytesOf "Where") (signOf s t) e) refl
 
-  pub where-and : isWord (bytesOf "AND") (signOf s t) ≡ true → (walkBy InWhere s t q ≡ piecesBy (conditionAt (signsFrom false true s q)) (signsFrom false true s q)) × (standingsBy InWhere s t q ≡ standingsFrom none false true s q)
+  pub where-and : isWord (bytesOf "AND") (signOf s t) ≡ true
+      → (walkBy InWhere s t q ≡ piecesBy (conditionAt (signsFrom false true s q)) (signsFrom false true s q))
+      × (standingsBy InWhere s t q ≡ standingsFrom none false true s q)
   unfolding pieceAt isWord isMark same chainBehind chainAt spotOf wordy bracketOf standingAt variableAt
   where-and e = by-sign InWhere (word (bytesOf "AND")) (word-is (bytesOf "AND") (signOf s t) e) refl
 
-  pub chain-return : isWord (bytesOf "Return") (signOf s t) ≡ true → (walkBy InChain s t q ≡ piecesBy (returnAt (signsFrom false true s q)) (signsFrom false true s q)) × (standingsBy InChain s t q ≡ standingsFrom none false true s q)
+  pub chain-return : isWord (bytesOf "Return") (signOf s t) ≡ true
+      → (walkBy InChain s t q ≡ piecesBy (returnAt (signsFrom false true s q)) (signsFrom false true s q))
+      × (standingsBy InChain s t q ≡ standingsFrom none false true s q)
   unfolding pieceAt isWord isMark same chainBehind chainAt spotOf wordy bracketOf standingAt variableAt
   chain-return e = by-sign InChain (word (bytesOf "Return")) (word-is (bytesOf "Return") (signOf s t) e) refl
 
-  pub where-return : isWord (bytesOf "Return") (signOf s t) ≡ true → (walkBy InWhere s t q ≡ piecesBy (returnAt (signsFrom false true s q)) (signsFrom false true s q)) × (standingsBy InWhere s t q ≡ standingsFrom none false true s q)
+  pub where-return : isWord (bytesOf "Return") (signOf s t) ≡ true
+      → (walkBy InWhere s t q ≡ piecesBy (returnAt (signsFrom false true s q)) (signsFrom false true s q))
+      × (standingsBy InWhere s t q ≡ standingsFrom none false true s q)
   unfolding pieceAt isWord isMark same chainBehind chainAt spotOf wordy bracketOf standingAt variableAt
   where-return e = by-sign InWhere (word (bytesOf "Return")) (word-is (bytesOf "Return") (signOf s t) e) refl
 
-  pub chain-goes : codeOf t ≡ 45 → (walkBy InChain s t q ≡ piecesBy (linkAt goes (bytesOf "->") (signsFrom true false s q)) (signsFrom true false s q)) × (standingsBy InChain s t q ≡ standingsFrom none true false s q)
+  pub chain-goes : codeOf t ≡ 45 → (walkBy InChain s t q ≡ piecesBy (linkAt goes (bytesOf "->") (signsFrom true false s q)) (signsFrom true false s q))
+      × (standingsBy InChain s t q ≡ standingsFrom none true false s q)
   unfolding pieceAt isWord isMark same chainBehind chainAt spotOf wordy bracketOf standingAt variableAt markBytes
   chain-goes e = by-sign InChain (mark (bytesOf "-")) (code-is s t 45 (omega arith) e) refl
 
-  pub chain-comes : codeOf t ≡ 15405 → (walkBy InChain s t q ≡ piecesBy (linkAt comes (bytesOf "-") (signsFrom true false s q)) (signsFrom true false s q)) × (standingsBy InChain s t q ≡ standingsFrom none true false s q)
+  pub chain-comes : codeOf t ≡ 15405 → (walkBy InChain s t q ≡ piecesBy (linkAt comes (bytesOf "-") (signsFrom true false s q)) (signsFrom true false s q))
+      × (standingsBy InChain s t q ≡ standingsFrom none true false s q)
   unfolding pieceAt isWord isMark same chainBehind chainAt spotOf wordy bracketOf standingAt variableAt markBytes
   chain-comes e = by-sign InChain (mark (bytesOf "<-")) (code-is s t 15405 (omega arith) e) refl
 
-  pub return-comma : codeOf t ≡ 44 → (walkBy InReturn s t q ≡ piecesBy (returnAt (signsFrom false false s q)) (signsFrom false false s q)) × (standingsBy InReturn s t q ≡ standingsFrom none false false s q)
+  pub return-comma : codeOf t ≡ 44 → (walkBy InReturn s t q ≡ piecesBy (returnAt (signsFrom false false s q)) (signsFrom false false s q))
+      × (standingsBy InReturn s t q ≡ standingsFrom none false false s q)
   unfolding pieceAt isWord isMark same chainBehind chainAt spotOf wordy bracketOf standingAt variableAt markBytes
   return-comma e = by-sign InReturn (mark (bytesOf ",")) (code-is s t 44 (omega arith) e) refl
 
@@ -111,11 +129,13 @@ module _ (s : Bytes) (t : SignData) (q : ℕ) where
   no-mark : (c : ℕ) → 0 < c → (codeOf t ≡ c → ⊥) → isMark (markBytes c) (signOf s t) ≡ false
   no-mark c p h = code-mark s t c p ∙ ne-eqb (codeOf t) c h
 
-  pub chain-none : (codeOf t ≡ 45 → ⊥) → (codeOf t ≡ 15405 → ⊥) → isWord (bytesOf "Where") (signOf s t) ≡ false → isWord (bytesOf "Match") (signOf s t) ≡ false → isWord (bytesOf "Return") (signOf s t) ≡ false → walkBy InChain s t q ≡ stopped false
+  pub chain-none : (codeOf t ≡ 45 → ⊥) → (codeOf t ≡ 15405 → ⊥) → isWord (bytesOf "Where") (signOf s t) ≡ false
+      → isWord (bytesOf "Match") (signOf s t) ≡ false → isWord (bytesOf "Return") (signOf s t) ≡ false → walkBy InChain s t q ≡ stopped false
   unfolding walkBy pieceAt piecesBy andThen orStopped spotOf markBytes
   chain-none a b c d e = rw (no-mark 45 (omega arith) a, no-mark 15405 (omega arith) b, c, d, e)
 
-  pub where-none : isWord (bytesOf "AND") (signOf s t) ≡ false → isWord (bytesOf "Match") (signOf s t) ≡ false → isWord (bytesOf "Return") (signOf s t) ≡ false → walkBy InWhere s t q ≡ stopped false
+  pub where-none : isWord (bytesOf "AND") (signOf s t) ≡ false → isWord (bytesOf "Match") (signOf s t) ≡ false
+      → isWord (bytesOf "Return") (signOf s t) ≡ false → walkBy InWhere s t q ≡ stopped false
   unfolding walkBy pieceAt piecesBy andThen orStopped spotOf
   where-none c d e = rw (c, d, e)
 

@@ -62,7 +62,8 @@ pub return-by : (ts : List Sign) → piecesBy (returnAt ts) ts ≡ orStopped (ne
 unfolding piecesBy returnAt walk spotAfter andThen
 return-by ts = ap orStopped (next-passed onward signName ts _ _ (λ v a ts. refl))
 
-pick-passed : (t : Bool) (x y : Maybe (Got Piece)) (a b : Maybe Walk) (H : Got Piece → Maybe Walk) → andThen x H ≡ a → andThen y H ≡ b → andThen (pick t x y) H ≡ pick t a b
+pick-passed : (t : Bool) (x y : Maybe (Got Piece)) (a b : Maybe Walk) (H : Got Piece → Maybe Walk) → andThen x H ≡ a → andThen y H ≡ b
+    → andThen (pick t x y) H ≡ pick t a b
 pick-passed true x y a b H h k = h
 pick-passed false x y a b H h k = k
 

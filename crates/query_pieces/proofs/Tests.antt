@@ -22,7 +22,8 @@ use Rattle.query_pieces.proofs.Trees.{tree-names, returns-same, link-na
 pub mem-firsts : (v : Bytes) (vs : List Bytes) → mem v (firsts [] vs) ≡ mem v vs
 mem-firsts v vs = ⊎-elim
     (λ t. is-true (mem v (firsts [] vs)) (mem-i v (firsts [] vs) (firsts-i [] vs v (mem-e v vs t))) ∙ sym (is-true (mem v vs) t))
-    (λ f. is-false (mem v (firsts [] vs)) (λ t. f (mem-i v vs (⊎-elim (λ z. elim z [ ]) (λ m. m) (firsts-e [] vs v (mem-e v (firsts [] vs) t))))) ∙ sym (is-false (mem v vs) f))
+    (λ f. is-false (mem v (firsts [] vs)) (λ t. f (mem-i v vs (⊎-elim (λ z. elim z [ ]) (λ m. m) (firsts-e [] vs v (mem-e v (firsts [] vs) t)))))
+    ∙ sym (is-false (mem v vs) f))
     (test (mem v vs))
 
 pub joined-append : {A B : Type 0} (f : A → List B) (a b : List A) → joined f (a ++ b) ≡ joined f a ++ joined f b
@@ -67,21 +68,29 @@ module _ (b : Book) (text : List Piece) where
   returnUnknown v = not (mem v (verticesIn text))
 
   undeclared-behind : (done ps : List Piece) (v : Bytes)
-      → someWhere (undeclaredAt b text) done ps ≡ (any edgeUnknown (linksFrom v ps) || any scopeUnknown (scopedFrom (verticesIn done) (edgesIn done) ps) || any returnUnknown (returnsIn ps))
+      → someWhere (undeclaredAt b text) done ps
+      ≡ (any edgeUnknown (linksFrom v ps) || any scopeUnknown (scopedFrom (verticesIn done) (edgesIn done) ps) || any returnUnknown (returnsIn ps))
   unfolding someWhere undeclaredAt linksFrom scopedFrom joined vertexIn edgeIn returnIn any
   undeclared-behind done [] v = refl
-  undeclared-behind done (start u ∷ ps) v = rw (joined-end vertexIn done (start u), joined-end edgeIn done (start u), append-nil (edgesIn done)) at (undeclared-behind (done ++ (start u ∷ [])) ps u)
+  undeclared-behind done (start u ∷ ps) v = rw (joined-end vertexIn done (start u), joined-end edgeIn done (start u), append-nil (edgesIn done)) at
+      (undeclared-behind (done ++ (start u ∷ [])) ps u)
   undeclared-behind done (goes e l u ∷ ps) v =
-      ap (pick (not (mem l (b .labels))) true) (rw (joined-end vertexIn done (goes e l u), joined-end edgeIn done (goes e l u)) at (undeclared-behind (done ++ (goes e l u ∷ [])) ps u))
+      ap (pick (not (mem l (b .labels))) true)
+      (rw (joined-end vertexIn done (goes e l u), joined-end edgeIn done (goes e l u)) at (undeclared-behind (done ++ (goes e l u ∷ [])) ps u))
       ∙ first-of (not (mem l (b .labels))) _ _ _
   undeclared-behind done (comes e l u ∷ ps) v =
-      ap (pick (not (mem l (b .labels))) true) (rw (joined-end vertexIn done (comes e l u), joined-end edgeIn done (comes e l u)) at (undeclared-behind (done ++ (comes e l u ∷ [])) ps u))
+      ap (pick (not (mem l (b .labels))) true)
+      (rw (joined-end vertexIn done (comes e l u), joined-end edgeIn done (comes e l u)) at (undeclared-behind (done ++ (comes e l u ∷ [])) ps u))
       ∙ first-of (not (mem l (b .labels))) _ _ _
   undeclared-behind done (asks c ∷ ps) v =
-      ap (pick (unknown b c (verticesIn done) (edgesIn done)) true) (rw (joined-end vertexIn done (asks c), joined-end edgeIn done (asks c), append-nil (verticesIn done), append-nil (edgesIn done)) at (undeclared-behind (done ++ (asks c ∷ [])) ps v))
+      ap (pick (unknown b c (verticesIn done) (edgesIn done)) true)
+      (rw (joined-end vertexIn done (asks c), joined-end edgeIn done (asks c), append-nil (verticesIn done), append-nil (edgesIn done)) at
+      (undeclared-behind (done ++ (asks c ∷ [])) ps v))
       ∙ second-of (unknown b c (verticesIn done) (edgesIn done)) (any edgeUnknown (linksFrom v ps)) _ _
   undeclared-behind done (returns u ∷ ps) v =
-      ap (pick (not (mem u (verticesIn text))) true) (rw (joined-end vertexIn done (returns u), joined-end edgeIn done (returns u), append-nil (verticesIn done), append-nil (edgesIn done)) at (undeclared-behind (done ++ (returns u ∷ [])) ps v))
+      ap (pick (not (mem u (verticesIn text))) true)
+      (rw (joined-end vertexIn done (returns u), joined-end edgeIn done (returns u), append-nil (verticesIn done), append-nil (edgesIn done)) at
+      (undeclared-behind (done ++ (returns u ∷ [])) ps v))
       ∙ third-of (not (mem u (verticesIn text))) (any edgeUnknown (linksFrom v ps)) (any scopeUnknown (scopedFrom (verticesIn done) (edgesIn done) ps)) _
 
 twice-behind : (text done ps : List Piece)
@@ -104,13 +113,19 @@ mistyped-behind : (b : Book) (done ps : List Piece)
     → someWhere (mistypedAt b) done ps ≡ any (λ s. mistyped b (s .condition) (s .vertices) (s .edges)) (scopedFrom (verticesIn done) (edgesIn done) ps)
 unfolding someWhere mistypedAt scopedFrom joined vertexIn edgeIn any
 mistyped-behind b done [] = refl
-mistyped-behind b done (start u ∷ ps) = rw (joined-end vertexIn done (start u), joined-end edgeIn done (start u), append-nil (edgesIn done)) at (mistyped-behind b (done ++ (start u ∷ [])) ps)
-mistyped-behind b done (goes e l u ∷ ps) = rw (joined-end vertexIn done (goes e l u), joined-end edgeIn done (goes e l u)) at (mistyped-behind b (done ++ (goes e l u ∷ [])) ps)
-mistyped-behind b done (comes e l u ∷ ps) = rw (joined-end vertexIn done (comes e l u), joined-end edgeIn done (comes e l u)) at (mistyped-behind b (done ++ (comes e l u ∷ [])) ps)
+mistyped-behind b done (start u ∷ ps) = rw (joined-end vertexIn done (start u), joined-end edgeIn done (start u), append-nil (edgesIn done)) at
+    (mistyped-behind b (done ++ (start u ∷ [])) ps)
+mistyped-behind b done (goes e l u ∷ ps) = rw (joined-end vertexIn done (goes e l u), joined-end edgeIn done (goes e l u)) at
+    (mistyped-behind b (done ++ (goes e l u ∷ [])) ps)
+mistyped-behind b done (comes e l u ∷ ps) = rw (joined-end vertexIn done (comes e l u), joined-end edgeIn done (comes e l u)) at
+    (mistyped-behind b (done ++ (comes e l u ∷ [])) ps)
 mistyped-behind b done (asks c ∷ ps) =
-    ap (pick (mistyped b c (verticesIn done) (edgesIn done)) true) (rw (joined-end vertexIn done (asks c), joined-end edgeIn done (asks c), append-nil (verticesIn done), append-nil (edgesIn done)) at (mistyped-behind b (done ++ (asks c ∷ [])) ps))
+    ap (pick (mistyped b c (verticesIn done) (edgesIn done)) true)
+    (rw (joined-end vertexIn done (asks c), joined-end edgeIn done (asks c), append-nil (verticesIn done), append-nil (edgesIn done)) at
+    (mistyped-behind b (done ++ (asks c ∷ [])) ps))
 mistyped-behind b done (returns u ∷ ps) =
-    rw (joined-end vertexIn done (returns u), joined-end edgeIn done (returns u), append-nil (verticesIn done), append-nil (edgesIn done)) at (mistyped-behind b (done ++ (returns u ∷ [])) ps)
+    rw (joined-end vertexIn done (returns u), joined-end edgeIn done (returns u), append-nil (verticesIn done), append-nil (edgesIn done)) at
+    (mistyped-behind b (done ++ (returns u ∷ [])) ps)
 
 itself-behind : (done ps : List Piece) → someWhere fromItselfAt done ps ≡ any fromItself (conditionsIn ps)
 unfolding someWhere fromItselfAt joined conditionIn any

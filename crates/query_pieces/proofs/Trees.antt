@@ -57,7 +57,8 @@ vertices-behind p [] h v = refl
 vertices-behind p (start u ∷ ps) h v = ap (λ l. v ∷ l) (vertices-behind inChain ps (h .1) u)
 vertices-behind p (goes e l u ∷ ps) h v = ap (λ l. v ∷ l) (vertices-behind inChain ps (h .1) u)
 vertices-behind p (comes e l u ∷ ps) h v = ap (λ l. v ∷ l) (vertices-behind inChain ps (h .1) u)
-vertices-behind p (asks c ∷ ps) h v = ap (λ (f : Bytes → Chain). chainVertices (f v) ++ joined (λ m. chainVertices (m .chain)) (tailOf ps .later .matches)) (sym (chain-ended ps (h .1))) ∙ vertices-behind inWhere ps (h .1) v
+vertices-behind p (asks c ∷ ps) h v = ap (λ (f : Bytes → Chain). chainVertices (f v) ++ joined (λ m. chainVertices (m .chain)) (tailOf ps .later .matches))
+    (sym (chain-ended ps (h .1))) ∙ vertices-behind inWhere ps (h .1) v
 vertices-behind p (returns u ∷ ps) h v = ap (λ l. v ∷ l) (sym (only-returns vertexIn (λ w. refl) ps (h .1)))
 
 first-vertex : (ps : List Piece) (v : Bytes) → hd (tailOf ps .chain v) ≡ v
@@ -76,10 +77,12 @@ links-behind p [] h v = refl
 links-behind p (start u ∷ ps) h v = links-behind inChain ps (h .1) u
 links-behind p (goes e l u ∷ ps) h v = ap₂ (λ t r. record { name = e; label = l; from = v; to = t } ∷ r) (first-vertex ps u) (links-behind inChain ps (h .1) u)
 links-behind p (comes e l u ∷ ps) h v = ap₂ (λ t r. record { name = e; label = l; from = t; to = v } ∷ r) (first-vertex ps u) (links-behind inChain ps (h .1) u)
-links-behind p (asks c ∷ ps) h v = ap (λ (f : Bytes → Chain). chainEdges (f v) ++ joined (λ m. chainEdges (m .chain)) (tailOf ps .later .matches)) (sym (chain-ended ps (h .1))) ∙ links-behind inWhere ps (h .1) v
+links-behind p (asks c ∷ ps) h v = ap (λ (f : Bytes → Chain). chainEdges (f v) ++ joined (λ m. chainEdges (m .chain)) (tailOf ps .later .matches))
+    (sym (chain-ended ps (h .1))) ∙ links-behind inWhere ps (h .1) v
 links-behind p (returns u ∷ ps) h v = sym (returns-link v ps (h .1))
 
-conditions-behind : (p : Spot) (ps : List Piece) → Ordered p ps → tailOf ps .conditions ++ joined (λ m. m .conditions) (tailOf ps .later .matches) ≡ conditionsIn ps
+conditions-behind : (p : Spot) (ps : List Piece) → Ordered p ps
+    → tailOf ps .conditions ++ joined (λ m. m .conditions) (tailOf ps .later .matches) ≡ conditionsIn ps
 unfolding tailOf Ordered spotAfter joined conditionIn
 conditions-behind p [] h = refl
 conditions-behind p (start u ∷ ps) h = conditions-behind inChain ps (h .1)
@@ -105,7 +108,8 @@ abbrev names : Chain → List Bytes
 names c = map (λ e. e .name) (chainEdges c)
 
 scopes-behind : (p : Spot) (ps : List Piece) → Ordered p ps → (vs es : List Bytes) (v : Bytes)
-    → scopes (vs ++ chainVertices (tailOf ps .chain v)) (es ++ names (tailOf ps .chain v)) (tailOf ps .conditions) (tailOf ps .later .matches) ≡ scopedFrom (vs ++ (v ∷ [])) es ps
+    → scopes (vs ++ chainVertices (tailOf ps .chain v)) (es ++ names (tailOf ps .chain v)) (tailOf ps .conditions) (tailOf ps .later .matches)
+    ≡ scopedFrom (vs ++ (v ∷ [])) es ps
 unfolding tailOf Ordered spotAfter scoped scopedFrom chainVertices chainEdges
 scopes-behind p [] h vs es v = refl
 scopes-behind p (start u ∷ ps) h vs es v = rw (append-nil es) (scopes-behind inChain ps (h .1) (vs ++ (v ∷ [])) es u)
@@ -117,7 +121,8 @@ scopes-behind p (comes e l u ∷ ps) h vs es v =
     ∙ scopes-behind inChain ps (h .1) (vs ++ (v ∷ [])) (es ++ (e ∷ [])) u
 scopes-behind p (asks c ∷ ps) h vs es v =
     ap₂ (λ fs l. record { condition = c; vertices = vs ++ (v ∷ []); edges = fs } ∷ l) (append-nil es)
-    (ap (λ (f : Bytes → Chain). scopes (vs ++ chainVertices (f v)) (es ++ names (f v)) (tailOf ps .conditions) (tailOf ps .later .matches)) (sym (chain-ended ps (h .1)))
+    (ap (λ (f : Bytes → Chain). scopes (vs ++ chainVertices (f v)) (es ++ names (f v)) (tailOf ps .conditions) (tailOf ps .later .matches))
+    (sym (chain-ended ps (h .1)))
     ∙ scopes-behind inWhere ps (h .1) vs es v)
 scopes-behind p (returns u ∷ ps) h vs es v = sym (returns-scoped (vs ++ (v ∷ [])) es ps (h .1))
 

@@ -9,7 +9,8 @@ use Rattle.model.specs.Choice.{pick, Maybe, nothing, just, andThen}
 use Rattle.model.specs.Words.{Got}
 use Rattle.model.specs.Signs.{Sign, isWord, isMark, signName, signValue, next, expect}
 use Rattle.model.specs.QueryText.{differ, demand}
-use Rattle.model.specs.Grammar.{Piece, start, goes, comes, asks, returns, Spot, atStart, inChain, inWhere, inReturn, spotAfter, signRelation, vertexAt, startAt, linkAt, conditionAt, returnAt, pieceAt, endsAt, pieces}
+use Rattle.model.specs.Grammar.{Piece, start, goes, comes, asks, returns, Spot, atStart, inChain, inWhere, inReturn, spotAfter, signRelation}
+use Rattle.model.specs.Grammar.{vertexAt, startAt, linkAt, conditionAt, returnAt, pieceAt, endsAt, pieces}
 use Rattle.query_pieces.specs.Walk.{Walk, stopped, ahead, orStopped, endsWell, walk, mayStand, Ordered}
 
 -- what a walk found, if the grammar is kept
@@ -38,7 +39,8 @@ pieces-are-walked p (suc k) (t ∷ ts) = pieces-are-walked p k ts
 pieces-are-walked p zero (t ∷ ts) = go (pieceAt p t ts) (λ g. pieces-are-walked (spotAfter (g .got)) (g .size - 1) ts)
   where
     go : (m : Maybe (Got Piece)) → ((g : Got Piece) → pieces (spotAfter (g .got)) (g .size - 1) ts ≡ kept (walk (spotAfter (g .got)) (g .size - 1) ts))
-        → andThen m (λ g. andThen (pieces (spotAfter (g .got)) (g .size - 1) ts) (λ ps. just (g .got ∷ ps))) ≡ kept (orStopped (andThen m (λ g. just (ahead (g .got) (walk (spotAfter (g .got)) (g .size - 1) ts)))))
+        → andThen m (λ g. andThen (pieces (spotAfter (g .got)) (g .size - 1) ts) (λ ps. just (g .got ∷ ps)))
+        ≡ kept (orStopped (andThen m (λ g. just (ahead (g .got) (walk (spotAfter (g .got)) (g .size - 1) ts)))))
     go nothing h = refl
     go (just g) h = rw (h g) (ahead-kept (g .got) (walk (spotAfter (g .got)) (g .size - 1) ts))
 
@@ -61,7 +63,8 @@ module _ (p : Spot) where
   then-stands nothing f h = tt
   then-stands (just a) f h = h a
 
-  next-stands : {A : Type 0} (read : Sign → Maybe A) (ts : List Sign) (f : A → List Sign → Maybe (Got Piece)) → ((a : A) (ts : List Sign) → Stands p (f a ts)) → Stands p (next read ts f)
+  next-stands : {A : Type 0} (read : Sign → Maybe A) (ts : List Sign) (f : A → List Sign → Maybe (Got Piece))
+      → ((a : A) (ts : List Sign) → Stands p (f a ts)) → Stands p (next read ts f)
   unfolding next
   next-stands read [] f h = tt
   next-stands read (t ∷ ts) f h = then-stands (read t) (λ a. f a ts) (λ a. h a ts)
@@ -79,7 +82,8 @@ module _ (p : Spot) where
   unfolding startAt
   start-stands h ts = vertex-stands ts _ h
 
-  link-stands : (make : Bytes → Bytes → Bytes → Piece) (arrow : Bytes) → ((e l v : Bytes) → T (mayStand p (make e l v))) → (ts : List Sign) → Stands p (linkAt make arrow ts)
+  link-stands : (make : Bytes → Bytes → Bytes → Piece) (arrow : Bytes) → ((e l v : Bytes) → T (mayStand p (make e l v))) → (ts : List Sign)
+      → Stands p (linkAt make arrow ts)
   unfolding linkAt
   link-stands make arrow h ts =
       expect-stands _ ts _ (λ ts.

@@ -54,7 +54,8 @@ fn linked(arrow: usize, l: Link) -> Piece
 // An edge in its brackets, an arrow's end, and the vertex behind it.
 fn link(s: &[u8], from: usize, arrow: usize) -> PieceRead
     requires { ⌜ 0 < arrow ⌝ }
-    ensures { λ r. ⌜ StepIs (orStopped (linkThen (markBytes arrow) (signsFrom true false (now (s .entry)) from) (chained arrow))) (standingsFrom none true false (now (s .entry)) from) (now (s .entry)) from r ⌝ }
+    ensures { λ r. ⌜ StepIs (orStopped (linkThen (markBytes arrow) (signsFrom true false (now (s .entry)) from) (chained arrow)))
+        (standingsFrom none true false (now (s .entry)) from) (now (s .entry)) from r ⌝ }
 {
     let End::At(a) = expected::mark_next(s, from, true, false, marks::OPEN_SQUARE) else {
         return PieceRead::None(false);
@@ -94,7 +95,8 @@ fn link(s: &[u8], from: usize, arrow: usize) -> PieceRead
 
 // Match (v), from behind Match.
 pub fn start(s: &[u8], from: usize) -> PieceRead
-    ensures { λ r. ⌜ StepIs (piecesBy (startAt (signsFrom true true (now (s .entry)) from)) (signsFrom true true (now (s .entry)) from)) (standingsFrom none true true (now (s .entry)) from) (now (s .entry)) from r ⌝ }
+    ensures { λ r. ⌜ StepIs (piecesBy (startAt (signsFrom true true (now (s .entry)) from)) (signsFrom true true (now (s .entry)) from))
+        (standingsFrom none true true (now (s .entry)) from) (now (s .entry)) from r ⌝ }
 {
     let NameRead::Found(v, q) = vertex(s, from, true) else {
         return PieceRead::None(false);
@@ -111,21 +113,24 @@ pub fn start(s: &[u8], from: usize) -> PieceRead
 
 // -[e:id]->(v), from behind the minus.
 pub fn goes(s: &[u8], from: usize) -> PieceRead
-    ensures { λ r. ⌜ StepIs (piecesBy (linkAt Rattle.model.specs.Grammar.Piece.goes (bytesOf "->") (signsFrom true false (now (s .entry)) from)) (signsFrom true false (now (s .entry)) from)) (standingsFrom none true false (now (s .entry)) from) (now (s .entry)) from r ⌝ }
+    ensures { λ r. ⌜ StepIs (piecesBy (linkAt Rattle.model.specs.Grammar.Piece.goes (bytesOf "->") (signsFrom true false (now (s .entry)) from))
+        (signsFrom true false (now (s .entry)) from)) (standingsFrom none true false (now (s .entry)) from) (now (s .entry)) from r ⌝ }
 {
     link(s, from, marks::RIGHTWARD)
 }
 
 // <-[e:id]-(v), from behind the arrow.
 pub fn comes(s: &[u8], from: usize) -> PieceRead
-    ensures { λ r. ⌜ StepIs (piecesBy (linkAt Rattle.model.specs.Grammar.Piece.comes (bytesOf "-") (signsFrom true false (now (s .entry)) from)) (signsFrom true false (now (s .entry)) from)) (standingsFrom none true false (now (s .entry)) from) (now (s .entry)) from r ⌝ }
+    ensures { λ r. ⌜ StepIs (piecesBy (linkAt Rattle.model.specs.Grammar.Piece.comes (bytesOf "-") (signsFrom true false (now (s .entry)) from))
+        (signsFrom true false (now (s .entry)) from)) (standingsFrom none true false (now (s .entry)) from) (now (s .entry)) from r ⌝ }
 {
     link(s, from, marks::MINUS)
 }
 
 // v <> u, from behind the sign.
 fn differ(s: &[u8], v: Part, from: usize) -> PieceRead
-    ensures { λ r. ⌜ StepIs (orStopped (otherThen (nameAt (now (s .entry)) v) (signsFrom false false (now (s .entry)) from) asked)) (standingsFrom none false false (now (s .entry)) from) (now (s .entry)) from r ⌝ }
+    ensures { λ r. ⌜ StepIs (orStopped (otherThen (nameAt (now (s .entry)) v) (signsFrom false false (now (s .entry)) from) asked))
+        (standingsFrom none false false (now (s .entry)) from) (now (s .entry)) from r ⌝ }
 {
     let NameRead::Found(u, q) = expected::name_next(s, from, false, false) else {
         return PieceRead::None(false);
@@ -142,7 +147,8 @@ fn differ(s: &[u8], v: Part, from: usize) -> PieceRead
 
 // x.attr REL value, from behind x.
 fn demand(s: &[u8], subject: Part, from: usize) -> PieceRead
-    ensures { λ r. ⌜ StepIs (orStopped (expect (bytesOf ".") (signsFrom false true (now (s .entry)) from) (λ ts. valueThen (nameAt (now (s .entry)) subject) ts asked))) (standingsFrom none false true (now (s .entry)) from) (now (s .entry)) from r ⌝ }
+    ensures { λ r. ⌜ StepIs (orStopped (expect (bytesOf ".") (signsFrom false true (now (s .entry)) from)
+        (λ ts. valueThen (nameAt (now (s .entry)) subject) ts asked))) (standingsFrom none false true (now (s .entry)) from) (now (s .entry)) from r ⌝ }
 {
     let End::At(a) = expected::mark_next(s, from, false, true, marks::DOT) else {
         return PieceRead::None(false);
@@ -173,7 +179,8 @@ fn demand(s: &[u8], subject: Part, from: usize) -> PieceRead
 
 // A condition, from behind Where or AND.
 pub fn condition(s: &[u8], from: usize) -> PieceRead
-    ensures { λ r. ⌜ StepIs (piecesBy (conditionAt (signsFrom false true (now (s .entry)) from)) (signsFrom false true (now (s .entry)) from)) (standingsFrom none false true (now (s .entry)) from) (now (s .entry)) from r ⌝ }
+    ensures { λ r. ⌜ StepIs (piecesBy (conditionAt (signsFrom false true (now (s .entry)) from)) (signsFrom false true (now (s .entry)) from))
+        (standingsFrom none false true (now (s .entry)) from) (now (s .entry)) from r ⌝ }
 {
     let NameRead::Found(x, a) = expected::name_next(s, from, false, true) else {
         return PieceRead::None(false);
@@ -186,7 +193,8 @@ pub fn condition(s: &[u8], from: usize) -> PieceRead
 
 // A returned name, from behind Return or a comma.
 pub fn returned(s: &[u8], from: usize, close: bool) -> PieceRead
-    ensures { λ r. ⌜ StepIs (piecesBy (returnAt (signsFrom false close (now (s .entry)) from)) (signsFrom false close (now (s .entry)) from)) (standingsFrom none false close (now (s .entry)) from) (now (s .entry)) from r ⌝ }
+    ensures { λ r. ⌜ StepIs (piecesBy (returnAt (signsFrom false close (now (s .entry)) from)) (signsFrom false close (now (s .entry)) from))
+        (standingsFrom none false close (now (s .entry)) from) (now (s .entry)) from r ⌝ }
 {
     let NameRead::Found(v, q) = expected::name_next(s, from, false, close) else {
         return PieceRead::None(false);

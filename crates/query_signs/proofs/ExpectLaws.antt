@@ -36,11 +36,13 @@ use Rattle.query_signs.specs.declared.ValueRead.{ValueRead}
 use Rattle.query_signs.specs.declared.ValueRead.the-variants as value
 use Rattle.query_signs.specs.Marks.{markBytes}
 use Rattle.query_signs.specs.Reads.{signOf, signsFrom, first, firstOf, NextSign, Behind, standingsFrom, standingOf, SignStands}
-use Rattle.query_signs.specs.Expected.{Then, codeOf, behindMark, MarkNext, behindName, NameNext, relationOr, behindRelation, RelationNext, truthOr, behindValue, valueStanding, ValueNext}
+use Rattle.query_signs.specs.Expected.{Then, codeOf, behindMark, MarkNext, behindName, NameNext, relationOr, behindRelation, RelationNext}
+use Rattle.query_signs.specs.Expected.{truthOr, behindValue, valueStanding, ValueNext}
 use Rattle.query_signs.proofs.MarkLaws.{same-marks}
 
 -- a broken sign is never what is expected
-pub expect-first : {B : Type 0} (m : Bytes) (ts : List Sign) (f : List Sign → Maybe B) → expect m ts f ≡ andThen (first ts) (λ x. pick (isMark m (x .sign)) (f (x .rest)) nothing)
+pub expect-first : {B : Type 0} (m : Bytes) (ts : List Sign) (f : List Sign → Maybe B)
+    → expect m ts f ≡ andThen (first ts) (λ x. pick (isMark m (x .sign)) (f (x .rest)) nothing)
 unfolding expect first andThen isMark
 expect-first m [] f = refl
 expect-first m (word w ∷ ts) f = refl
@@ -49,7 +51,8 @@ expect-first m (text t ∷ ts) f = refl
 expect-first m (mark b ∷ ts) f = refl
 expect-first m (broken ∷ ts) f = refl
 
-pub next-first : {A B : Type 0} (r : Sign → Maybe A) (ts : List Sign) (f : A → List Sign → Maybe B) → r broken ≡ nothing → next r ts f ≡ andThen (first ts) (λ x. andThen (r (x .sign)) (λ a. f a (x .rest)))
+pub next-first : {A B : Type 0} (r : Sign → Maybe A) (ts : List Sign) (f : A → List Sign → Maybe B) → r broken ≡ nothing
+    → next r ts f ≡ andThen (first ts) (λ x. andThen (r (x .sign)) (λ a. f a (x .rest)))
 unfolding next first andThen
 next-first r [] f h = refl
 next-first r (word w ∷ ts) f h = refl
@@ -68,7 +71,8 @@ expect-then m (t ∷ ts) f = go (isMark m t)
     go true = refl
     go false = refl
 
-pub next-then : {A B : Type 0} (r : Sign → Maybe A) (ts : List Sign) (f : A → List Sign → Maybe B) → next r ts f ≡ andThen (next r ts (λ a ts. just (record { got = a; rest = ts }))) (λ (x : Then A). f (x .got) (x .rest))
+pub next-then : {A B : Type 0} (r : Sign → Maybe A) (ts : List Sign) (f : A → List Sign → Maybe B)
+    → next r ts f ≡ andThen (next r ts (λ a ts. just (record { got = a; rest = ts }))) (λ (x : Then A). f (x .got) (x .rest))
 unfolding next andThen
 next-then r [] f = refl
 next-then {A} r (t ∷ ts) f = go (r t)
@@ -202,11 +206,14 @@ module _ (close : Bool) (s : Bytes) (from : ℕ) where
     unfolding firstOf andThen signRelation isMark
     relation-reads = next-first signRelation (signsFrom false close s from) related refl ∙ rw (h .reads, e)
 
-    relation-stands : (k : ℕ) → 0 < k → codeOf t ≡ k → bracketOf (mark (markBytes k)) ≡ none → (o : Bracket) → standingsFrom o false close s from ≡ standingsFrom none false false s q
+    relation-stands : (k : ℕ) → 0 < k → codeOf t ≡ k → bracketOf (mark (markBytes k)) ≡ none → (o : Bracket)
+        → standingsFrom o false close s from ≡ standingsFrom none false false s q
     unfolding wordy
-    relation-stands k p c n o = subst (SignStands o false close s from) e (h .stands o) ∙ rw (code-quiet o t k p c, code-is s t k p c, chain-mark false (markBytes k), n)
+    relation-stands k p c n o = subst (SignStands o false close s from) e (h .stands o)
+        ∙ rw (code-quiet o t k p c, code-is s t k p c, chain-mark false (markBytes k), n)
 
-    relation-is : (k : ℕ) (d : RelationData) → 0 < k → bracketOf (mark (markBytes k)) ≡ none → codeOf t ≡ k → signRelation (signOf s t) ≡ just (relationOf d) → RelationNext close s from (relation.Found d q)
+    relation-is : (k : ℕ) (d : RelationData) → 0 < k → bracketOf (mark (markBytes k)) ≡ none → codeOf t ≡ k
+        → signRelation (signOf s t) ≡ just (relationOf d) → RelationNext close s from (relation.Found d q)
     unfolding behindRelation andThen wordy
     relation-is k d p n c m = record {
       reads = relation-reads ∙ rw (m, code-is s t k p c, chain-mark false (markBytes k));
@@ -214,11 +221,13 @@ module _ (close : Bool) (s : Bytes) (from : ℕ) where
       stands = relation-stands k p c n;
     }
 
-    relation-or : (k : ℕ) (d : RelationData) (R : RelationRead) (M : Maybe Relation) → 0 < k → bracketOf (mark (markBytes k)) ≡ none → signRelation (signOf s t) ≡ pick (eqb (codeOf t) k) (just (relationOf d)) M
+    relation-or : (k : ℕ) (d : RelationData) (R : RelationRead) (M : Maybe Relation) → 0 < k → bracketOf (mark (markBytes k)) ≡ none
+        → signRelation (signOf s t) ≡ pick (eqb (codeOf t) k) (just (relationOf d)) M
         → (signRelation (signOf s t) ≡ M → RelationNext close s from R) → RelationNext close s from (pick (eqb (codeOf t) k) (relation.Found d q) R)
     relation-or k d R M p n m f = go (eqb (codeOf t) k) refl m
       where
-        go : (x : Bool) → eqb (codeOf t) k ≡ x → signRelation (signOf s t) ≡ pick x (just (relationOf d)) M → RelationNext close s from (pick x (relation.Found d q) R)
+        go : (x : Bool) → eqb (codeOf t) k ≡ x → signRelation (signOf s t) ≡ pick x (just (relationOf d)) M
+            → RelationNext close s from (pick x (relation.Found d q) R)
         go true c m = relation-is k d p n (eqb-true (codeOf t) k c) m
         go false c m = f m
 
@@ -252,11 +261,21 @@ module _ (close : Bool) (s : Bytes) (from : ℕ) where
 
     pub value-whole : (n : ℕ) → r ≡ read.Found (sign.Whole n) q → ValueNext close s from (value.Found (given.Number n) q true)
     unfolding firstOf behindValue andThen signValue signOf valueOf chainBehind isWord isMark wordy bracketOf standingOf valueStanding
-    value-whole n e = record { reads = next-first signValue (signsFrom false close s from) valued refl ∙ rw (h .reads, e); moves = subst (Behind from) e (h .moves); stands = value-stands (sign.Whole n) e refl refl }
+    value-whole n e = record {
+      reads = next-first signValue (signsFrom false close s from) valued refl
+          ∙ rw (h .reads, e);
+      moves = subst (Behind from) e (h .moves);
+      stands = value-stands (sign.Whole n) e refl refl;
+    }
 
     pub value-text : (p : Part) → r ≡ read.Found (sign.Text p) q → ValueNext close s from (value.Found (given.Text (p .start) (p .length)) q false)
     unfolding firstOf behindValue andThen signValue signOf valueOf nameAt chainBehind isWord isMark wordy bracketOf standingOf valueStanding
-    value-text p e = record { reads = next-first signValue (signsFrom false close s from) valued refl ∙ rw (h .reads, e); moves = subst (Behind from) e (h .moves); stands = value-stands (sign.Text p) e refl refl }
+    value-text p e = record {
+      reads = next-first signValue (signsFrom false close s from) valued refl
+          ∙ rw (h .reads, e);
+      moves = subst (Behind from) e (h .moves);
+      stands = value-stands (sign.Text p) e refl refl;
+    }
 
     truth-chain : (w b : Bytes) → same w b ≡ true → chainBehind false (word b) ≡ false → chainBehind false (word w) ≡ false
     truth-chain w b k f = rw (same→eq w b (subst T (sym k) tt)) f
@@ -268,13 +287,20 @@ module _ (close : Bool) (s : Bytes) (from : ℕ) where
         go : (x : Bool) → same (nameAt s p) (bytesOf "true") ≡ x → (y : Bool) → same (nameAt s p) (bytesOf "false") ≡ y
             → ValueNext close s from (pick x (value.Found (given.Truth true) q true) (pick y (value.Found (given.Truth false) q true) value.None))
         go true k y l = record {
-          reads = next-first signValue (signsFrom false close s from) valued refl ∙ rw (h .reads, e, k, truth-chain (nameAt s p) (bytesOf "true") k (unfold chainBehind isWord same in refl));
+          reads = next-first signValue (signsFrom false close s from) valued refl
+              ∙ rw (h .reads, e, k, truth-chain (nameAt s p) (bytesOf "true") k (unfold chainBehind isWord same in refl));
           moves = subst (Behind from) e (h .moves);
           stands = value-stands (sign.Word p) e (truth-chain (nameAt s p) (bytesOf "true") k (unfold chainBehind isWord same in refl)) refl;
         }
         go false k true l = record {
-          reads = next-first signValue (signsFrom false close s from) valued refl ∙ rw (h .reads, e, k, l, truth-chain (nameAt s p) (bytesOf "false") l (unfold chainBehind isWord same in refl));
+          reads = next-first signValue (signsFrom false close s from) valued refl
+              ∙ rw (h .reads, e, k, l, truth-chain (nameAt s p) (bytesOf "false") l (unfold chainBehind isWord same in refl));
           moves = subst (Behind from) e (h .moves);
           stands = value-stands (sign.Word p) e (truth-chain (nameAt s p) (bytesOf "false") l (unfold chainBehind isWord same in refl)) refl;
         }
-        go false k false l = record { reads = next-first signValue (signsFrom false close s from) valued refl ∙ rw (h .reads, e, k, l); moves = tt; stands = tt }
+        go false k false l = record {
+          reads = next-first signValue (signsFrom false close s from) valued refl
+              ∙ rw (h .reads, e, k, l);
+          moves = tt;
+          stands = tt;
+        }

@@ -42,7 +42,8 @@ unmarked w b t [] h k = refl
 unmarked w b t ([] ∷ ms) h k = cc
 unmarked w b t ((x ∷ m) ∷ ms) h k = go (eqb x b) refl (w x) refl k (unmarked w b t ms h)
   where
-    go : (e : Bool) → eqb x b ≡ e → (v : Bool) → w x ≡ v → pick (not v) (all (opensNot w) ms) false ≡ true → (all (opensNot w) ms ≡ true → markAt ms (b ∷ t) ≡ noSign)
+    go : (e : Bool) → eqb x b ≡ e → (v : Bool) → w x ≡ v → pick (not v) (all (opensNot w) ms) false ≡ true
+        → (all (opensNot w) ms ≡ true → markAt ms (b ∷ t) ≡ noSign)
         → pick (pick e (begins m t) false) (record { got = mark (x ∷ m); size = length (x ∷ m) }) (markAt ms (b ∷ t)) ≡ noSign
     go e i true j k f = cc
     go true i false j k f = let z = eqb-true x b i in cc
@@ -64,13 +65,15 @@ module _ {B : Type 0} (r : Sign → B) (n : B) (k : r broken ≡ n) where
   or-broken f nothing h = k
   or-broken f (just g) h = h (g .got)
 
-  each-kind : (chain : Bool) (b : ℕ) (t : Bytes) → (isLetter b ≡ true → (a : Bytes) → r (word a) ≡ n) → ((a : ℕ) → r (whole a) ≡ n) → ((a : Bytes) → r (text a) ≡ n)
+  each-kind : (chain : Bool) (b : ℕ) (t : Bytes) → (isLetter b ≡ true → (a : Bytes) → r (word a) ≡ n) → ((a : ℕ) → r (whole a) ≡ n)
+      → ((a : Bytes) → r (text a) ≡ n)
       → ((isDigit b || eqb b 45 && digitNext t) ≡ false → r (markAt (marks chain) (b ∷ t) .got) ≡ n) → r (signAt chain b t .got) ≡ n
   unfolding signAt
   each-kind chain b t u v w m = go (isLetter b) refl (isDigit b || eqb b 45 && digitNext t) refl (eqb b 39)
     where
       go : (x : Bool) → isLetter b ≡ x → (y : Bool) → (isDigit b || eqb b 45 && digitNext t) ≡ y → (z : Bool)
-          → r (pick x (orBroken word (wordAt (b ∷ t))) (pick y (orBroken whole (wholeAt (b ∷ t))) (pick z (orBroken text (textAt t)) (markAt (marks chain) (b ∷ t)))) .got) ≡ n
+          → r (pick x (orBroken word (wordAt (b ∷ t)))
+          (pick y (orBroken whole (wholeAt (b ∷ t))) (pick z (orBroken text (textAt t)) (markAt (marks chain) (b ∷ t)))) .got) ≡ n
       go true e y f z = or-broken word (wordAt (b ∷ t)) (u e)
       go false e true f z = or-broken whole (wholeAt (b ∷ t)) v
       go false e false f true = or-broken text (textAt t) w
@@ -101,10 +104,12 @@ other-code m c h = go (eqb m 0)
 
 some-mark : (c : ℕ) → 0 < c → markGot c ≡ noSign → ⊥
 unfolding markGot
-some-mark c h e = let z : mark (markBytes c) ≡ broken = ap (λ (g : Got Sign). g .got) (rw (ne-eqb c 0 (λ z. omega arith)) at e) in let y : _≡_ {A = ℕ} 0 1 = cc in omega arith
+some-mark c h e = let z : mark (markBytes c) ≡ broken = ap (λ (g : Got Sign). g .got) (rw (ne-eqb c 0 (λ z. omega arith)) at e) in
+    let y : _≡_ {A = ℕ} 0 1 = cc in omega arith
 
 -- the sign where a mark stands that is no number
-marked : (chain : Bool) (b c : ℕ) (t : Bytes) → 0 < c → markGot c ≡ markAt (marks chain) (b ∷ t) → (isDigit b || eqb b 45 && digitNext t) ≡ false → markAt (marks chain) (b ∷ t) ≡ signAt chain b t
+marked : (chain : Bool) (b c : ℕ) (t : Bytes) → 0 < c → markGot c ≡ markAt (marks chain) (b ∷ t) → (isDigit b || eqb b 45 && digitNext t) ≡ false
+    → markAt (marks chain) (b ∷ t) ≡ signAt chain b t
 unfolding signAt notFront
 marked chain b c t h e n = rw n (go (isLetter b) refl (eqb b 39) refl)
   where
@@ -117,10 +122,12 @@ marked chain b c t h e n = rw n (go (isLetter b) refl (eqb b 39) refl)
 module _ (chain close : Bool) (s : Bytes) (from at : ℕ) (p : at ≡ past isBlank s from) where
   -- another sign than the mark
   module _ (l : at < length s) (c : ℕ) where
-    unlike : ((isDigit (peekAt s at) || eqb (peekAt s at) 45 && digitNext (drop (at + 1) s)) ≡ false → isMark (markBytes c) (markAt (marks chain) (drop at s) .got) ≡ false) → MarkNext chain close s from c end.None
+    unlike : ((isDigit (peekAt s at) || eqb (peekAt s at) 45 && digitNext (drop (at + 1) s)) ≡ false
+        → isMark (markBytes c) (markAt (marks chain) (drop at s) .got) ≡ false) → MarkNext chain close s from c end.None
     unfolding expect behindMark isMark
     unlike h =
-        let k = each-kind (isMark (markBytes c)) false refl chain (peekAt s at) (drop (at + 1) s) (λ i a. refl) (λ a. refl) (λ a. refl) (λ n. rw (← drop-peek s at l) (h n)) in
+        let k = each-kind (isMark (markBytes c)) false refl chain (peekAt s at) (drop (at + 1) s) (λ i a. refl) (λ a. refl) (λ a. refl)
+        (λ n. rw (← drop-peek s at l) (h n)) in
         record { reads = rw (sign-at chain close s from at p l, or-close (isMark (markBytes c)) false refl _ _ k); moves = tt; stands = λ o. tt }
 
     pub mark-other : (m : ℕ) → markGot m ≡ markAt (marks chain) (drop at s) → (m ≡ c → ⊥) → MarkNext chain close s from c end.None
@@ -129,11 +136,13 @@ module _ (chain close : Bool) (s : Bytes) (from at : ℕ) (p : at ≡ past isBla
     pub mark-number : (isDigit (peekAt s at) || eqb (peekAt s at) 45 && digitNext (drop (at + 1) s)) ≡ true → MarkNext chain close s from c end.None
     mark-number h = unlike (λ n. let z : true ≡ false = sym h ∙ n in cc)
 
-    pub mark-next : 0 < c → (n : ℕ) → markGot c ≡ markAt (marks chain) (drop at s) → (isDigit (peekAt s at) || eqb (peekAt s at) 45 && digitNext (drop (at + 1) s)) ≡ false → n ≡ markSize c
+    pub mark-next : 0 < c → (n : ℕ) → markGot c ≡ markAt (marks chain) (drop at s)
+        → (isDigit (peekAt s at) || eqb (peekAt s at) 45 && digitNext (drop (at + 1) s)) ≡ false → n ≡ markSize c
         → MarkNext chain close s from c (end.At (at + n))
     unfolding isWordy
     mark-next h n e f z = mark-met chain close s from c (at + n) (next-found chain close s from at p l (sign.Mark c) (at + n)
-        (mark-found s at chain c n e z (λ z. omega arith) ∙ rw (drop-peek s at l) (marked chain (peekAt s at) c (drop (at + 1) s) h (rw (← drop-peek s at l) e) f)) (and-false (close && eqb at from)) tt)
+        (mark-found s at chain c n e z (λ z. omega arith)
+        ∙ rw (drop-peek s at l) (marked chain (peekAt s at) c (drop (at + 1) s) h (rw (← drop-peek s at l) e) f)) (and-false (close && eqb at from)) tt)
 
   -- no word
   pub name-other : isLetter (peekAt s at) ≡ false → NameNext chain close s from name.None
@@ -141,7 +150,8 @@ module _ (chain close : Bool) (s : Bytes) (from at : ℕ) (p : at ≡ past isBla
   name-other h = ⊎-elim some (λ g. name-end chain close s from (none-left chain close s from at p g)) (below-or-not at (length s))
     where
       unnamed : signName (signAt chain (peekAt s at) (drop (at + 1) s) .got) ≡ nothing
-      unnamed = each-kind signName nothing refl chain (peekAt s at) (drop (at + 1) s) (λ i a. let z : true ≡ false = sym i ∙ h in cc) (λ a. refl) (λ a. refl) (λ n. nameless (marks chain) _)
+      unnamed = each-kind signName nothing refl chain (peekAt s at) (drop (at + 1) s) (λ i a. let z : true ≡ false = sym i ∙ h in cc) (λ a. refl)
+          (λ a. refl) (λ n. nameless (marks chain) _)
 
       some : at < length s → NameNext chain close s from name.None
       some l = record { reads = rw (sign-at chain close s from at p l, or-close signName nothing refl _ _ unnamed); moves = tt; stands = λ o. tt }
@@ -160,20 +170,24 @@ module _ (chain close : Bool) (s : Bytes) (from at : ℕ) (p : at ≡ past isBla
       unfolding wordAt endOf
       name-within = go (leb (length (run isWordByte (drop at s))) 24) e
         where
-          go : (x : Bool) → end.At q ≡ endOf at (pick x (just (record { got = run isWordByte (drop at s); size = length (run isWordByte (drop at s)) })) nothing) → (at ≤ q) × (q ≤ length s)
-          go true e = let z : q ≡ at + length (run isWordByte (drop at s)) = cc in (omega arith, omega (arith, inside, run-length isWordByte (drop at s), length-drop at s))
+          go : (x : Bool) → end.At q ≡ endOf at (pick x (just (record { got = run isWordByte (drop at s); size = length (run isWordByte (drop at s)) }))
+              nothing) → (at ≤ q) × (q ≤ length s)
+          go true e = let z : q ≡ at + length (run isWordByte (drop at s)) = cc in
+              (omega arith, omega (arith, inside, run-length isWordByte (drop at s), length-drop at s))
           go false e = let z : _≡_ {A = ℕ} 0 1 = cc in absurd (omega arith)
 
       pub name-close : (close && eqb at from) ≡ true → NameNext chain close s from name.None
       unfolding isWordy
-      name-close k = name-end chain close s from (sign-close chain close s from at p inside _ q (sign-word s at chain inside _ h (word-found s at q e)) (and-true _ ∙ k))
+      name-close k = name-end chain close s from
+          (sign-close chain close s from at p inside _ q (sign-word s at chain inside _ h (word-found s at q e)) (and-true _ ∙ k))
 
       module _ (k : (close && eqb at from) ≡ false) where
         word-next : NextSign chain close s from (read.Found (sign.Word (record { start = at; length = q - at })) q)
         unfolding isWordy
         word-next = next-found chain close s from at p inside _ q (sign-word s at chain inside _ h (word-found s at q e)) (and-true _ ∙ k) (word-part s at q e)
 
-        pub name-found : not (mem (partOf s at (q - at)) neverNames) ≡ true → NameNext chain close s from (name.Found (record { start = at; length = q - at }) q)
+        pub name-found : not (mem (partOf s at (q - at)) neverNames) ≡ true
+            → NameNext chain close s from (name.Found (record { start = at; length = q - at }) q)
         unfolding nameAt
         name-found i = name-met chain close s from _ q word-next (not-true _ i)
 

@@ -54,7 +54,9 @@ same-marks c d = ⊎-elim
     none false = refl
 
     both : (t : Bool) → eqb (c / 256) (d / 256) ≡ t → pick t (pick (eqb (c % 256) (d % 256)) true false) false ≡ eqb c d
-    both true e = let h = eqb-true (c / 256) (d / 256) e in one (eqb (c % 256) (d % 256)) ∙ test-same (c % 256) (d % 256) c d (λ z. omega (arith, div-add-mod' c 256, div-add-mod' d 256)) (λ z. ap (λ (n : ℕ). n % 256) z)
+    both true e = let h = eqb-true (c / 256) (d / 256) e in
+        one (eqb (c % 256) (d % 256)) ∙ test-same (c % 256) (d % 256) c d (λ z. omega (arith, div-add-mod' c 256, div-add-mod' d 256))
+        (λ z. ap (λ (n : ℕ). n % 256) z)
     both false e = sym (ne-eqb c d (λ z. eqb-false (c / 256) (d / 256) e (ap (λ (n : ℕ). n / 256) z)))
 
 one-of : (t : Bool) → pick t true false ≡ t
@@ -93,7 +95,8 @@ bothSay b = pick (isSingle b) (memℕ b singles && leb 40 b) (pick (memℕ b sin
 
 single-member : (b : ℕ) → b < 256 → T (bothSay b)
 unfolding bothSay isSingle memℕ any all Rattle.model.specs.Lists.upTo
-single-member b h = each-e (λ n. T (bothSay n)) (below 256) (each-all (λ n. T (bothSay n)) bothSay (λ n. (λ z. z, λ z. z)) (below 256) .1 tt) b (below-i 256 b h)
+single-member b h = each-e (λ n. T (bothSay n)) (below 256) (each-all (λ n. T (bothSay n)) bothSay (λ n. (λ z. z, λ z. z)) (below 256) .1 tt) b
+    (below-i 256 b h)
 
 mark-single : (b : ℕ) → b < 256 → isSingle b ≡ true → markGot b ≡ record { got = mark (b ∷ []); size = 1 }
 unfolding markGot markBytes markSize bothSay
@@ -127,7 +130,8 @@ module _ (s : Bytes) (at : ℕ) (l : at < length s) (h : peekAt s at < 256) (k :
   unfolding begins
   begins-pair x y p q = rw (drop-peek s at l) (⊎-elim
       (λ m. rw (drop-peek s (at + 1) m) (pair-test x y (peekAt s at) (peekAt s (at + 1)) p q k))
-      (λ m. rw (drop-end s (at + 1) m, peek-end s (at + 1) m) (none-of (eqb x (peekAt s at)) ∙ sym (ne-eqb (peekAt s at * 256 + 256) (x * 256 + y) (λ z. omega arith))))
+      (λ m. rw (drop-end s (at + 1) m, peek-end s (at + 1) m)
+      (none-of (eqb x (peekAt s at)) ∙ sym (ne-eqb (peekAt s at * 256 + 256) (x * 256 + y) (λ z. omega arith))))
       (below-or-not (at + 1) (length s)))
 
   single-at : markAt (map (λ n. n ∷ []) singles) (drop at s) ≡ pick (isSingle (peekAt s at)) (markGot (peekAt s at)) (markGot 0)
@@ -152,25 +156,30 @@ module _ (s : Bytes) (at : ℕ) (l : at < length s) (h : peekAt s at < 256) (k :
       pair-step 60 62 _ (omega arith) (omega arith) refl
       ∙ ap (pick (eqb pairAt 15422) (markGot pairAt))
       (pair-step 60 61 _ (omega arith) (omega arith) refl
-      ∙ ap (pick (eqb pairAt 15421) (markGot pairAt)) (pair-step 62 61 _ (omega arith) (omega arith) refl ∙ ap (pick (eqb pairAt 15933) (markGot pairAt)) single-at))
+      ∙ ap (pick (eqb pairAt 15421) (markGot pairAt))
+      (pair-step 62 61 _ (omega arith) (omega arith) refl ∙ ap (pick (eqb pairAt 15933) (markGot pairAt)) single-at))
       ∙ or-pick (eqb pairAt 15422) (eqb pairAt 15421) (markGot pairAt) _
       ∙ or-pick (eqb pairAt 15422 || eqb pairAt 15421) (eqb pairAt 15933) (markGot pairAt) _
 
   pub mark-at : (chain : Bool) → markAt (marks chain) (drop at s)
-      ≡ pick (chain && isArrow pairAt) (markGot pairAt) (pick (isPair pairAt) (markGot pairAt) (pick (isSingle (peekAt s at)) (markGot (peekAt s at)) (markGot 0)))
+      ≡ pick (chain && isArrow pairAt) (markGot pairAt)
+      (pick (isPair pairAt) (markGot pairAt) (pick (isSingle (peekAt s at)) (markGot (peekAt s at)) (markGot 0)))
   unfolding marks isArrow markGot markBytes markSize
   mark-at false = pairs-at
   mark-at true =
       pair-step 60 45 _ (omega arith) (omega arith) refl
-      ∙ ap (pick (eqb pairAt 15405) (markGot pairAt)) (pair-step 45 62 _ (omega arith) (omega arith) refl ∙ ap (pick (eqb pairAt 11582) (markGot pairAt)) pairs-at)
+      ∙ ap (pick (eqb pairAt 15405) (markGot pairAt))
+      (pair-step 45 62 _ (omega arith) (omega arith) refl ∙ ap (pick (eqb pairAt 11582) (markGot pairAt)) pairs-at)
       ∙ or-pick (eqb pairAt 15405) (eqb pairAt 11582) (markGot pairAt) _
 
 -- the mark that the tests of the reader find
-module _ (s : Bytes) (at : ℕ) (l : at < length s) (byte : (i : ℕ) → getD s i 0 < 256) (b c : ℕ) (eb : b ≡ peekAt s at) (ec : c ≡ peekAt s (at + 1)) (chain : Bool) where
+module _ (s : Bytes) (at : ℕ) (l : at < length s) (byte : (i : ℕ) → getD s i 0 < 256) (b c : ℕ) (eb : b ≡ peekAt s at) (ec : c ≡ peekAt s (at + 1))
+    (chain : Bool) where
   first-byte : peekAt s at < 256
   first-byte = rw (getD-any s at 256 0 l) (byte at)
 
-  read-mark : pick (chain && isArrow (b * 256 + c)) (markGot (b * 256 + c)) (pick (isPair (b * 256 + c)) (markGot (b * 256 + c)) (pick (isSingle b) (markGot b) (markGot 0))) ≡ markAt (marks chain) (drop at s)
+  read-mark : pick (chain && isArrow (b * 256 + c)) (markGot (b * 256 + c))
+      (pick (isPair (b * 256 + c)) (markGot (b * 256 + c)) (pick (isSingle b) (markGot b) (markGot 0))) ≡ markAt (marks chain) (drop at s)
   read-mark = rw (eb, ec) (sym (mark-at s at l first-byte (peek-bound s (at + 1) (byte (at + 1))) chain))
 
   pub mark-arrow : (chain && isArrow (b * 256 + c)) ≡ true → markGot (b * 256 + c) ≡ markAt (marks chain) (drop at s)

@@ -70,9 +70,11 @@ unfolding placed run isBlank isNil
 placed-blanks chain close i [] = refl
 placed-blanks chain close i (b ∷ t) = go (eqb b 32 || eqb b 10) refl (placed-blanks chain false (i + 1) t)
   where
-    go : (x : Bool) → (eqb b 32 || eqb b 10) ≡ x → placed chain false 0 (i + 1) t ≡ placed chain false 0 (i + 1 + length (run isBlank t)) (drop (length (run isBlank t)) t)
+    go : (x : Bool) → (eqb b 32 || eqb b 10) ≡ x
+        → placed chain false 0 (i + 1) t ≡ placed chain false 0 (i + 1 + length (run isBlank t)) (drop (length (run isBlank t)) t)
         → placed chain close 0 i (b ∷ t)
-        ≡ placed chain (close && isNil (pick x (b ∷ run isBlank t) [])) 0 (i + length (pick x (b ∷ run isBlank t) [])) (drop (length (pick x (b ∷ run isBlank t) [])) (b ∷ t))
+        ≡ placed chain (close && isNil (pick x (b ∷ run isBlank t) [])) 0 (i + length (pick x (b ∷ run isBlank t) []))
+        (drop (length (pick x (b ∷ run isBlank t) [])) (b ∷ t))
     go true e h = let n : i + suc (length (run isBlank t)) ≡ i + 1 + length (run isBlank t) = omega arith in rw (e, and-false close, n) h
     go false e h = let n : i + 0 ≡ i = omega arith in rw (and-true close, n)
 
@@ -87,9 +89,11 @@ part-standing s at o (sign.Mark c) e = refl
 module _ (chain close : Bool) (s : Bytes) (from at : ℕ) (p : at ≡ past isBlank s from) (l : at < length s) where
   placed-at : placed chain close 0 from (drop from s) ≡ placed chain (close && eqb at from) 0 at (drop at s)
   unfolding past
-  placed-at = placed-blanks chain close from (drop from s) ∙ rw (p, nil-length (run isBlank (drop from s)) from, drop-drop (length (run isBlank (drop from s))) from s)
+  placed-at = placed-blanks chain close from (drop from s)
+      ∙ rw (p, nil-length (run isBlank (drop from s)) from, drop-drop (length (run isBlank (drop from s))) from s)
 
-  module _ (t : SignData) (q : ℕ) (e : gotOf s at (read.Found t q) ≡ signAt chain (peekAt s at) (drop (at + 1) s)) (h : ((close && eqb at from) && isWordy t) ≡ false) where
+  module _ (t : SignData) (q : ℕ) (e : gotOf s at (read.Found t q) ≡ signAt chain (peekAt s at) (drop (at + 1) s))
+      (h : ((close && eqb at from) && isWordy t) ≡ false) where
     abbrev x : Sign
     x = signOf s t
 
@@ -106,9 +110,11 @@ module _ (chain close : Bool) (s : Bytes) (from at : ℕ) (p : at ≡ past isBla
         let d : at + 1 + (q - at - 1) ≡ q = omega arith in
         placed-skip (chainBehind chain x) (wordy x) (q - at - 1) (at + 1) (drop (at + 1) s) ∙ rw (drop-drop (q - at - 1) (at + 1) s, d)
 
-    pub sign-stands : PartAt s at t → (o : Bracket) → standingsFrom o chain close s from ≡ standingOf o t ++ standingsFrom (bracketOf x) (chainBehind chain x) (wordy x) s q
+    pub sign-stands : PartAt s at t → (o : Bracket)
+        → standingsFrom o chain close s from ≡ standingOf o t ++ standingsFrom (bracketOf x) (chainBehind chain x) (wordy x) s q
     unfolding standings
-    sign-stands k o = ap (standings o) placed-first ∙ ap (λ l. standingAt x o at ++ standings (bracketOf x) l) placed-rest ∙ ap (λ l. l ++ standingsFrom (bracketOf x) (chainBehind chain x) (wordy x) s q) (part-standing s at o t k)
+    sign-stands k o = ap (standings o) placed-first ∙ ap (λ l. standingAt x o at ++ standings (bracketOf x) l) placed-rest
+        ∙ ap (λ l. l ++ standingsFrom (bracketOf x) (chainBehind chain x) (wordy x) s q) (part-standing s at o t k)
 
     pub next-found : PartAt s at t → NextSign chain close s from (read.Found t q)
     next-found k = record {

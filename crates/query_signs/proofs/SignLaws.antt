@@ -79,11 +79,15 @@ digits-size : (minus : Bool) (t : Bytes) (g : Got ℕ) → digitsAt minus t ≡ 
 unfolding digitsAt isWhole plainDigits
 digits-size minus t g h = go (run isDigit t) h
   where
-    go : (ds : Bytes) → pick (isWhole minus ds) (just (record { got = Rattle.model.specs.Words.biased minus (Rattle.model.specs.Words.decimal 0 ds); size = length ds + pick minus 1 0 })) nothing ≡ just g → 0 < g .size
+    go : (ds : Bytes) → pick (isWhole minus ds)
+        (just (record { got = Rattle.model.specs.Words.biased minus (Rattle.model.specs.Words.decimal 0 ds); size = length ds + pick minus 1 0 })) nothing
+        ≡ just g → 0 < g .size
     go [] h = let z : _≡_ {A = ℕ} 0 1 = cc in omega arith
     go (d ∷ ds) h = some (isWhole minus (d ∷ ds)) h
       where
-        some : (x : Bool) → pick x (just (record { got = Rattle.model.specs.Words.biased minus (Rattle.model.specs.Words.decimal 0 (d ∷ ds)); size = suc (length ds) + pick minus 1 0 })) nothing ≡ just g → 0 < g .size
+        some : (x : Bool) → pick x (just (record
+            { got = Rattle.model.specs.Words.biased minus (Rattle.model.specs.Words.decimal 0 (d ∷ ds)); size = suc (length ds) + pick minus 1 0 }))
+            nothing ≡ just g → 0 < g .size
         some true h = let z : suc (length ds) + pick minus 1 0 ≡ g .size = cc in omega arith
         some false h = let z : _≡_ {A = ℕ} 0 1 = cc in omega arith
 
@@ -127,7 +131,8 @@ unfolding signAt
 sign-size chain b t = go (isLetter b) refl (isDigit b || eqb b 45 && digitNext t) (eqb b 39)
   where
     go : (x : Bool) → isLetter b ≡ x → (y z : Bool)
-        → 0 < pick x (orBroken word (wordAt (b ∷ t))) (pick y (orBroken whole (wholeAt (b ∷ t))) (pick z (orBroken text (textAt t)) (markAt (marks chain) (b ∷ t)))) .size
+        → 0 < pick x (orBroken word (wordAt (b ∷ t)))
+        (pick y (orBroken whole (wholeAt (b ∷ t))) (pick z (orBroken text (textAt t)) (markAt (marks chain) (b ∷ t)))) .size
     go true e y z = orBroken-size word (wordAt (b ∷ t)) (word-size b t e)
     go false e true z = orBroken-size whole (wholeAt (b ∷ t)) (whole-size (b ∷ t))
     go false e false true = orBroken-size text (textAt t) (λ g h. omega (arith, text-size t g h))
@@ -154,7 +159,8 @@ module _ (chain close : Bool) (s : Bytes) (from at : ℕ) (p : at ≡ past isBla
 
   blanks-at : signsFrom chain close s from ≡ signsFrom chain near s at
   unfolding past
-  blanks-at = signs-blanks chain close (drop from s) ∙ rw (p, nil-length (run isBlank (drop from s)) from, drop-drop (length (run isBlank (drop from s))) from s)
+  blanks-at = signs-blanks chain close (drop from s)
+      ∙ rw (p, nil-length (run isBlank (drop from s)) from, drop-drop (length (run isBlank (drop from s))) from s)
 
   pub none-left : length s ≤ at → first (signsFrom chain close s from) ≡ nothing
   unfolding signs first
@@ -182,11 +188,13 @@ module _ (chain close : Bool) (s : Bytes) (from at : ℕ) (p : at ≡ past isBla
     sign-none e = rw (sign-at, ← e, and-false near)
 
     sign-found : (t : SignData) (q : ℕ) → gotOf s at (read.Found t q) ≡ signAt chain (peekAt s at) (drop (at + 1) s)
-        → signsFrom chain close s from ≡ pick (near && isWordy t) broken (signOf s t) ∷ signs (chainBehind chain (signOf s t)) (wordy (signOf s t)) (q - at - 1) (drop (at + 1) s)
+        → signsFrom chain close s from ≡ pick (near && isWordy t) broken (signOf s t) ∷ signs (chainBehind chain (signOf s t)) (wordy (signOf s t))
+        (q - at - 1) (drop (at + 1) s)
     unfolding gotOf
     sign-found t q e = rw (sign-at, ← e, wordy-sign s t)
 
-    pub sign-close : (t : SignData) (q : ℕ) → gotOf s at (read.Found t q) ≡ signAt chain (peekAt s at) (drop (at + 1) s) → (near && isWordy t) ≡ true → first (signsFrom chain close s from) ≡ nothing
+    pub sign-close : (t : SignData) (q : ℕ) → gotOf s at (read.Found t q) ≡ signAt chain (peekAt s at) (drop (at + 1) s) → (near && isWordy t) ≡ true
+        → first (signsFrom chain close s from) ≡ nothing
     unfolding first
     sign-close t q e h = rw (sign-found t q e, h)
 
@@ -201,7 +209,8 @@ module _ (chain close : Bool) (s : Bytes) (from at : ℕ) (p : at ≡ past isBla
         let l = sign-behind t q e in
         let d : at + 1 + (q - at - 1) ≡ q = omega arith in
         rw (sign-found t q e, h) (first-sign s t _ ∙ ap (λ r. just (record { sign = signOf s t; rest = r }))
-        (signs-skip (chainBehind chain (signOf s t)) (wordy (signOf s t)) (q - at - 1) (drop (at + 1) s) ∙ ap (signs (chainBehind chain (signOf s t)) (wordy (signOf s t)) 0) (drop-drop (q - at - 1) (at + 1) s ∙ ap (λ n. drop n s) d)))
+        (signs-skip (chainBehind chain (signOf s t)) (wordy (signOf s t)) (q - at - 1) (drop (at + 1) s)
+        ∙ ap (signs (chainBehind chain (signOf s t)) (wordy (signOf s t)) 0) (drop-drop (q - at - 1) (at + 1) s ∙ ap (λ n. drop n s) d)))
 
 -- what the leaf readers say
 pub end-behind : {A : Type 0} (at q : ℕ) (m : Maybe (Got A)) → end.At q ≡ endOf at m → at ≤ q
@@ -210,7 +219,8 @@ end-behind at q nothing e = let z : _≡_ {A = ℕ} 0 1 = cc in omega arith
 end-behind at q (just g) e = let z : q ≡ at + g .size = cc in omega arith
 
 module _ (s : Bytes) (at : ℕ) where
-  pub word-found : (q : ℕ) → end.At q ≡ endOf at (wordAt (drop at s)) → gotOf s at (read.Found (sign.Word (record { start = at; length = q - at })) q) ≡ orBroken word (wordAt (drop at s))
+  pub word-found : (q : ℕ) → end.At q ≡ endOf at (wordAt (drop at s))
+      → gotOf s at (read.Found (sign.Word (record { start = at; length = q - at })) q) ≡ orBroken word (wordAt (drop at s))
   unfolding gotOf orBroken wordTo signOf nameAt
   word-found q e = let w : wordAt (drop at s) ≡ wordTo s at (end.At q) = word-read s at ∙ ap (wordTo s at) (sym e) in rw w
 
@@ -218,7 +228,8 @@ module _ (s : Bytes) (at : ℕ) where
   unfolding gotOf orBroken wordTo
   word-none e = let w : wordAt (drop at s) ≡ wordTo s at end.None = word-read s at ∙ ap (wordTo s at) (sym e) in rw w
 
-  pub whole-found : (n q : ℕ) → number.Number n q ≡ numberOf at (wholeAt (drop at s)) → gotOf s at (read.Found (sign.Whole n) q) ≡ orBroken whole (wholeAt (drop at s))
+  pub whole-found : (n q : ℕ) → number.Number n q ≡ numberOf at (wholeAt (drop at s))
+      → gotOf s at (read.Found (sign.Whole n) q) ≡ orBroken whole (wholeAt (drop at s))
   unfolding gotOf orBroken wholeTo signOf
   whole-found n q e = let w : wholeAt (drop at s) ≡ wholeTo at (number.Number n q) = whole-read s at ∙ ap (wholeTo at) (sym e) in rw w
 
@@ -226,7 +237,8 @@ module _ (s : Bytes) (at : ℕ) where
   unfolding gotOf orBroken wholeTo
   whole-none e = let w : wholeAt (drop at s) ≡ wholeTo at number.None = whole-read s at ∙ ap (wholeTo at) (sym e) in rw w
 
-  pub text-found : (q : ℕ) → end.At q ≡ endOf at (textAt (drop (at + 1) s)) → gotOf s at (read.Found (sign.Text (record { start = at + 1; length = q - at - 2 })) q) ≡ orBroken text (textAt (drop (at + 1) s))
+  pub text-found : (q : ℕ) → end.At q ≡ endOf at (textAt (drop (at + 1) s))
+      → gotOf s at (read.Found (sign.Text (record { start = at + 1; length = q - at - 2 })) q) ≡ orBroken text (textAt (drop (at + 1) s))
   unfolding gotOf orBroken textTo signOf nameAt
   text-found q e = let w : textAt (drop (at + 1) s) ≡ textTo s at (end.At q) = text-read s at ∙ ap (textTo s at) (sym e) in rw w
 
@@ -242,7 +254,8 @@ module _ (s : Bytes) (at : ℕ) where
       go nothing f e = let z : _≡_ {A = ℕ} 0 1 = cc in omega arith
       go (just g) f e = let z : q ≡ at + g .size = cc in omega (arith, text-size (drop (at + 1) s) g f)
 
-  pub mark-found : (chain : Bool) (m n : ℕ) → markGot m ≡ markAt (marks chain) (drop at s) → n ≡ markSize m → (m ≡ 0 → ⊥) → gotOf s at (read.Found (sign.Mark m) (at + n)) ≡ markAt (marks chain) (drop at s)
+  pub mark-found : (chain : Bool) (m n : ℕ) → markGot m ≡ markAt (marks chain) (drop at s) → n ≡ markSize m → (m ≡ 0 → ⊥)
+      → gotOf s at (read.Found (sign.Mark m) (at + n)) ≡ markAt (marks chain) (drop at s)
   unfolding gotOf markGot signOf
   mark-found chain m n e f h = let d : at + n - at ≡ n = omega arith in rw (d, f) ((rw (ne-eqb m 0 h) at e))
 
@@ -260,12 +273,14 @@ module _ (s : Bytes) (at : ℕ) where
     unfolding signAt
     sign-whole g h k e = e ∙ rw (h, k, drop-peek s at l)
 
-    pub sign-text : (g : Got Sign) → isLetter (peekAt s at) ≡ false → (isDigit (peekAt s at) || eqb (peekAt s at) 45 && digitNext (drop (at + 1) s)) ≡ false → peekAt s at ≡ 39
+    pub sign-text : (g : Got Sign) → isLetter (peekAt s at) ≡ false
+        → (isDigit (peekAt s at) || eqb (peekAt s at) 45 && digitNext (drop (at + 1) s)) ≡ false → peekAt s at ≡ 39
         → g ≡ orBroken text (textAt (drop (at + 1) s)) → g ≡ signAt chain (peekAt s at) (drop (at + 1) s)
     unfolding signAt
     sign-text g h k m e = e ∙ rw (h, k, eq-eqb (peekAt s at) 39 m)
 
-    pub sign-mark : (g : Got Sign) → isLetter (peekAt s at) ≡ false → (isDigit (peekAt s at) || eqb (peekAt s at) 45 && digitNext (drop (at + 1) s)) ≡ false → (peekAt s at ≡ 39 → ⊥)
+    pub sign-mark : (g : Got Sign) → isLetter (peekAt s at) ≡ false
+        → (isDigit (peekAt s at) || eqb (peekAt s at) 45 && digitNext (drop (at + 1) s)) ≡ false → (peekAt s at ≡ 39 → ⊥)
         → g ≡ markAt (marks chain) (drop at s) → g ≡ signAt chain (peekAt s at) (drop (at + 1) s)
     unfolding signAt
     sign-mark g h k m e = e ∙ rw (h, k, ne-eqb (peekAt s at) 39 m, drop-peek s at l)
@@ -299,5 +314,6 @@ module _ (s : Bytes) (at b : ℕ) (e : b ≡ peekAt s at) where
   pub number-none : isDigit b ≡ false → (b ≡ 45 → ⊥) → false ≡ (isDigit (peekAt s at) || eqb (peekAt s at) 45 && digitNext (drop (at + 1) s))
   number-none h k = rw (← e, h, ne-eqb b 45 k)
 
-  pub number-minus : isDigit b ≡ false → b ≡ 45 → (d : ℕ) → d ≡ peekAt s (at + 1) → (r : Bool) → r ≡ isDigit d → r ≡ (isDigit (peekAt s at) || eqb (peekAt s at) 45 && digitNext (drop (at + 1) s))
+  pub number-minus : isDigit b ≡ false → b ≡ 45 → (d : ℕ) → d ≡ peekAt s (at + 1) → (r : Bool) → r ≡ isDigit d
+      → r ≡ (isDigit (peekAt s at) || eqb (peekAt s at) 45 && digitNext (drop (at + 1) s))
   number-minus h k d f r g = rw (← e, h, eq-eqb b 45 k, digit-next s (at + 1), ← f) g

@@ -68,7 +68,8 @@ module _ (s : Bytes) where
     earlier : (j p q : ℕ) → i ≤ j → WordPlaces s j p q → WordPlaces s i p q
     earlier j p q l h = record { after = omega (arith, h .after); some = h .some; inside = h .inside; short = h .short }
 
-    shut-placed : (a b x y : ℕ) → WordPlaces s i a b → WordPlaces s i x y → (o : End) → closeNext s y ≡ o → ClaimPlaced s i (claimAt (afterEnd o (λ e. claim.Claim a b x y e) claim.None))
+    shut-placed : (a b x y : ℕ) → WordPlaces s i a b → WordPlaces s i x y → (o : End) → closeNext s y ≡ o
+        → ClaimPlaced s i (claimAt (afterEnd o (λ e. claim.Claim a b x y e) claim.None))
     unfolding afterEnd
     shut-placed a b x y h k (end.At e) c = record { actor = h; node = k; onward = omega (arith, close-after y e c, k .after, k .some) }
     shut-placed a b x y h k end.None c = tt

@@ -32,7 +32,8 @@ use Rattle.request.specs.Faults.{categoryPlace}
 use Rattle.request.specs.Stored.{ClaimsAsked}
 
 -- a name that was looked up is among the names exactly if its place is below their count
-pub named-test : (text : Bytes) (words : List ℕ) (offset count : ℕ) (w : Bytes) (r : ℕ) → r ≡ place w (namesAt text words offset count) → ltb r count ≡ mem w (namesAt text words offset count)
+pub named-test : (text : Bytes) (words : List ℕ) (offset count : ℕ) (w : Bytes) (r : ℕ) → r ≡ place w (namesAt text words offset count)
+    → ltb r count ≡ mem w (namesAt text words offset count)
 named-test text words offset count w r e =
     ap (λ (n : ℕ). ltb n count) e
     ∙ sym (mem-place w (namesAt text words offset count) ∙ ap (ltb (place w (namesAt text words offset count))) (length-names text words offset count))
@@ -64,7 +65,8 @@ module _ (actors nodes : List Bytes) (c : Claim) where
     both-known e = rw (h, e)
 
 -- the lowest fault, by the tests of the code
-module _ (text : Bytes) (words : List ℕ) (c : RulesCounts) (f : Fits text words c) (b : Book) (w : Bytes) (k : ℕ) (e : k ≡ categoryPlace text words c w) (xs : List Claim) where
+module _ (text : Bytes) (words : List ℕ) (c : RulesCounts) (f : Fits text words c) (b : Book) (w : Bytes) (k : ℕ) (e : k ≡ categoryPlace text words c w)
+    (xs : List Claim) where
   -- what the model says
   abbrev fault : Maybe ℕ
   fault = requestFault b (rulesAt text words c) (record { category = w; claims = xs })
@@ -75,7 +77,8 @@ module _ (text : Bytes) (words : List ℕ) (c : RulesCounts) (f : Fits text word
   pub is-undeclared : c .categories ≤ k → fault ≡ pick (eqb 4 0) nothing (just 4)
   unfolding requestFault lowest
   is-undeclared l =
-      let m : mem w (categoryNames (rulesAt text words c)) ≡ false = ap (mem w) (category-names text words c) ∙ place-out text words names (c .categories) w (omega arith) in
+      let m : mem w (categoryNames (rulesAt text words c)) ≡ false = ap (mem w) (category-names text words c)
+      ∙ place-out text words names (c .categories) w (omega arith) in
       rw m
 
   module _ (l : k < c .categories) where
@@ -129,7 +132,8 @@ module _ (actors nodes : List Bytes) where
   nodes-known [] h = refl
   nodes-known (x ∷ xs) h = go (mem (x .actor) actors) (mem (x .node) nodes) h (nodes-known xs)
     where
-      go : (a n : Bool) → pick (not a || not n) true (any (isUnknown actors nodes) xs) ≡ false → (any (isUnknown actors nodes) xs ≡ false → all (λ c. mem (c .node) nodes) xs ≡ true)
+      go : (a n : Bool) → pick (not a || not n) true (any (isUnknown actors nodes) xs) ≡ false
+          → (any (isUnknown actors nodes) xs ≡ false → all (λ c. mem (c .node) nodes) xs ≡ true)
           → pick n (all (λ c. mem (c .node) nodes) xs) false ≡ true
       go true true h r = r h
       go true false h r = sym h
@@ -146,12 +150,18 @@ module _ (actors nodes : List Bytes) where
   few-claims xs h t = omega (arith, fewer-names (actorsIn xs) actors (λ u. subst T t u) (actors-among xs h), length-map xs (λ (c : Claim). c .actor))
 
 -- so the identities of a line without a fault can be stored
-pub claims-asked : (text : Bytes) (words : List ℕ) (c : RulesCounts) → Fits text words c → (b : Book) (k : ℕ) → k < c .categories → (s : Bytes) (q : ℕ) (xs : List Claim)
+pub claims-asked : (text : Bytes) (words : List ℕ) (c : RulesCounts) → Fits text words c → (b : Book) (k : ℕ) → k < c .categories
+    → (s : Bytes) (q : ℕ) (xs : List Claim)
     → claimsFrom s q ≡ just xs → any (isUnknown (actorsAt text words k) (nodeNames b)) xs ≡ false → twice (actorsIn xs) ≡ false → ClaimsAsked b s q
 unfolding actorsAt
 claims-asked text words c f b k l s q xs d h t = record {
   claims = xs;
   are = d;
-  few = omega (arith, few-claims (actorsAt text words k) (nodeNames b) xs h t, length-names text words (actorsFrom k) (wordAt words (actorCountAt k)), f .each k l .few-actors);
+  few = omega (
+    arith,
+    few-claims (actorsAt text words k) (nodeNames b) xs h t,
+    length-names text words (actorsFrom k) (wordAt words (actorCountAt k)),
+    f .each k l .few-actors,
+  );
   known = nodes-known (actorsAt text words k) (nodeNames b) xs h;
 }

@@ -31,7 +31,8 @@ use Rattle.items.specs.declared.NameRead.the-variants as name
 use Rattle.items.specs.declared.ClaimRead.{ClaimRead}
 use Rattle.items.specs.declared.ClaimRead.the-variants as claim
 use Rattle.items.specs.Reads.{nextAt}
-use Rattle.items.specs.Pieces.{itemPlace, afterEnd, wordPiece, namePiece, namePlaces, readAt, wordNext, nameAfter, nameNext, openAfter, openNext, closeAfter, closeNext}
+use Rattle.items.specs.Pieces.{itemPlace, afterEnd, wordPiece, namePiece, namePlaces, readAt, wordNext, nameAfter, nameNext, openAfter, openNext}
+use Rattle.items.specs.Pieces.{closeAfter, closeNext}
 use Rattle.items.specs.Forms.{formOpens, claimNode, claimActor, claimRest, claimHead, claimAfter, claimNext}
 use Rattle.request.specs.declared.ClaimAt.the-variants as at
 use Rattle.request.specs.Claims.{wordsAt, partAt, claimAt}
@@ -44,7 +45,8 @@ module _ (s : Bytes) where
   past-spaces i = words-spaces i (drop i s) ∙ ap (wordsFrom false (past isSpace s i)) (drop-drop (length (run isSpace (drop i s))) i s)
 
   past-mark : (p c : ℕ) → peekAt s p ≡ c → isWordByte c ≡ false → c < 256 → wordsAt s p ≡ wordsAt s (p + 1)
-  past-mark p c e f l = ap (wordsFrom false p) (drop-peek s p (peek-in s p (omega (arith, e)))) ∙ no-word false p (peekAt s p) (drop (p + 1) s) (ap isWordByte e ∙ f)
+  past-mark p c e f l = ap (wordsFrom false p) (drop-peek s p (peek-in s p (omega (arith, e))))
+      ∙ no-word false p (peekAt s p) (drop (p + 1) s) (ap isWordByte e ∙ f)
 
   past-word : (d p q : ℕ) → readAt d s p ≡ Word q → wordsAt s p ≡ partAt p q ∷ wordsAt s q
   past-word d p q e =
@@ -160,10 +162,12 @@ module _ (s : Bytes) where
   Claimed i r = ClaimedBy (wordsAt s i) r
 
   module _ (d i p q : ℕ) (h : wordsAt s i ≡ partAt p q ∷ wordsAt s q) where
-    claim-shut : (a b x y : ℕ) → wordsAt s q ≡ partAt a b ∷ partAt x y ∷ wordsAt s y → (o : End) → EndNext y o → Claimed i (afterEnd o (λ e. claim.Claim a b x y e) claim.None)
+    claim-shut : (a b x y : ℕ) → wordsAt s q ≡ partAt a b ∷ partAt x y ∷ wordsAt s y → (o : End) → EndNext y o
+        → Claimed i (afterEnd o (λ e. claim.Claim a b x y e) claim.None)
     unfolding afterEnd
     claim-shut a b x y k (end.At e) l =
-        let w : wordsAt s i ≡ partAt p q ∷ partAt a b ∷ partAt x y ∷ wordsAt s e = h ∙ ap (λ (t : List Part). partAt p q ∷ t) k ∙ ap (λ (t : List Part). partAt p q ∷ partAt a b ∷ partAt x y ∷ t) l in
+        let w : wordsAt s i ≡ partAt p q ∷ partAt a b ∷ partAt x y ∷ wordsAt s e = h ∙ ap (λ (t : List Part). partAt p q ∷ t) k
+        ∙ ap (λ (t : List Part). partAt p q ∷ partAt a b ∷ partAt x y ∷ t) l in
         (ap (λ (t : List Part). getD t 1 (noIdentity .actor)) w, ap (drop 3) w)
     claim-shut a b x y k end.None l = tt
 
@@ -191,15 +195,18 @@ module _ (s : Bytes) where
   claim-next d i = go (openNext s i) (open-next i)
     where
       go : (n : Next) → Onward i n → Claimed i (claimAfter d s n)
-      go (next.Item p) h = subst (λ (t : List Part). ClaimedBy t (claimHead d s (wordNext d true s p))) (sym h) (claim-head d p (wordNext d true s p) (word-next d true p))
+      go (next.Item p) h = subst (λ (t : List Part). ClaimedBy t (claimHead d s (wordNext d true s p))) (sym h)
+          (claim-head d p (wordNext d true s p) (word-next d true p))
       go (next.Close e) h = tt
       go next.None h = tt
 
   -- where the words of an identity that was read stand
-  pub claim-words : (i a b x y e : ℕ) → at.At a b x y e ≡ claimAt (claimNext 2 s i) → (getD (wordsAt s i) 1 (noIdentity .actor) ≡ partAt a b) × (drop 3 (wordsAt s i) ≡ wordsAt s e)
+  pub claim-words : (i a b x y e : ℕ) → at.At a b x y e ≡ claimAt (claimNext 2 s i)
+      → (getD (wordsAt s i) 1 (noIdentity .actor) ≡ partAt a b) × (drop 3 (wordsAt s i) ≡ wordsAt s e)
   claim-words i a b x y e n = go (claimNext 2 s i) (claim-next 2 i) n
     where
-      go : (r : ClaimRead) → Claimed i r → at.At a b x y e ≡ claimAt r → (getD (wordsAt s i) 1 (noIdentity .actor) ≡ partAt a b) × (drop 3 (wordsAt s i) ≡ wordsAt s e)
+      go : (r : ClaimRead) → Claimed i r → at.At a b x y e ≡ claimAt r
+          → (getD (wordsAt s i) 1 (noIdentity .actor) ≡ partAt a b) × (drop 3 (wordsAt s i) ≡ wordsAt s e)
       go (claim.Claim a′ b′ x′ y′ e′) h n =
           let ea : a′ ≡ a = cc in
           let eb : b′ ≡ b = cc in
@@ -209,7 +216,8 @@ module _ (s : Bytes) where
       go claim.None h n = let z : _≡_ {A = ℕ} 0 1 = cc in absurd (omega arith)
 
   -- the first two words of a line: request, and the category's name
-  pub form-words : (i a b p q : ℕ) → end.At i ≡ formOpens s → piece.At a b ≡ wordNext 3 true s i → piece.At p q ≡ namePlaces (nameNext 3 false s b) → drop 2 (wordsFrom false 0 s) ≡ wordsAt s q
+  pub form-words : (i a b p q : ℕ) → end.At i ≡ formOpens s → piece.At a b ≡ wordNext 3 true s i → piece.At p q ≡ namePlaces (nameNext 3 false s b)
+      → drop 2 (wordsFrom false 0 s) ≡ wordsAt s q
   form-words i a b p q o w n =
       let h : wordsAt s 0 ≡ wordsAt s i = subst (EndNext 0) (sym o) form-next in
       let k : wordsAt s i ≡ partAt a b ∷ wordsAt s b = subst (WordNext i) (sym w) (word-next 3 true i) in

@@ -52,11 +52,13 @@ module _ (b : Book) (r : Rules) (s : Bytes) (k : Request → Outcome Request) wh
   unfolding requestStep formOf formStep stepThen
   line-broken e = rw e
 
-  pub line-faulty : (x : RequestLine) (n : ℕ) → andThen (lineItems s) requestLine ≡ just x → requestFault b r x ≡ pick (eqb n 0) nothing (just n) → n ≢ 0 → stepThen (requestStep b r (ended s)) 4 1 k ≡ refusal n 4 1
+  pub line-faulty : (x : RequestLine) (n : ℕ) → andThen (lineItems s) requestLine ≡ just x → requestFault b r x ≡ pick (eqb n 0) nothing (just n) → n ≢ 0
+      → stepThen (requestStep b r (ended s)) 4 1 k ≡ refusal n 4 1
   unfolding requestStep formOf formStep faultOr stepThen
   line-faulty x n e f h = rw (e, f, ne-eqb n 0 h)
 
-  pub line-known : (x : RequestLine) → andThen (lineItems s) requestLine ≡ just x → requestFault b r x ≡ nothing → stepThen (requestStep b r (ended s)) 4 1 k ≡ k (requestOf b x)
+  pub line-known : (x : RequestLine) → andThen (lineItems s) requestLine ≡ just x → requestFault b r x ≡ nothing
+      → stepThen (requestStep b r (ended s)) 4 1 k ≡ k (requestOf b x)
   unfolding requestStep formOf formStep faultOr stepThen
   line-known x e f = rw (e, f)
 
@@ -70,10 +72,13 @@ unfolding partOf
 fed-part s = take-append-seam s (10 ∷ [])
 
 -- a line without a fault is accepted
-pub accepts-line : (b : Book) (r : Rules) (nodes : ℕ) (rules : Bytes) (table : List ℕ) (categories : ℕ) (s : Bytes) (p q k : ℕ) (xs : List Claim) (given : Identities)
-    → andThen (lineItems s) requestLine ≡ just (lineOf s p q xs) → requestFault b r (lineOf s p q xs) ≡ nothing → nameOf rules table names k ≡ partOf s p (q - p) → k < categories
+pub accepts-line : (b : Book) (r : Rules) (nodes : ℕ) (rules : Bytes) (table : List ℕ) (categories : ℕ) (s : Bytes) (p q k : ℕ) (xs : List Claim)
+    (given : Identities)
+    → andThen (lineItems s) requestLine ≡ just (lineOf s p q xs) → requestFault b r (lineOf s p q xs) ≡ nothing
+    → nameOf rules table names k ≡ partOf s p (q - p) → k < categories
     → ClaimsStored b nodes s q xs given → drop 2 (wordsFrom false 0 s) ≡ wordsAt s q
-    → Accepts nodes rules table categories (fed s) (stepThen (requestStep b r (ended s)) 4 1 accepted) (record { verdict = verdict.Accepted; category = k; identities = given .list; count = given .count })
+    → Accepts nodes rules table categories (fed s) (stepThen (requestStep b r (ended s)) 4 1 accepted)
+    (record { verdict = verdict.Accepted; category = k; identities = given .list; count = given .count })
 unfolding requestOf identityPlaces
 accepts-line b r nodes rules table categories s p q k xs given e f n l h w = record {
   request = requestOf b (lineOf s p q xs);
@@ -88,7 +93,8 @@ accepts-line b r nodes rules table categories s p q k xs given e f n l h w = rec
 }
 
 -- a last line without a line feed
-line-open : (b : Book) (r : Rules) (s : Bytes) (k : Request → Outcome Request) → stepThen (requestStep b r (record { bytes = s; ended = false })) 4 1 k ≡ refusal 3 4 1
+line-open : (b : Book) (r : Rules) (s : Bytes) (k : Request → Outcome Request)
+    → stepThen (requestStep b r (record { bytes = s; ended = false })) 4 1 k ≡ refusal 3 4 1
 unfolding requestStep formOf formStep stepThen andThen
 line-open b r s k = refl
 
@@ -160,21 +166,26 @@ module _ (x : Step Request) (k : Request → Outcome Request) where
 module _ (nodes : ℕ) (rules : Bytes) (table : List ℕ) (categories : ℕ) (text : Bytes) where
   pub reads-refused : (o : Outcome Request) (n l : ℕ) (r : RequestRead) → r ≡ refusedRead n l → o ≡ refusal n 4 l → Reads nodes rules table categories text o r
   unfolding refusal refusalOf
-  reads-refused o n l r e h = subst (λ (x : RequestRead). Reads nodes rules table categories text o x) (sym e) (record { is = h; category = refl; identities = refl; count = refl })
+  reads-refused o n l r e h = subst (λ (x : RequestRead). Reads nodes rules table categories text o x) (sym e)
+      (record { is = h; category = refl; identities = refl; count = refl })
 
-  pub reads-as : (o o′ : Outcome Request) (r : RequestRead) → o′ ≡ o → Reads nodes rules table categories text o r → Reads nodes rules table categories text o′ r
+  pub reads-as : (o o′ : Outcome Request) (r : RequestRead) → o′ ≡ o → Reads nodes rules table categories text o r
+      → Reads nodes rules table categories text o′ r
   reads-as o o′ r e h = subst (λ (x : Outcome Request). Reads nodes rules table categories text x r) (sym e) h
 
   -- the same text
-  pub reads-in : (request : Bytes) (o : Outcome Request) (r : RequestRead) → text ≡ request → Reads nodes rules table categories text o r → Reads nodes rules table categories request o r
+  pub reads-in : (request : Bytes) (o : Outcome Request) (r : RequestRead) → text ≡ request → Reads nodes rules table categories text o r
+      → Reads nodes rules table categories request o r
   reads-in request o r e h = subst (λ (t : Bytes). Reads nodes rules table categories t o r) e h
 
   module _ (x : Step Request) (r : RequestRead) (h : Reads nodes rules table categories text (stepThen x 4 1 accepted) r) where
     -- a refusal of the line is that of the request
-    pub still-refused : (request : Bytes) (k : Request → Outcome Request) (y : RefusalData) → r .verdict ≡ verdict.Refused y → Reads nodes rules table categories request (stepThen x 4 1 k) r
+    pub still-refused : (request : Bytes) (k : Request → Outcome Request) (y : RefusalData) → r .verdict ≡ verdict.Refused y
+        → Reads nodes rules table categories request (stepThen x 4 1 k) r
     still-refused request k y e =
         let f = subst (ByVerdict nodes rules table categories text (stepThen x 4 1 accepted) r) e h in
-        let g : Refuses (stepThen x 4 1 k) r y = record { is = step-refused x k y (f .is); category = f .category; identities = f .identities; count = f .count } in
+        let g : Refuses (stepThen x 4 1 k) r y =
+        record { is = step-refused x k y (f .is); category = f .category; identities = f .identities; count = f .count } in
         subst (ByVerdict nodes rules table categories request (stepThen x 4 1 k) r) (sym e) g
 
     its-request : r .verdict ≡ verdict.Accepted → Accepts nodes rules table categories text (stepThen x 4 1 accepted) r
@@ -188,7 +199,8 @@ module _ (nodes : ℕ) (rules : Bytes) (table : List ℕ) (categories : ℕ) (te
 module _ (b : Book) (r : Rules) (text : Bytes) (x : BytesRead) (e : x ≡ bytesOf 2048 text) where
   request-by-bytes : readRequest b r text ≡ onBytes x 4 (λ l. l) (oneLine b r (linesOf text))
   unfolding readRequest
-  request-by-bytes = bytes-first 4 2048 (λ l. l) text (oneLine b r (linesOf text)) ∙ ap (λ (y : BytesRead). onBytes y 4 (λ l. l) (oneLine b r (linesOf text))) (sym e)
+  request-by-bytes = bytes-first 4 2048 (λ l. l) text (oneLine b r (linesOf text))
+      ∙ ap (λ (y : BytesRead). onBytes y 4 (λ l. l) (oneLine b r (linesOf text))) (sym e)
 
   pub too-long : x ≡ TooLong → readRequest b r text ≡ refusal 1 4 0
   unfolding onBytes

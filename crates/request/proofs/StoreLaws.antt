@@ -36,18 +36,21 @@ placed-length words [] = refl
 placed-length words (i ∷ is) = ap suc (placed-length (drop 3 words) is)
 
 -- the first of identities is placed by its own words
-placed-first : (words behind : List Part) (actor : Part) (n : ℕ) (i : Identity) (is : List Identity) → getD words 1 (noIdentity .actor) ≡ actor → n ≡ i .node → drop 3 words ≡ behind
+placed-first : (words behind : List Part) (actor : Part) (n : ℕ) (i : Identity) (is : List Identity) → getD words 1 (noIdentity .actor) ≡ actor
+    → n ≡ i .node → drop 3 words ≡ behind
     → record { actor = actor; node = n } ∷ placedBy behind is ≡ placedBy words (i ∷ is)
 unfolding placedBy
 placed-first words behind actor n i is e f g = λ t. record { actor = sym e t; node = f t } ∷ placedBy (sym g t) is
 
 -- the slots of an array whose first ones are known, the others holding none
-slots-filled : (list given : List IdentityData) (count : ℕ) → take count list ≡ given → drop count list ≡ replicate (8 - count) noIdentity → count ≡ length given → list ≡ slots given
+slots-filled : (list given : List IdentityData) (count : ℕ) → take count list ≡ given → drop count list ≡ replicate (8 - count) noIdentity
+    → count ≡ length given → list ≡ slots given
 unfolding slots
 slots-filled list given count e f g = sym (take-append-drop count list) ∙ (λ t. e t ++ f t) ∙ ap (λ (n : ℕ). given ++ replicate (8 - n) noIdentity) g
 
 -- one slot less is left
-one-less : (list : List IdentityData) (count : ℕ) (x : IdentityData) → count < 8 → drop count list ≡ replicate (8 - count) noIdentity → drop (count + 1) (set list count x) ≡ replicate (8 - (count + 1)) noIdentity
+one-less : (list : List IdentityData) (count : ℕ) (x : IdentityData) → count < 8 → drop count list ≡ replicate (8 - count) noIdentity
+    → drop (count + 1) (set list count x) ≡ replicate (8 - (count + 1)) noIdentity
 one-less list count x l e =
     let z : 8 - count ≡ suc (8 - (count + 1)) = omega arith in
     drop-set-lt (count + 1) list count x (omega arith) ∙ sym (drop-drop 1 count list) ∙ ap (drop 1) (e ∙ ap (λ (n : ℕ). replicate n noIdentity) z)
@@ -95,7 +98,8 @@ module _ (b : Book) (nodes : ℕ) (s : Bytes) (from : ℕ) (list : List Identity
     pub has-room : count < 8
     has-room = omega (arith, next-few, h .counted)
 
-    first-known : (c : Claim) (ys : List Claim) → all (λ c. mem (c .node) (nodeNames b)) (c ∷ ys) ≡ true → (mem (c .node) (nodeNames b) ≡ true) × (all (λ c. mem (c .node) (nodeNames b)) ys ≡ true)
+    first-known : (c : Claim) (ys : List Claim) → all (λ c. mem (c .node) (nodeNames b)) (c ∷ ys) ≡ true
+        → (mem (c .node) (nodeNames b) ≡ true) × (all (λ c. mem (c .node) (nodeNames b)) ys ≡ true)
     unfolding all
     first-known c ys k = go (mem (c .node) (nodeNames b)) k
       where
@@ -111,11 +115,16 @@ module _ (b : Book) (nodes : ℕ) (s : Bytes) (from : ℕ) (list : List Identity
       unfolding identityIn nameAt
       named text l =
           let o : 0 + a ≡ a = omega arith in
-          let m : partOf text a (z - a) ≡ partOf s a (z - a) = ap (λ (v : ℕ). partOf text v (z - a)) (sym o) ∙ sym (part-in-part text 0 (length s) a (z - a) (omega (arith, p .actor .some, p .actor .inside))) ∙ ap (λ (t : Bytes). partOf t a (z - a)) l in
+          let m : partOf text a (z - a) ≡ partOf s a (z - a) = ap (λ (v : ℕ). partOf text v (z - a)) (sym o)
+          ∙ sym (part-in-part text 0 (length s) a (z - a) (omega (arith, p .actor .some, p .actor .inside))) ∙ ap (λ (t : Bytes). partOf t a (z - a)) l in
           λ t. record { actor = m t; node = is-node t }
 
       node-below : length (nodeNames b) ≡ nodes → node < nodes
-      node-below l = omega (arith, ltb-true (place (partOf s x (y - x)) (nodeNames b)) (length (nodeNames b)) (sym (mem-place (partOf s x (y - x)) (nodeNames b)) ∙ both-known .0))
+      node-below l = omega (
+        arith,
+        ltb-true (place (partOf s x (y - x)) (nodeNames b)) (length (nodeNames b))
+            (sym (mem-place (partOf s x (y - x)) (nodeNames b)) ∙ both-known .0),
+      )
 
       -- it is placed by its own words
       next-placed : identityOn a z node ∷ placedBy (wordsAt s e) (map (numbered b) (next .0)) ≡ placedBy (wordsAt s i) (map (numbered b) (h .rest))
@@ -128,8 +137,10 @@ module _ (b : Book) (nodes : ℕ) (s : Bytes) (from : ℕ) (list : List Identity
       storing-next : length (nodeNames b) ≡ nodes → Storing b nodes s from (set list count (identityOn a z node)) (count + 1) e
       storing-next l =
           let r : count < length list = omega (arith, has-room, h .size) in
-          let longer : take (count + 1) (set list count (identityOn a z node)) ≡ take count list ++ (identityOn a z node ∷ []) = rw add-one (take-suc-set list count (identityOn a z node) r) in
-          let moved : h .done ++ h .rest ≡ (h .done ++ (claimOn s a z x y ∷ [])) ++ next .0 = ap (λ (t : List Claim). h .done ++ t) (next .2) ∙ sym (append-assoc (h .done) (claimOn s a z x y ∷ []) (next .0)) in
+          let longer : take (count + 1) (set list count (identityOn a z node)) ≡ take count list ++ (identityOn a z node ∷ []) = rw add-one
+          (take-suc-set list count (identityOn a z node) r) in
+          let moved : h .done ++ h .rest ≡ (h .done ++ (claimOn s a z x y ∷ [])) ++ next .0 = ap (λ (t : List Claim). h .done ++ t) (next .2)
+          ∙ sym (append-assoc (h .done) (claimOn s a z x y ∷ []) (next .0)) in
           record {
             done = h .done ++ (claimOn s a z x y ∷ []);
             rest = next .0;
@@ -164,14 +175,16 @@ module _ (b : Book) (nodes : ℕ) (s : Bytes) (from : ℕ) (list : List Identity
   none-left e = sym (append-nil (take count list)) ∙ ap (λ (t : List Claim). take count list ++ placedBy (wordsAt s i) (map (numbered b) t)) (sym e)
 
   -- all are stored
-  pub stored : at.None ≡ claimAt (claimNext 2 s i) → (xs : List Claim) → claimsFrom s from ≡ just xs → ClaimsStored b nodes s from xs (record { list = list; count = count })
+  pub stored : at.None ≡ claimAt (claimNext 2 s i) → (xs : List Claim) → claimsFrom s from ≡ just xs
+      → ClaimsStored b nodes s from xs (record { list = list; count = count })
   stored n xs d =
       let w : just (h .done ++ h .rest) ≡ just xs = sym (h .whole) ∙ d in
       let v : h .done ++ h .rest ≡ xs = cc in
       let none : h .rest ≡ [] = claims-done s i (h .rest) n (h .left) in
       let u : h .done ≡ xs = sym (append-nil (h .done)) ∙ ap (λ (t : List Claim). h .done ++ t) (sym none) ∙ v in
       let full : count ≡ length xs = h .counted ∙ ap length u in
-      let front : take count list ≡ placedBy (wordsAt s from) (map (numbered b) xs) = none-left none ∙ h .places ∙ ap (λ (t : List Claim). placedBy (wordsAt s from) (map (numbered b) t)) v in
+      let front : take count list ≡ placedBy (wordsAt s from) (map (numbered b) xs) = none-left none ∙ h .places
+      ∙ ap (λ (t : List Claim). placedBy (wordsAt s from) (map (numbered b) t)) v in
       record {
         few = omega (arith, h .few, h .counted, length-append (h .done) (h .rest));
         is = λ text l. h .is text l ∙ ap (map (numbered b)) u;

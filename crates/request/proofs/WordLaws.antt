@@ -38,7 +38,8 @@ behind-run at (b ∷ t) = go (isWordByte b) refl (behind-run (at + 1) t)
 
 -- a run of word bytes is a word
 pub words-run : (at : ℕ) (t : Bytes) → 0 < length (run isWordByte t)
-    → wordsFrom false at t ≡ record { start = at; length = length (run isWordByte t) } ∷ wordsFrom false (at + length (run isWordByte t)) (drop (length (run isWordByte t)) t)
+    → wordsFrom false at t ≡ record { start = at; length = length (run isWordByte t) } ∷ wordsFrom false (at + length (run isWordByte t))
+    (drop (length (run isWordByte t)) t)
 unfolding wordsFrom run
 words-run at [] h = absurd (omega arith)
 words-run at (b ∷ t) h = go (isWordByte b) refl h
@@ -47,7 +48,8 @@ words-run at (b ∷ t) h = go (isWordByte b) refl h
     n = length (run isWordByte t)
 
     go : (x : Bool) → isWordByte b ≡ x → 0 < length (pick x (b ∷ run isWordByte t) [])
-        → wordsFrom false at (b ∷ t) ≡ record { start = at; length = length (run isWordByte (b ∷ t)) } ∷ wordsFrom false (at + length (run isWordByte (b ∷ t))) (drop (length (run isWordByte (b ∷ t))) (b ∷ t))
+        → wordsFrom false at (b ∷ t) ≡ record { start = at; length = length (run isWordByte (b ∷ t)) } ∷ wordsFrom false
+        (at + length (run isWordByte (b ∷ t))) (drop (length (run isWordByte (b ∷ t))) (b ∷ t))
     go true e h =
         let z : at + 1 + n ≡ at + suc n = omega arith in
         rw e (ap (λ (l : List Part). record { start = at; length = suc n } ∷ l) (behind-run (at + 1) t ∙ ap (λ (m : ℕ). wordsFrom false m (drop n t)) z))
@@ -107,7 +109,9 @@ unfolding plainAt
 plain-run [] = tt
 plain-run (b ∷ s) = go (isLetter b) refl
   where
-    go : (x : Bool) → isLetter b ≡ x → IsRun (b ∷ s) (pick x (readAs word (wordAt (b ∷ s))) (pick (isDigit b || eqb b 45) (readAs whole (wholeAt (b ∷ s))) (pick (eqb b 39) (readAs text (textAt s)) (pick (eqb b 34) (readAs quoted (quotedAt s)) nothing))))
+    go : (x : Bool) → isLetter b ≡ x → IsRun (b ∷ s)
+        (pick x (readAs word (wordAt (b ∷ s))) (pick (isDigit b || eqb b 45) (readAs whole (wholeAt (b ∷ s)))
+        (pick (eqb b 39) (readAs text (textAt s)) (pick (eqb b 34) (readAs quoted (quotedAt s)) nothing))))
     go true e = word-run (b ∷ s) (letter-run b s e)
     go false e =
         run-or (b ∷ s) (isDigit b || eqb b 45) (readAs whole (wholeAt (b ∷ s))) _ (other-run (b ∷ s) whole (wholeAt (b ∷ s)) (λ a n. tt))
@@ -124,7 +128,8 @@ unfolding itemAt
 item-run zero t = run-or t (opens t) nothing (plainAt t) tt (plain-run t)
 item-run (suc d) t = run-or t (opens t) _ (plainAt t) (list-run t (listAt (itemAt d) true 0 (drop 1 t))) (plain-run t)
 
-pub read-run : (t : Bytes) (p q : ℕ) (o : Maybe (Got Item)) → IsRun t o → readOf p o ≡ Word q → (q ≡ p + length (run isWordByte t)) × (0 < length (run isWordByte t))
+pub read-run : (t : Bytes) (p q : ℕ) (o : Maybe (Got Item)) → IsRun t o → readOf p o ≡ Word q
+    → (q ≡ p + length (run isWordByte t)) × (0 < length (run isWordByte t))
 unfolding readOf kindAt
 read-run t p q nothing h e = let z : _≡_ {A = ℕ} 0 1 = cc in absurd (omega arith)
 read-run t p q (just g) h e = go (g .got) h e
@@ -146,7 +151,8 @@ words-on : (inside : Bool) (at : ℕ) (t : Bytes) → wordsFrom inside at (t ++ 
 unfolding wordsFrom isWordByte isLetter isDigit between
 words-on inside at [] = refl
 words-on inside at (b ∷ t) =
-    λ i. pick (isWordByte b && not inside) (record { start = at; length = length (run-fed (b ∷ t) i) } ∷ words-on (isWordByte b) (at + 1) t i) (words-on (isWordByte b) (at + 1) t i)
+    λ i. pick (isWordByte b && not inside) (record { start = at; length = length (run-fed (b ∷ t) i) } ∷ words-on (isWordByte b) (at + 1) t i)
+    (words-on (isWordByte b) (at + 1) t i)
 
 pub words-fed : (s : Bytes) → wordsFrom false 0 (s ++ (10 ∷ [])) ≡ wordsFrom false 0 s
 words-fed s = words-on false 0 s

@@ -42,7 +42,12 @@ pub record Refuses (o : Outcome Request) (r : RequestRead) (x : Refusal) : Type 
 
 -- such an answer
 abbrev pub refusedRead : ℕ → ℕ → RequestRead
-refusedRead number line = record { verdict = verdict.Refused (record { number = number; text = 4; line = line }); category = 0; identities = noIdentities; count = 0 }
+refusedRead number line = record {
+  verdict = verdict.Refused (record { number = number; text = 4; line = line });
+  category = 0;
+  identities = noIdentities;
+  count = 0;
+}
 
 -- one of the two, by the verdict
 abbrev pub ByVerdict : ℕ → Bytes → List ℕ → ℕ → Bytes → Outcome Request → RequestRead → Verdict → Type 0

@@ -56,7 +56,8 @@ fn has_unknown(
 ) -> bool
     requires { ⌜ Fits (now book) (now words) counts × RulesFit (now rules) (now table) sizes × (k < sizes .categories) ⌝ }
     ensures { λ r. ⌜ ((xs : List Claim) → claimsFrom (now (s .entry)) from ≡ just xs
-        → r ≡ any (isUnknown (actorsAt (now (rules .entry)) (now (table .entry)) k) (nodeNames (bookAt (now (book .entry)) (now (words .entry)) counts))) xs) ⌝ }
+        → r ≡ any (isUnknown (actorsAt (now (rules .entry)) (now (table .entry)) k) (nodeNames (bookAt (now (book .entry)) (now (words .entry)) counts)))
+        xs) ⌝ }
 {
     let mut i = from;
     while i < s.len() {

@@ -61,13 +61,18 @@ module _ (text : Bytes) (words : List ℕ) (c : RulesCounts) (n : Bytes) (actors
       let t4 = t .0 in
       let t5 = t .1 .0 in
       let t7 = t .1 .1 .0 in
-      let small : c .categories < 16 = either (below-or-not (c .categories) 16) (λ l. l) (λ l. absurd (t7 (or-l (leb 16 (c .categories)) (ltb 8 (length actors)) (le→leb 16 (c .categories) l)))) in
-      let known : (w : Bytes) → w ∈ over → w ∈ namesAt text words names (c .categories) = λ w m. mem-e w (namesAt text words names (c .categories)) (all-e (λ v. mem v (namesAt text words names (c .categories))) over (not-e (all (λ v. mem v (namesAt text words names (c .categories))) over) t4) w m) in
+      let small : c .categories < 16 = either (below-or-not (c .categories) 16) (λ l. l)
+      (λ l. absurd (t7 (or-l (leb 16 (c .categories)) (ltb 8 (length actors)) (le→leb 16 (c .categories) l)))) in
+      let known : (w : Bytes) → w ∈ over → w ∈ namesAt text words names (c .categories) = λ w m. mem-e w (namesAt text words names (c .categories))
+      (all-e (λ v. mem v (namesAt text words names (c .categories))) over (not-e (all (λ v. mem v (namesAt text words names (c .categories))) over) t4)
+      w m) in
       let once : T (twice over) → ⊥ = λ u. t5 (or-r (there || twice actors) (twice over) u) in
       record {
         few = small;
-        few-actors = either (below-or-not 8 (length actors)) (λ l. absurd (t7 (or-r (leb 16 (c .categories)) (ltb 8 (length actors)) (lt→ltb 8 (length actors) l)))) (λ l. l);
-        few-over = let l = fewer-names over (namesAt text words names (c .categories)) once known in omega (arith, length-names text words names (c .categories));
+        few-actors = either (below-or-not 8 (length actors))
+            (λ l. absurd (t7 (or-r (leb 16 (c .categories)) (ltb 8 (length actors)) (lt→ltb 8 (length actors) l)))) (λ l. l);
+        few-over = let l = fewer-names over (namesAt text words names (c .categories)) once known in
+            omega (arith, length-names text words names (c .categories));
         declared = known;
         actors-once = λ u. t5 (or-l (there || twice actors) (twice over) (or-r there (twice actors) u));
         over-once = once;
@@ -146,15 +151,18 @@ module _ (words : List ℕ) (k name actors over lower : ℕ) (room : 512 ≤ len
 
   lower-there : wordAt after (lowerAt k) ≡ lower
   unfolding withCategory
-  lower-there = getD-set-same (set (set (set words (names + k) name) (actorCountAt k) actors) (overCountAt k) over) (lowerAt k) lower 0 (simp length-set (omega arith))
+  lower-there = getD-set-same (set (set (set words (names + k) name) (actorCountAt k) actors) (overCountAt k) over) (lowerAt k) lower 0
+      (simp length-set (omega arith))
 
 -- the words after a category's line
-module _ (text : Bytes) (words words1 words2 : List ℕ) (c : RulesCounts) (s : Bytes) (base p q : ℕ) (xs ys : List Bytes) (f : Fits text words c) (line : LineAt text base s) (h : WordPlaces s 0 p q)
+module _ (text : Bytes) (words words1 words2 : List ℕ) (c : RulesCounts) (s : Bytes) (base p q : ℕ) (xs ys : List Bytes) (f : Fits text words c)
+    (line : LineAt text base s) (h : WordPlaces s 0 p q)
     (clear : Clear text words c (between s p q) xs ys)
     (st1 : NamesStored words words1 (actorsFrom (c .categories)) s base xs)
     (st2 : NamesStored words1 words2 (overFrom (c .categories)) s base ys) where
   agree2 : Agree c words words2
-  agree2 = agree-trans c words words1 words2 (stored-agrees words words1 c 3 s base xs (clear .few) (omega (arith, clear .few-actors)) st1) (stored-agrees words1 words2 c 11 s base ys (clear .few) (omega (arith, clear .few-over)) st2)
+  agree2 = agree-trans c words words1 words2 (stored-agrees words words1 c 3 s base xs (clear .few) (omega (arith, clear .few-actors)) st1)
+      (stored-agrees words1 words2 c 11 s base ys (clear .few) (omega (arith, clear .few-over)) st2)
 
   fits2 : Fits text words2 c
   fits2 = fits-kept text words words2 c agree2 f
@@ -167,7 +175,8 @@ module _ (text : Bytes) (words words1 words2 : List ℕ) (c : RulesCounts) (s : 
 
   over-name : (i : ℕ) → i < length ys → getD ys i [] ≡ nameOf text words2 (overFrom (c .categories)) i
   unfolding namesAt
-  over-name i l = ap (λ (v : List Bytes). getD v i []) (sym (st2 .are text line)) ∙ getD-listed (nameOf text words2 (overFrom (c .categories))) (length ys) i [] l
+  over-name i l = ap (λ (v : List Bytes). getD v i []) (sym (st2 .are text line))
+      ∙ getD-listed (nameOf text words2 (overFrom (c .categories))) (length ys) i [] l
 
   over-earlier : (i : ℕ) → i < length ys → rank text words2 (c .categories) (nameOf text words2 (overFrom (c .categories)) i) < c .categories
   over-earlier i l =
@@ -186,7 +195,8 @@ module _ (text : Bytes) (words words1 words2 : List ℕ) (c : RulesCounts) (s : 
     earlier = over-earlier;
   }
 
-  module _ (lower : ℕ) (low : (m : ℕ) → bit lower m ≡ (eqb m (c .categories) || belowSome text words2 (c .categories) m (namesAt text words2 (overFrom (c .categories)) (length ys)))) where
+  module _ (lower : ℕ) (low : (m : ℕ) → bit lower m
+      ≡ (eqb m (c .categories) || belowSome text words2 (c .categories) m (namesAt text words2 (overFrom (c .categories)) (length ys)))) where
     abbrev words3 : List ℕ
     words3 = withCategory words2 (c .categories) ((base + p) * 32 + (q - p)) (length xs) (length ys) lower
 
@@ -217,23 +227,34 @@ module _ (text : Bytes) (words words1 words2 : List ℕ) (c : RulesCounts) (s : 
     ranks-kept : (w : Bytes) → rank text words3 (c .categories) w ≡ rank text words2 (c .categories) w
     ranks-kept w = ap (place w) (names-kept text words2 words3 names (c .categories) (agree3 .named))
 
-    below-same : (m : ℕ) → belowSome text words3 (c .categories) m (namesAt text words3 (overFrom (c .categories)) (length ys)) ≡ belowSome text words2 (c .categories) m (namesAt text words2 (overFrom (c .categories)) (length ys))
+    below-same : (m : ℕ) → belowSome text words3 (c .categories) m (namesAt text words3 (overFrom (c .categories)) (length ys))
+        ≡ belowSome text words2 (c .categories) m (namesAt text words2 (overFrom (c .categories)) (length ys))
     unfolding namesAt
     below-same m =
         ap (belowSome text words3 (c .categories) m) (names-kept text words2 words3 (overFrom (c .categories)) (length ys) over-words)
-        ∙ any-same (λ o. bit (lowerSet words3 (rank text words3 (c .categories) o)) m) (λ o. bit (lowerSet words2 (rank text words2 (c .categories) o)) m) (nameOf text words2 (overFrom (c .categories))) (length ys)
-        (λ i l. rw (ranks-kept (nameOf text words2 (overFrom (c .categories)) i)) (ap (λ (w : ℕ). bit w m) (lower-kept text words2 words3 c agree3 (rank text words2 (c .categories) (nameOf text words2 (overFrom (c .categories)) i)) (over-earlier i l))))
+        ∙ any-same (λ o. bit (lowerSet words3 (rank text words3 (c .categories) o)) m) (λ o. bit (lowerSet words2 (rank text words2 (c .categories) o)) m)
+        (nameOf text words2 (overFrom (c .categories))) (length ys)
+        (λ i l. rw (ranks-kept (nameOf text words2 (overFrom (c .categories)) i))
+        (ap (λ (w : ℕ). bit w m) (lower-kept text words2 words3 c agree3
+        (rank text words2 (c .categories) (nameOf text words2 (overFrom (c .categories)) i)) (over-earlier i l))))
 
     slot-fits : CategoryFits text words3 (c .categories)
     unfolding overAt
     slot-fits = record {
       few-actors = rw actors-count (clear .few-actors);
       few-over = rw over-count (clear .few-over);
-      actors = rw actors-count (fit-once text words3 (actorsFrom (c .categories)) xs actors-are (clear .actors-once) (λ j l. rw (actor-words j l) (st1 .inside text line j l)));
-      over = rw over-count (fit-once text words3 (overFrom (c .categories)) ys over-are (clear .over-once) (λ j l. rw (over-words j l) (st2 .inside text line j l)));
+      actors = rw actors-count (fit-once text words3 (actorsFrom (c .categories)) xs actors-are (clear .actors-once)
+          (λ j l. rw (actor-words j l) (st1 .inside text line j l)));
+      over = rw over-count (fit-once text words3 (overFrom (c .categories)) ys over-are (clear .over-once)
+          (λ j l. rw (over-words j l) (st2 .inside text line j l)));
       earlier = λ i l. let l′ : i < length ys = rw over-count at l in
-          rw (name-kept text words2 words3 (overFrom (c .categories)) (length ys) over-words i l′, ranks-kept (nameOf text words2 (overFrom (c .categories)) i)) (over-earlier i l′);
-      lower = λ m. ap (λ (w : ℕ). bit w m) (lower-there words2 (c .categories) ((base + p) * 32 + (q - p)) (length xs) (length ys) lower (fits2 .room) (clear .few))
+          rw (
+            name-kept text words2 words3 (overFrom (c .categories)) (length ys) over-words i l′,
+            ranks-kept
+                (nameOf text words2 (overFrom (c .categories)) i),
+          ) (over-earlier i l′);
+      lower = λ m. ap (λ (w : ℕ). bit w m) (lower-there words2 (c .categories) ((base + p) * 32 + (q - p)) (length xs) (length ys) lower (fits2 .room)
+          (clear .few))
           ∙ low m ∙ rw over-count (ap (λ (b : Bool). eqb m (c .categories) || b) (sym (below-same m)));
     }
 
@@ -250,12 +271,17 @@ module _ (text : Bytes) (words words1 words2 : List ℕ) (c : RulesCounts) (s : 
         let a = agree-trans c words words2 words3 agree2 agree3 in
         let r = category-added text words words3 c (rulesAt text words c) (record { fits = f; is = refl }) a (clear .few)
         (rw name-word (inside-of-line text base s 0 p q line h)) (rw (name-is, category-names text words c) (clear .new)) slot-fits in
-        subst (λ (v : List Bytes). Holds text words3 (moreCategories c) (addRule (rulesAt text words c) (category (between s p q) xs v))) (ap (namesAt text words3 (overFrom (c .categories))) over-count ∙ over-are)
-        (subst (λ (v : List Bytes). Holds text words3 (moreCategories c) (addRule (rulesAt text words c) (category (between s p q) v (overAt text words3 (c .categories))))) (ap (namesAt text words3 (actorsFrom (c .categories))) actors-count ∙ actors-are)
-        (subst (λ (v : Bytes). Holds text words3 (moreCategories c) (addRule (rulesAt text words c) (category v (actorsAt text words3 (c .categories)) (overAt text words3 (c .categories))))) name-is r))
+        subst (λ (v : List Bytes). Holds text words3 (moreCategories c) (addRule (rulesAt text words c) (category (between s p q) xs v)))
+        (ap (namesAt text words3 (overFrom (c .categories))) over-count ∙ over-are)
+        (subst (λ (v : List Bytes). Holds text words3 (moreCategories c)
+        (addRule (rulesAt text words c) (category (between s p q) v (overAt text words3 (c .categories)))))
+        (ap (namesAt text words3 (actorsFrom (c .categories))) actors-count ∙ actors-are)
+        (subst (λ (v : Bytes). Holds text words3 (moreCategories c)
+        (addRule (rulesAt text words c) (category v (actorsAt text words3 (c .categories)) (overAt text words3 (c .categories))))) name-is r))
 
     -- the same, by what the stores answer
-    pub category-done : (words′ : List ℕ) (n m : ℕ) → n ≡ length xs → m ≡ length ys → words′ ≡ withCategory words2 (c .categories) ((base + p) * 32 + (q - p)) n m lower
+    pub category-done : (words′ : List ℕ) (n m : ℕ) → n ≡ length xs → m ≡ length ys
+        → words′ ≡ withCategory words2 (c .categories) ((base + p) * 32 + (q - p)) n m lower
         → Holds text words′ (moreCategories c) (addRule (rulesAt text words c) (category (between s p q) xs ys))
     category-done words′ n m ea eo e = subst (λ (w : List ℕ). Holds text w (moreCategories c) (addRule (rulesAt text words c) (category (between s p q) xs ys)))
         (ap (λ (v : ℕ). withCategory words2 (c .categories) ((base + p) * 32 + (q - p)) (length xs) v lower) (sym eo)
@@ -266,7 +292,9 @@ module _ (text : Bytes) (words : List ℕ) (c : RulesCounts) (s : Bytes) (base p
   pub clear-of : Clear text words c (between s p q) (g .actors .names) (g .over .names)
   clear-of = clear-facts text words c (between s p q) (g .actors .names) (g .over .names) (g .clear emptyBook)
 
-  pub added-of : (words′ : List ℕ) → Holds text words′ (moreCategories c) (addRule (rulesAt text words c) (category (between s p q) (g .actors .names) (g .over .names))) → CategoryAdded text words words′ c s p q a o (moreCategories c)
+  pub added-of : (words′ : List ℕ) → Holds text words′ (moreCategories c)
+      (addRule (rulesAt text words c) (category (between s p q) (g .actors .names) (g .over .names)))
+      → CategoryAdded text words words′ c s p q a o (moreCategories c)
   added-of words′ holds = record {
     fits = holds .fits;
     is = λ x y ex ey.

@@ -34,12 +34,15 @@ use Rattle.rules.specs.declared.RulesForm.{RulesForm}
 module _ (head s : Bytes) (i : ℕ) where
   pub list-none : end.None ≡ headedAt head s i → (free : Bool) (k : List Bytes → List Item → Maybe RulesLine) → afterList head s free i k ≡ nothing
   unfolding onPlace
-  list-none e free k = headed-names head s k free i ∙ ap (λ (o : End). onPlace o (λ a. andThen (namesBehind s a) (λ x. formAt true (x .end) s (k (x .names))))) (sym e)
+  list-none e free k = headed-names head s k free i
+      ∙ ap (λ (o : End). onPlace o (λ a. andThen (namesBehind s a) (λ x. formAt true (x .end) s (k (x .names))))) (sym e)
 
   module _ {a : ℕ} (h : end.At a ≡ headedAt head s i) where
-    list-names : (free : Bool) (k : List Bytes → List Item → Maybe RulesLine) → afterList head s free i k ≡ andThen (namesBehind s a) (λ x. formAt true (x .end) s (k (x .names)))
+    list-names : (free : Bool) (k : List Bytes → List Item → Maybe RulesLine)
+        → afterList head s free i k ≡ andThen (namesBehind s a) (λ x. formAt true (x .end) s (k (x .names)))
     unfolding onPlace
-    list-names free k = headed-names head s k free i ∙ ap (λ (o : End). onPlace o (λ a. andThen (namesBehind s a) (λ x. formAt true (x .end) s (k (x .names))))) (sym h)
+    list-names free k = headed-names head s k free i
+        ∙ ap (λ (o : End). onPlace o (λ a. andThen (namesBehind s a) (λ x. formAt true (x .end) s (k (x .names))))) (sym h)
 
     pub list-broken : end.None ≡ namesEnd (namesBehind s a) → (free : Bool) (k : List Bytes → List Item → Maybe RulesLine) → afterList head s free i k ≡ nothing
     unfolding namesEnd andThen
@@ -60,7 +63,8 @@ module _ (head s : Bytes) (i : ℕ) where
             record {
               read = x;
               is = q;
-              line = λ free k. list-names free k ∙ ap (λ (o : Maybe NamesRead). andThen o (λ x. formAt true (x .end) s (k (x .names)))) q ∙ ap (λ (v : ℕ). formAt true v s (k (x .names))) f;
+              line = λ free k. list-names free k ∙ ap (λ (o : Maybe NamesRead). andThen o (λ x. formAt true (x .end) s (k (x .names)))) q
+                  ∙ ap (λ (v : ℕ). formAt true v s (k (x .names))) f;
             }
 
 -- a name that begins what follows
@@ -96,20 +100,25 @@ module _ (s : Bytes) (i : ℕ) where
   category-unnamed e = no-name s i _ e
 
   module _ {p q : ℕ} (n : piece.At p q ≡ namePlaces (nameNext 3 false s i)) where
-    pub category-no-actors : ((free : Bool) (k : List Bytes → List Item → Maybe RulesLine) → afterList (bytesOf "actors") s free q k ≡ nothing) → formAt false i s categoryLine ≡ nothing
+    pub category-no-actors : ((free : Bool) (k : List Bytes → List Item → Maybe RulesLine) → afterList (bytesOf "actors") s free q k ≡ nothing)
+        → formAt false i s categoryLine ≡ nothing
     unfolding categoryLine
     category-no-actors h = a-name s i _ p q n ∙ h false _
 
     module _ {a e : ℕ} (x : ListRead (bytesOf "actors") s q a e) where
-      pub category-no-over : ((free : Bool) (k : List Bytes → List Item → Maybe RulesLine) → afterList (bytesOf "over") s free e k ≡ nothing) → formAt false i s categoryLine ≡ nothing
+      pub category-no-over : ((free : Bool) (k : List Bytes → List Item → Maybe RulesLine) → afterList (bytesOf "over") s free e k ≡ nothing)
+          → formAt false i s categoryLine ≡ nothing
       unfolding categoryLine
       category-no-over h = a-name s i _ p q n ∙ x .line false _ ∙ h true _
 
-      pub category-line : {o f : ℕ} (y : ListRead (bytesOf "over") s e o f) → formAt false i s categoryLine ≡ pick (formCloses s f) (just (category (between s p q) (x .read .names) (y .read .names))) nothing
+      pub category-line : {o f : ℕ} (y : ListRead (bytesOf "over") s e o f)
+          → formAt false i s categoryLine ≡ pick (formCloses s f) (just (category (between s p q) (x .read .names) (y .read .names))) nothing
       unfolding categoryLine
-      category-line {o} {f} y = a-name s i _ p q n ∙ x .line false _ ∙ y .line true _ ∙ form-end true f s (category (between s p q) (x .read .names) (y .read .names))
+      category-line {o} {f} y = a-name s i _ p q n ∙ x .line false _ ∙ y .line true _
+          ∙ form-end true f s (category (between s p q) (x .read .names) (y .read .names))
 
-      pub category-read : {o f : ℕ} (y : ListRead (bytesOf "over") s e o f) → WordPlaces s i p q → formCloses s f ≡ true → CategoryRead s (formAt false i s categoryLine) p q a o
+      pub category-read : {o f : ℕ} (y : ListRead (bytesOf "over") s e o f) → WordPlaces s i p q → formCloses s f ≡ true
+          → CategoryRead s (formAt false i s categoryLine) p q a o
       category-read {o} {f} y h t = record {
         places = record { after = omega arith; some = h .some; inside = h .inside; short = h .short };
         actors = x .read;
@@ -123,9 +132,11 @@ module _ (s : Bytes) (i : ℕ) where
       category-open y t = category-line y ∙ ap (λ (b : Bool). pick b (just (category (between s p q) (x .read .names) (y .read .names))) nothing) t
 
 -- what is made of a form that ends
-form-on : {A B : Type 0} (free : Bool) (i : ℕ) (s : Bytes) (f : List Item → Maybe A) (h : A → Maybe B) → formAt free i s (λ is. andThen (f is) h) ≡ andThen (formAt free i s f) h
+form-on : {A B : Type 0} (free : Bool) (i : ℕ) (s : Bytes) (f : List Item → Maybe A) (h : A → Maybe B)
+    → formAt free i s (λ is. andThen (f is) h) ≡ andThen (formAt free i s f) h
 unfolding formAt andThen
-form-on {A} {B} free i s f h = rest-same 3 free i s _ _ (λ e is. go (spacesFrom s e) (f is)) ∙ rest-on 3 free i s (λ e is. pick (spacesFrom s e) (f is) nothing) h
+form-on {A} {B} free i s f h = rest-same 3 free i s _ _ (λ e is. go (spacesFrom s e) (f is))
+    ∙ rest-on 3 free i s (λ e is. pick (spacesFrom s e) (f is) nothing) h
   where
     go : (b : Bool) (o : Maybe A) → pick b (andThen o h) nothing ≡ andThen (pick b o nothing) h
     go true o = refl
@@ -149,7 +160,8 @@ module _ (s : Bytes) (i : ℕ) where
         ∙ form-quoted false q s (λ t is. andThen (atEnd is t) made)
         ∙ ap (λ (r : Piece). onPiece r (λ p q. formAt false (q + 1) s (λ is. andThen (atEnd is (partOf s p (q - p))) made))) (sym e)
 
-    pub policy-line : {t u : ℕ} → piece.At t u ≡ quotedNext 3 false s q → formAt false i s policyLine ≡ pick (formCloses s (u + 1)) (made (between s t u)) nothing
+    pub policy-line : {t u : ℕ} → piece.At t u ≡ quotedNext 3 false s q
+        → formAt false i s policyLine ≡ pick (formCloses s (u + 1)) (made (between s t u)) nothing
     unfolding policyLine onPiece andThen
     policy-line {t} {u} e =
         a-name s i _ p q n
@@ -179,7 +191,8 @@ module _ (s : Bytes) (i : ℕ) where
 pub list-at : (head s : Bytes) (i : ℕ) {a e : ℕ} (r : Piece) → r ≡ piece.At a e → NamesList head s i r → ListRead head s i a e
 list-at head s i r e h = subst (NamesList head s i) e h
 
-pub list-not : (head s : Bytes) (i : ℕ) (r : Piece) → r ≡ piece.None → NamesList head s i r → (free : Bool) (k : List Bytes → List Item → Maybe RulesLine) → afterList head s free i k ≡ nothing
+pub list-not : (head s : Bytes) (i : ℕ) (r : Piece) → r ≡ piece.None → NamesList head s i r → (free : Bool) (k : List Bytes → List Item → Maybe RulesLine)
+    → afterList head s free i k ≡ nothing
 list-not head s i r e h = subst (NamesList head s i) e h
 
 pub quoted-at : (s : Bytes) {t u : ℕ} (r : Piece) → r ≡ piece.At t u → QuotedPlaced s r → QuotedPlaces s t u
@@ -213,19 +226,22 @@ module _ (s : Bytes) where
 
       pub of-category : same (between s p q) (bytesOf "category") ≡ true → andThen (lineItems s) rulesLine ≡ formAt false q s categoryLine
       unfolding byWord
-      of-category h = worded ∙ ap (λ (b : Bool). formAt false q s (λ is. pick b (categoryLine is) (pick (same (between s p q) (bytesOf "policy")) (policyLine is) nothing))) h
+      of-category h = worded ∙ ap (λ (b : Bool). formAt false q s
+          (λ is. pick b (categoryLine is) (pick (same (between s p q) (bytesOf "policy")) (policyLine is) nothing))) h
 
       module _ (h : same (between s p q) (bytesOf "category") ≡ false) where
         not-category : andThen (lineItems s) rulesLine ≡ formAt false q s (λ is. pick (same (between s p q) (bytesOf "policy")) (policyLine is) nothing)
         unfolding byWord
-        not-category = worded ∙ ap (λ (b : Bool). formAt false q s (λ is. pick b (categoryLine is) (pick (same (between s p q) (bytesOf "policy")) (policyLine is) nothing))) h
+        not-category = worded ∙ ap (λ (b : Bool). formAt false q s
+            (λ is. pick b (categoryLine is) (pick (same (between s p q) (bytesOf "policy")) (policyLine is) nothing))) h
 
         pub of-policy : same (between s p q) (bytesOf "policy") ≡ true → andThen (lineItems s) rulesLine ≡ formAt false q s policyLine
         of-policy k = not-category ∙ ap (λ (b : Bool). formAt false q s (λ is. pick b (policyLine is) nothing)) k
 
         pub of-neither : same (between s p q) (bytesOf "policy") ≡ false → andThen (lineItems s) rulesLine ≡ nothing
         unfolding formAt
-        of-neither k = not-category ∙ ap (λ (b : Bool). formAt false q s (λ is. pick b (policyLine is) nothing)) k ∙ (rest-same 3 false q s _ _ (λ e is. never (spacesFrom s e)) ∙ rest-nothing 3 false q s)
+        of-neither k = not-category ∙ ap (λ (b : Bool). formAt false q s (λ is. pick b (policyLine is) nothing)) k
+            ∙ (rest-same 3 false q s _ _ (λ e is. never (spacesFrom s e)) ∙ rest-nothing 3 false q s)
           where
             never : (b : Bool) → pick {A = Maybe RulesLine} b nothing nothing ≡ nothing
             never true = refl

@@ -80,16 +80,19 @@ unfolding rulesStep lineAt formOf formStep andThen
 line-open text from to b r h = rw (le-ltb to (length text) h)
 
 -- a line that ends in a line feed goes by its form
-pub line-closed : (text : Bytes) (from to : ℕ) (b : Book) (r : Rules) → to < length text → rulesStep b r (lineAt text from to) ≡ stepOf b r (andThen (lineItems (partOf text from (to - from))) rulesLine)
+pub line-closed : (text : Bytes) (from to : ℕ) (b : Book) (r : Rules) → to < length text
+    → rulesStep b r (lineAt text from to) ≡ stepOf b r (andThen (lineItems (partOf text from (to - from))) rulesLine)
 unfolding rulesStep lineAt formOf stepOf
 line-closed text from to b r h = rw (lt-ltb to (length text) h)
 
 -- what its form asks
-pub line-asked : (book : Bytes) (words : List ℕ) (counts : BookCounts) (text : Bytes) (rules : List ℕ) (c : RulesCounts) (from to : ℕ) → LineAsked book words counts text rules c from to
+pub line-asked : (book : Bytes) (words : List ℕ) (counts : BookCounts) (text : Bytes) (rules : List ℕ) (c : RulesCounts) (from to : ℕ)
+    → LineAsked book words counts text rules c from to
     → FormAsked book words counts text rules c (take (to - from) (drop from text)) from
 unfolding partOf
 line-asked book words counts text rules c from to a =
-    let n : length (take (to - from) (drop from text)) ≡ to - from = length-take-le (to - from) (drop from text) (omega (arith, length-drop from text, a .inside)) in
+    let n : length (take (to - from) (drop from text)) ≡ to - from = length-take-le (to - from) (drop from text)
+    (omega (arith, length-drop from text, a .inside)) in
     record {
       book-fits = a .book-fits;
       fits = a .fits;
@@ -101,7 +104,8 @@ line-asked book words counts text rules c from to a =
 pub step-refuses : (text : Bytes) (words : List ℕ) (s : Step Rules) (r : RulesStep) (n : ℕ) → r ≡ Fault n → Stepped text words r s → s ≡ fault n
 step-refuses text words s r n e h = subst (λ (x : RulesStep). Stepped text words x s) e h
 
-pub step-adds : (text : Bytes) (words : List ℕ) (s : Step Rules) (r : RulesStep) (c : RulesCounts) → r ≡ Known c → Stepped text words r s → (s ≡ known (rulesAt text words c)) × Fits text words c
+pub step-adds : (text : Bytes) (words : List ℕ) (s : Step Rules) (r : RulesStep) (c : RulesCounts) → r ≡ Known c → Stepped text words r s
+    → (s ≡ known (rulesAt text words c)) × Fits text words c
 step-adds text words s r c e h = subst (λ (x : RulesStep). Stepped text words x s) e h
 
 -- the lines so far
@@ -115,10 +119,12 @@ module _ (b : Book) (text : Bytes) (before words : List ℕ) (at line : ℕ) (c 
   reading-done l = ap (λ (o : Outcome Rules). onAccept o covered) (sym (h .is) ∙ lines-over text at 2 (rulesStep b) line (rulesAt text words c) l)
 
   -- one line more
-  module _ (to : ℕ) (e : to ≡ past isInLine text at) (l : at < length text) (words′ : List ℕ) (s : RulesStep) (d : Stepped text words′ s (rulesStep b (rulesAt text words c) (lineAt text at to))) where
+  module _ (to : ℕ) (e : to ≡ past isInLine text at) (l : at < length text) (words′ : List ℕ) (s : RulesStep)
+      (d : Stepped text words′ s (rulesStep b (rulesAt text words c) (lineAt text at to))) where
     pub reading-fault : (n : ℕ) → s ≡ Fault n → of-lines ≡ refusal n 2 line
     unfolding onAccept refusal
-    reading-fault n q = ap (λ (o : Outcome Rules). onAccept o covered) (sym (h .is) ∙ lines-fault text at to e l 2 (rulesStep b) line (rulesAt text words c) n (step-refuses text words′ _ s n q d))
+    reading-fault n q = ap (λ (o : Outcome Rules). onAccept o covered)
+        (sym (h .is) ∙ lines-fault text at to e l 2 (rulesStep b) line (rulesAt text words c) n (step-refuses text words′ _ s n q d))
 
     pub reading-on : (c′ : RulesCounts) → s ≡ Known c′ → length words′ ≡ length words → Reading b text before words′ (to + 1) (line + 1) c′
     reading-on c′ q z =

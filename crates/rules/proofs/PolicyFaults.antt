@@ -58,16 +58,19 @@ combine false false false false false false false true = refl
 combine false false false false false false false false = refl
 
 -- the line's number, by the three tests of its own and the fault of its text
-pub policy-number : (b : Book) (r : Rules) (n t : Bytes) → lineNumber b r (policyOn n t) ≡ combined (not (mem n (categoryNames r))) (hasPolicy r n) (ltb 2048 (length t)) (textFault b t)
+pub policy-number : (b : Book) (r : Rules) (n t : Bytes)
+    → lineNumber b r (policyOn n t) ≡ combined (not (mem n (categoryNames r))) (hasPolicy r n) (ltb 2048 (length t)) (textFault b t)
 unfolding textFault treeFault lineNumber andThen rulesFault queryFault combined
 policy-number b r n t = go (queryText t)
   where
-    go : (o : Maybe QueryText) → lineNumber b r (andThen o (λ (tree : QueryText). just (policy n (length t) tree))) ≡ combined (not (mem n (categoryNames r))) (hasPolicy r n) (ltb 2048 (length t)) (treeFault b o)
+    go : (o : Maybe QueryText) → lineNumber b r (andThen o (λ (tree : QueryText). just (policy n (length t) tree)))
+        ≡ combined (not (mem n (categoryNames r))) (hasPolicy r n) (ltb 2048 (length t)) (treeFault b o)
     go nothing = three (not (mem n (categoryNames r))) (hasPolicy r n) (ltb 2048 (length t))
       where
         three : (a b c : Bool) → 3 ≡ combined a b c 3
         three a b c = refl
-    go (just q) = combine (hasUndeclared b q) (hasTwice q) (hasMistyped b q) (tooMany q) (hasFromItself q) (not (mem n (categoryNames r))) (hasPolicy r n) (ltb 2048 (length t))
+    go (just q) = combine (hasUndeclared b q) (hasTwice q) (hasMistyped b q) (tooMany q) (hasFromItself q) (not (mem n (categoryNames r))) (hasPolicy r n)
+        (ltb 2048 (length t))
 
 -- its own tests by the number that was found for its category
 module _ (text : Bytes) (words : List ℕ) (c : RulesCounts) (f : Fits text words c) (n : Bytes) where
@@ -77,13 +80,15 @@ module _ (text : Bytes) (words : List ℕ) (c : RulesCounts) (f : Fits text word
   unknown-alone x y long fault = refl
 
   pub policy-by-number : (m : ℕ) → m ≡ place n (namesAt text words names (c .categories)) → (long : Bool) (fault : ℕ)
-      → combined (leb (c .categories) m) (hasOne words c m) long fault ≡ combined (not (mem n (categoryNames (rulesAt text words c)))) (hasPolicy (rulesAt text words c) n) long fault
+      → combined (leb (c .categories) m) (hasOne words c m) long fault
+      ≡ combined (not (mem n (categoryNames (rulesAt text words c)))) (hasPolicy (rulesAt text words c) n) long fault
   policy-by-number m e long fault = rw (category-names text words c) (either (below-or-not m (c .categories))
       (λ l. let l′ : place n (namesAt text words names (c .categories)) < c .categories = omega arith in
       let d : nameOf text words names m ≡ n = ap (nameOf text words names) e ∙ place-named text words names (c .categories) n l′ in
       rw (lt-leb (c .categories) m l, place-mem text words names (c .categories) n l′)
       (ap (λ (b : Bool). combined false b long fault) (sym (has-policy text words c f m l) ∙ ap (hasPolicy (rulesAt text words c)) d)))
-      (λ l. rw (le-leb (c .categories) m l, place-out text words names (c .categories) n (omega arith)) (unknown-alone (hasOne words c m) (hasPolicy (rulesAt text words c) n) long fault)))
+      (λ l. rw (le-leb (c .categories) m l, place-out text words names (c .categories) n (omega arith))
+      (unknown-alone (hasOne words c m) (hasPolicy (rulesAt text words c) n) long fault)))
 
 -- the answer by what was found
 pub policy-answer : (text : Bytes) (words : List ℕ) (c : RulesCounts) → Fits text words c → (s : Bytes) (p q t u m : ℕ) (x : Bool) (r fault : ℕ)
@@ -95,6 +100,8 @@ policy-answer text words c f s p q t u m x r fault tu us em ex er b ef =
     er
     ∙ ap (λ (y : Bool). combined (leb (c .categories) m) y (ltb 2048 (u - t)) fault) ex
     ∙ policy-by-number text words c f (between s p q) m em (ltb 2048 (u - t)) fault
-    ∙ ap (λ (k : ℕ). combined (not (mem (between s p q) (categoryNames (rulesAt text words c)))) (hasPolicy (rulesAt text words c) (between s p q)) (ltb 2048 k) fault) (sym size)
-    ∙ ap (combined (not (mem (between s p q) (categoryNames (rulesAt text words c)))) (hasPolicy (rulesAt text words c) (between s p q)) (ltb 2048 (length (between s t u)))) ef
+    ∙ ap (λ (k : ℕ). combined (not (mem (between s p q) (categoryNames (rulesAt text words c)))) (hasPolicy (rulesAt text words c) (between s p q))
+    (ltb 2048 k) fault) (sym size)
+    ∙ ap (combined (not (mem (between s p q) (categoryNames (rulesAt text words c)))) (hasPolicy (rulesAt text words c) (between s p q))
+    (ltb 2048 (length (between s t u)))) ef
     ∙ sym (policy-number b (rulesAt text words c) (between s p q) (between s t u))

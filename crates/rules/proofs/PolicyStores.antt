@@ -42,15 +42,18 @@ clear-tests : (unknown second long : Bool) (f : ℕ) → combined unknown second
 unfolding combined
 clear-tests unknown second long f e = go (eqb f 3) unknown (eqb f 4) second refl e
   where
-    go : (a b d h : Bool) → eqb f 3 ≡ a → pick a 3 (pick b 4 (pick d 4 (pick h 5 (pick (eqb f 5) 5 (pick (eqb f 6) 6 (pick long 7 f)))))) ≡ 0 → (b ≡ false) × (h ≡ false) × (f ≡ 3 → ⊥)
+    go : (a b d h : Bool) → eqb f 3 ≡ a → pick a 3 (pick b 4 (pick d 4 (pick h 5 (pick (eqb f 5) 5 (pick (eqb f 6) 6 (pick long 7 f)))))) ≡ 0
+        → (b ≡ false) × (h ≡ false) × (f ≡ 3 → ⊥)
     go true b d h q e = absurd (omega arith)
     go false true d h q e = absurd (omega arith)
     go false false true h q e = absurd (omega arith)
     go false false false true q e = absurd (omega arith)
     go false false false false q e = (refl, refl, λ z. let y = eq-eqb f 3 z in let w : _≡_ {A = ℕ} 0 1 = cc in omega arith)
 
-module _ (text : Bytes) (words : List ℕ) (c : RulesCounts) (s : Bytes) (base p q t u : ℕ) (g : PolicyClear text words c s base p q t u) (m : ℕ) (em : m ≡ place (between s p q) (namesAt text words names (c .categories))) where
-  tests : (not (mem (between s p q) (categoryNames (rulesAt text words c))) ≡ false) × (hasPolicy (rulesAt text words c) (between s p q) ≡ false) × (textFault (g .book) (between s t u) ≡ 3 → ⊥)
+module _ (text : Bytes) (words : List ℕ) (c : RulesCounts) (s : Bytes) (base p q t u : ℕ) (g : PolicyClear text words c s base p q t u) (m : ℕ)
+    (em : m ≡ place (between s p q) (namesAt text words names (c .categories))) where
+  tests : (not (mem (between s p q) (categoryNames (rulesAt text words c))) ≡ false) × (hasPolicy (rulesAt text words c) (between s p q) ≡ false)
+      × (textFault (g .book) (between s t u) ≡ 3 → ⊥)
   tests = clear-tests _ _ _ _ (sym (policy-number (g .book) (rulesAt text words c) (between s p q) (between s t u)) ∙ g .clear)
 
   pub is-declared : m < c .categories
@@ -58,7 +61,8 @@ module _ (text : Bytes) (words : List ℕ) (c : RulesCounts) (s : Bytes) (base p
       let y = not-false _ (tests .0) in
       let x = ap (mem (between s p q)) (sym (category-names text words c)) ∙ y in
       let d = mem-place (between s p q) (namesAt text words names (c .categories)) in
-      let o = le-ltb (place (between s p q) (namesAt text words names (c .categories))) (length (namesAt text words names (c .categories))) (omega (arith, length-names text words names (c .categories))) in
+      let o = le-ltb (place (between s p q) (namesAt text words names (c .categories))) (length (namesAt text words names (c .categories)))
+      (omega (arith, length-names text words names (c .categories))) in
       let z : _≡_ {A = ℕ} 0 1 = cc in omega arith))
 
   named-so : nameOf text words names m ≡ between s p q
@@ -75,7 +79,8 @@ module _ (text : Bytes) (words : List ℕ) (c : RulesCounts) (s : Bytes) (base p
   none-yet : (i : ℕ) → i < c .policies → policyCategory words i ≡ m → ⊥
   unfolding hasPolicy rulesAt
   none-yet i l e =
-      let y = scan-found (λ (x : Policy). same (x .category) (nameOf text words names m)) (policyOf text words) (c .policies) i l (policy-of text words c (g .fits) m is-declared i l ∙ eq-eqb (policyCategory words i) m e) in
+      let y = scan-found (λ (x : Policy). same (x .category) (nameOf text words names m)) (policyOf text words) (c .policies) i l
+      (policy-of text words c (g .fits) m is-declared i l ∙ eq-eqb (policyCategory words i) m e) in
       let n = ap (hasPolicy (rulesAt text words c)) named-so ∙ tests .1 in
       let z : _≡_ {A = ℕ} 0 1 = cc in omega arith
 
@@ -93,7 +98,8 @@ module _ (text : Bytes) (words : List ℕ) (c : RulesCounts) (s : Bytes) (base p
       before i e = rw (ne-eqb i (c .policies) e)
 
       below : (i : ℕ) → i < c .policies + 1 → number i < c .categories
-      below i l = either (equal-or-not i (c .policies)) (λ e. rw (last i e) is-declared) (λ e. rw (before i (e .1)) (g .fits .policies i (omega arith) .counted))
+      below i l = either (equal-or-not i (c .policies)) (λ e. rw (last i e) is-declared)
+          (λ e. rw (before i (e .1)) (g .fits .policies i (omega arith) .counted))
 
       differ : (i j : ℕ) → i < c .policies + 1 → j < c .policies + 1 → number i ≡ number j → i ≡ j
       differ i j l h e = either (equal-or-not i (c .policies))
@@ -118,12 +124,14 @@ module _ (text : Bytes) (words : List ℕ) (c : RulesCounts) (s : Bytes) (base p
       let f1 : Free c (policyAt (c .policies) + 1) = omega arith in
       let f2 : Free c (policyAt (c .policies) + 2) = omega arith in
       agree-trans c words w1 (set w2 (policyAt (c .policies) + 2) (u - t)) (set-agrees c words (policyAt (c .policies)) m f0)
-      (agree-trans c w1 w2 (set w2 (policyAt (c .policies) + 2) (u - t)) (set-agrees c w1 (policyAt (c .policies) + 1) (base + t) f1) (set-agrees c w2 (policyAt (c .policies) + 2) (u - t) f2))
+      (agree-trans c w1 w2 (set w2 (policyAt (c .policies) + 2) (u - t)) (set-agrees c w1 (policyAt (c .policies) + 1) (base + t) f1)
+      (set-agrees c w2 (policyAt (c .policies) + 2) (u - t) f2))
 
   number-there : policyCategory after (c .policies) ≡ m
   unfolding withPolicy
   number-there =
-      getD-set-other w2 (policyAt (c .policies) + 2) (policyAt (c .policies)) (u - t) 0 (omega arith) ∙ getD-set-other w1 (policyAt (c .policies) + 1) (policyAt (c .policies)) (base + t) 0 (omega arith)
+      getD-set-other w2 (policyAt (c .policies) + 2) (policyAt (c .policies)) (u - t) 0 (omega arith)
+      ∙ getD-set-other w1 (policyAt (c .policies) + 1) (policyAt (c .policies)) (base + t) 0 (omega arith)
       ∙ getD-set-same words (policyAt (c .policies)) m 0 (omega (arith, policy-room, g .fits .room))
 
   start-there : wordAt after (policyAt (c .policies) + 1) ≡ base + t
@@ -156,9 +164,11 @@ module _ (text : Bytes) (words : List ℕ) (c : RulesCounts) (s : Bytes) (base p
 
   pub policy-stored : PolicyAdded text words after c s p q t u (morePolicies c)
   policy-stored =
-      let holds = policy-added text words after c (rulesAt text words c) (record { fits = g .fits; is = refl }) agrees m (length (between s t u)) number-there fits-there (rw name-there (tests .1)) in
+      let holds = policy-added text words after c (rulesAt text words c) (record { fits = g .fits; is = refl }) agrees m
+      (length (between s t u)) number-there fits-there (rw name-there (tests .1)) in
       record {
         fits = holds .fits;
-        is = λ tree e. holds .is ∙ ap (λ (v : Bytes). addRule (rulesAt text words c) (policy v (length (between s t u)) (treeOf (policyText text after (c .policies))))) name-there
+        is = λ tree e. holds .is ∙ ap (λ (v : Bytes). addRule (rulesAt text words c)
+            (policy v (length (between s t u)) (treeOf (policyText text after (c .policies))))) name-there
             ∙ ap (λ (v : QueryText). addRule (rulesAt text words c) (policy (between s p q) (length (between s t u)) v)) (tree-there tree e);
       }

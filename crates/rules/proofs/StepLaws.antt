@@ -25,7 +25,8 @@ use Rattle.rules.specs.Policies.{lineNumber, policyOn}
 use Rattle.rules.specs.Steps.{stepOf}
 
 -- a table of a policy's faults whose number is 0 has none
-none : (u v w x y : Bool) → numberOr (lowest ((4 if u) ∷ (5 if v) ∷ (6 if w) ∷ (7 if x) ∷ (8 if y) ∷ [])) ≡ 0 → lowest ((4 if u) ∷ (5 if v) ∷ (6 if w) ∷ (7 if x) ∷ (8 if y) ∷ []) ≡ nothing
+none : (u v w x y : Bool) → numberOr (lowest ((4 if u) ∷ (5 if v) ∷ (6 if w) ∷ (7 if x) ∷ (8 if y) ∷ [])) ≡ 0
+    → lowest ((4 if u) ∷ (5 if v) ∷ (6 if w) ∷ (7 if x) ∷ (8 if y) ∷ []) ≡ nothing
 unfolding lowest numberOr
 none true v w x y e = absurd (omega arith)
 none false true w x y e = absurd (omega arith)
@@ -58,17 +59,21 @@ module _ (b : Book) (r : Rules) where
       go (just k) e = ap fault (sym e)
 
   -- a policy's line of number 0 has no fault
-  pub policy-known : (n : Bytes) (size : ℕ) (tree : QueryText) → lineNumber b r (just (policy n size tree)) ≡ 0 → stepOf b r (just (policy n size tree)) ≡ known (addRule r (policy n size tree))
+  pub policy-known : (n : Bytes) (size : ℕ) (tree : QueryText) → lineNumber b r (just (policy n size tree)) ≡ 0
+      → stepOf b r (just (policy n size tree)) ≡ known (addRule r (policy n size tree))
   unfolding lineNumber rulesFault
   policy-known n size tree e =
       step-known (policy n size tree)
-      (none (not (mem n (categoryNames r)) || hasUndeclared b tree) (hasPolicy r n || hasTwice tree) (hasMistyped b tree) (ltb 2048 size || tooMany tree) (hasFromItself tree) e)
+      (none (not (mem n (categoryNames r)) || hasUndeclared b tree) (hasPolicy r n || hasTwice tree) (hasMistyped b tree) (ltb 2048 size || tooMany tree)
+      (hasFromItself tree) e)
 
   -- a policy's line by its text
-  pub text-known : (n t : Bytes) (after : Rules) → lineNumber b r (policyOn n t) ≡ 0 → ((tree : QueryText) → queryText t ≡ just tree → after ≡ addRule r (policy n (length t) tree)) → stepOf b r (policyOn n t) ≡ known after
+  pub text-known : (n t : Bytes) (after : Rules) → lineNumber b r (policyOn n t) ≡ 0
+      → ((tree : QueryText) → queryText t ≡ just tree → after ≡ addRule r (policy n (length t) tree)) → stepOf b r (policyOn n t) ≡ known after
   unfolding andThen lineNumber
   text-known n t after e h = go (queryText t) refl e
     where
-      go : (o : Maybe QueryText) → queryText t ≡ o → lineNumber b r (andThen o (λ (tree : QueryText). just (policy n (length t) tree))) ≡ 0 → stepOf b r (andThen o (λ (tree : QueryText). just (policy n (length t) tree))) ≡ known after
+      go : (o : Maybe QueryText) → queryText t ≡ o → lineNumber b r (andThen o (λ (tree : QueryText). just (policy n (length t) tree))) ≡ 0
+          → stepOf b r (andThen o (λ (tree : QueryText). just (policy n (length t) tree))) ≡ known after
       go nothing q e = absurd (omega arith)
       go (just tree) q e = policy-known n (length t) tree e ∙ ap known (sym (h tree q))

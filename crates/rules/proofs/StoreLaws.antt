@@ -33,13 +33,15 @@ word-start a m l = omega arith
 word-size : (a m : ℕ) → m < 32 → (a * 32 + m) % 32 ≡ m
 word-size a m l = omega arith
 
-pub name-of-line : (text : Bytes) (base : ℕ) (s : Bytes) (i p q : ℕ) → LineAt text base s → WordPlaces s i p q → nameIn text ((base + p) * 32 + (q - p)) ≡ between s p q
+pub name-of-line : (text : Bytes) (base : ℕ) (s : Bytes) (i p q : ℕ) → LineAt text base s → WordPlaces s i p q
+    → nameIn text ((base + p) * 32 + (q - p)) ≡ between s p q
 unfolding nameIn
 name-of-line text base s i p q l h =
     let m : q - p < 32 = omega (arith, h .short) in
     rw (word-start (base + p) (q - p) m, word-size (base + p) (q - p) m) (part-of-line text base s p (q - p) l (omega (arith, h .some, h .inside)))
 
-pub inside-of-line : (text : Bytes) (base : ℕ) (s : Bytes) (i p q : ℕ) → LineAt text base s → WordPlaces s i p q → Inside text (((base + p) * 32 + (q - p)) / 32) (((base + p) * 32 + (q - p)) % 32)
+pub inside-of-line : (text : Bytes) (base : ℕ) (s : Bytes) (i p q : ℕ) → LineAt text base s → WordPlaces s i p q
+    → Inside text (((base + p) * 32 + (q - p)) / 32) (((base + p) * 32 + (q - p)) % 32)
 inside-of-line text base s i p q l h =
     let m : q - p < 32 = omega (arith, h .short) in
     rw (word-start (base + p) (q - p) m, word-size (base + p) (q - p) m) (omega (arith, l .inside, h .some, h .inside))
@@ -55,33 +57,35 @@ stored-none words at s base = record {
 }
 
 module _ (words words′ : List ℕ) (at : ℕ) (s : Bytes) (base : ℕ) where
-  module _ (done : List Bytes) (st : NamesStored words words′ at s base done) (i p q : ℕ) (h : WordPlaces s i p q) (room : at + length done < length words) where
-    abbrev word : ℕ
-    word = (base + p) * 32 + (q - p)
+  module _ (done : List Bytes) (st : NamesStored words words′ at s base done) (i p q : ℕ) (h : WordPlaces s i p q) (room : at + length done < length words)
+    where
+      abbrev word : ℕ
+      word = (base + p) * 32 + (q - p)
 
-    abbrev more : List ℕ
-    more = set words′ (at + length done) word
+      abbrev more : List ℕ
+      more = set words′ (at + length done) word
 
-    one-longer : length (done ++ (between s p q ∷ [])) ≡ length done + 1
-    one-longer = length-append done (between s p q ∷ [])
+      one-longer : length (done ++ (between s p q ∷ [])) ≡ length done + 1
+      one-longer = length-append done (between s p q ∷ [])
 
-    kept : (j : ℕ) → j < length done → wordAt more (at + j) ≡ wordAt words′ (at + j)
-    kept j l = getD-set-other words′ (at + length done) (at + j) word 0 (omega arith)
+      kept : (j : ℕ) → j < length done → wordAt more (at + j) ≡ wordAt words′ (at + j)
+      kept j l = getD-set-other words′ (at + length done) (at + j) word 0 (omega arith)
 
-    new : wordAt more (at + length done) ≡ word
-    new = getD-set-same words′ (at + length done) word 0 (omega (arith, st .size))
+      new : wordAt more (at + length done) ≡ word
+      new = getD-set-same words′ (at + length done) word 0 (omega (arith, st .size))
 
-    stored-more : NamesStored words more at s base (done ++ (between s p q ∷ []))
-    unfolding nameOf
-    stored-more = record {
-      size = length-set words′ (at + length done) word ∙ st .size;
-      below = λ z l. getD-set-other words′ (at + length done) z word 0 (omega arith) ∙ st .below z l;
-      above = λ z l. getD-set-other words′ (at + length done) z word 0 (omega (arith, one-longer)) ∙ st .above z (omega (arith, one-longer));
-      are = λ text l. rw one-longer (names-end text more at (length done) ∙ rw (names-kept text words′ more at (length done) kept, st .are text l, new, name-of-line text base s i p q l h));
-      inside = λ text l j b. either (equal-or-not j (length done))
-          (λ e. rw (e, new) (inside-of-line text base s i p q l h))
-          (λ e. let b′ : j < length done = omega (arith, one-longer, e .1) in rw (kept j b′) (st .inside text l j b′));
-    }
+      stored-more : NamesStored words more at s base (done ++ (between s p q ∷ []))
+      unfolding nameOf
+      stored-more = record {
+        size = length-set words′ (at + length done) word ∙ st .size;
+        below = λ z l. getD-set-other words′ (at + length done) z word 0 (omega arith) ∙ st .below z l;
+        above = λ z l. getD-set-other words′ (at + length done) z word 0 (omega (arith, one-longer)) ∙ st .above z (omega (arith, one-longer));
+        are = λ text l. rw one-longer (names-end text more at (length done)
+            ∙ rw (names-kept text words′ more at (length done) kept, st .are text l, new, name-of-line text base s i p q l h));
+        inside = λ text l j b. either (equal-or-not j (length done))
+            (λ e. rw (e, new) (inside-of-line text base s i p q l h))
+            (λ e. let b′ : j < length done = omega (arith, one-longer, e .1) in rw (kept j b′) (st .inside text l j b′));
+      }
 
   module _ (i n : ℕ) (ns : List Bytes) (g : Storing words words′ at s base i n ns) where
     pub storing-next : {p q : ℕ} → piece.At p q ≡ namePlaces (nameNext 2 false s i) → WordPlaces s i p q → at + length ns ≤ length words
@@ -96,7 +100,8 @@ module _ (words words′ : List ℕ) (at : ℕ) (s : Bytes) (base : ℕ) where
           here = z .1;
           split = g .split ∙ ap (λ (l : List Bytes). g .done ++ l) (z .2) ∙ sym (append-assoc (g .done) (between s p q ∷ []) (z .0 .names));
           count = let c = length-append (g .done) (between s p q ∷ []) in let c′ = g .count in omega (arith, c, c′);
-          stored = subst (λ (v : ℕ). NamesStored words (set words′ (at + v) ((base + p) * 32 + (q - p))) at s base (g .done ++ (between s p q ∷ []))) (sym (g .count))
+          stored = subst (λ (v : ℕ). NamesStored words (set words′ (at + v) ((base + p) * 32 + (q - p))) at s base (g .done ++ (between s p q ∷ [])))
+              (sym (g .count))
               (stored-more (g .done) (g .stored) i p q h (omega (arith, longer, some)));
         }
 

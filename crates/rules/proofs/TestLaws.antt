@@ -71,7 +71,8 @@ pub lacks-by-number : (text : Bytes) (words : List ℕ) (c : RulesCounts) (actor
     → lacksActor (rulesAt text words c) actors over ≡ any (lacksOf text words actors over) (listed (λ k. k) (c .categories))
 unfolding lacksActor rulesAt categoryOf
 lacks-by-number text words c actors over =
-    any-alike (λ (x : Category). mem (x .name) over && not (all (λ w. mem w actors) (x .actors))) (lacksOf text words actors over) (categoryOf text words) (λ k. k) (c .categories) (λ k l. refl)
+    any-alike (λ (x : Category). mem (x .name) over && not (all (λ w. mem w actors) (x .actors))) (lacksOf text words actors over) (categoryOf text words)
+    (λ k. k) (c .categories) (λ k l. refl)
 
 count-categories : (text : Bytes) (words : List ℕ) (c : RulesCounts) → length (rulesAt text words c .categories) ≡ c .categories
 unfolding rulesAt
@@ -91,7 +92,8 @@ module _ (text : Bytes) (words : List ℕ) (c : RulesCounts) (b : Book) (n : Byt
   abbrev pub lackTest : Bool
   lackTest = not (mem (bytesOf "requestor") actors) || lacksActor (rulesAt text words c) actors over
 
-  pub fault-by-tests : rulesFault b (rulesAt text words c) (category n actors over) ≡ lowest ((4 if unknownTest) ∷ (5 if secondTest) ∷ (7 if limitTest) ∷ (9 if lackTest) ∷ [])
+  pub fault-by-tests : rulesFault b (rulesAt text words c) (category n actors over)
+      ≡ lowest ((4 if unknownTest) ∷ (5 if secondTest) ∷ (7 if limitTest) ∷ (9 if lackTest) ∷ [])
   unfolding rulesFault
   fault-by-tests = rw (category-names text words c, count-categories text words c)
 

@@ -24,7 +24,8 @@ abbrev pub noRules : Rules
 noRules = record { categories = []; policies = [] }
 
 -- what the form of a line asks, the line beginning at the place base
-pub record FormAsked (book : Bytes) (words : List ℕ) (counts : BookCounts) (text : Bytes) (rules : List ℕ) (c : RulesCounts) (s : Bytes) (base : ℕ) : Type 0 where
+pub record FormAsked (book : Bytes) (words : List ℕ) (counts : BookCounts) (text : Bytes) (rules : List ℕ) (c : RulesCounts) (s : Bytes)
+    (base : ℕ) : Type 0 where
   pub book-fits : BookFits book words counts
   pub fits : Fits text rules c
   pub short : length text ≤ 16384

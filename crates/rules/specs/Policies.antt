@@ -48,4 +48,5 @@ pub record PolicyClear (text : Bytes) (words : List ℕ) (c : RulesCounts) (s : 
 -- the words then hold the rules with it
 pub record PolicyAdded (text : Bytes) (words words′ : List ℕ) (c : RulesCounts) (s : Bytes) (p q t u : ℕ) (r : RulesCounts) : Type 0 where
   pub fits : Fits text words′ r
-  pub is : (tree : QueryText) → queryText (between s t u) ≡ just tree → rulesAt text words′ r ≡ addRule (rulesAt text words c) (policy (between s p q) (length (between s t u)) tree)
+  pub is : (tree : QueryText) → queryText (between s t u) ≡ just tree
+      → rulesAt text words′ r ≡ addRule (rulesAt text words c) (policy (between s p q) (length (between s t u)) tree)

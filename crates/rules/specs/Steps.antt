@@ -44,7 +44,8 @@ pub record CategoryGiven (text : Bytes) (words : List ℕ) (c : RulesCounts) (s 
 -- what it gives, in every book
 abbrev pub CategoryStepped : Bytes → List ℕ → List ℕ → RulesCounts → Bytes → ℕ → ℕ → ℕ → ℕ → RulesStep → Type 0
 CategoryStepped text words words′ c s p q a o r =
-    (b : Book) (x y : NamesRead) → namesBehind s a ≡ just x → namesBehind s o ≡ just y → Stepped text words′ r (stepOf b (rulesAt text words c) (just (category (between s p q) (x .names) (y .names))))
+    (b : Book) (x y : NamesRead) → namesBehind s a ≡ just x → namesBehind s o ≡ just y
+    → Stepped text words′ r (stepOf b (rulesAt text words c) (just (category (between s p q) (x .names) (y .names))))
 
 -- a policy's line with the fault of its text as a query, in some book
 pub record PolicyGiven (text : Bytes) (words : List ℕ) (c : RulesCounts) (s : Bytes) (base p q t u number : ℕ) : Type 0 where

@@ -60,4 +60,5 @@ pub record CategoryClear (text : Bytes) (words : List ℕ) (c : RulesCounts) (s 
 -- the words then hold the rules with it
 pub record CategoryAdded (text : Bytes) (words words′ : List ℕ) (c : RulesCounts) (s : Bytes) (p q a o : ℕ) (r : RulesCounts) : Type 0 where
   pub fits : Fits text words′ r
-  pub is : (x y : NamesRead) → namesBehind s a ≡ just x → namesBehind s o ≡ just y → rulesAt text words′ r ≡ addRule (rulesAt text words c) (category (between s p q) (x .names) (y .names))
+  pub is : (x y : NamesRead) → namesBehind s a ≡ just x → namesBehind s o ≡ just y
+      → rulesAt text words′ r ≡ addRule (rulesAt text words c) (category (between s p q) (x .names) (y .names))

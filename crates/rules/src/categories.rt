@@ -20,7 +20,8 @@ use rules_tables::stores;
 // Stores the names of a list one after another, the line beginning at the place `base` of the rules' text, and says how many they are.
 fn store_names(words: &mut [u32], at: usize, s: &[u8], from: usize, base: usize) -> usize
     requires { ⌜ NamesRoom (now words) at (now s) from × (base + length (now s) ≤ 16384) ⌝ }
-    ensures { λ r. ⌜ ((x : NamesRead) → namesBehind (now (s .entry)) from ≡ just x → (r ≡ length (x .names)) × NamesStored (now (words .entry)) (now (words .exit)) at (now (s .entry)) base (x .names)) ⌝ }
+    ensures { λ r. ⌜ ((x : NamesRead) → namesBehind (now (s .entry)) from ≡ just x
+        → (r ≡ length (x .names)) × NamesStored (now (words .entry)) (now (words .exit)) at (now (s .entry)) base (x .names)) ⌝ }
 {
     let mut n = 0;
     let mut i = from;

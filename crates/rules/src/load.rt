@@ -92,7 +92,8 @@ fn line_step(
 // Refuses rules in which some category over nothing has no policy.
 fn covered_rules(text: &[u8], rules_words: &[u32], known: RulesCounts) -> RulesLoad
     requires { ⌜ Fits (now text) (now «rules_words») known × (length (now text) ≤ 16384) ⌝ }
-    ensures { λ r. ⌜ ((b : Book) → Loaded b (now (text .entry)) (now («rules_words» .entry)) r (covered (rulesAt (now (text .entry)) (now («rules_words» .entry)) known))) ⌝ }
+    ensures { λ r. ⌜ ((b : Book) → Loaded b (now (text .entry)) (now («rules_words» .entry)) r
+        (covered (rulesAt (now (text .entry)) (now («rules_words» .entry)) known))) ⌝ }
 {
     if rules_tables::policies::is_uncovered(rules_words, known) {
         return RulesLoad::Refused(Refusal {
@@ -148,7 +149,8 @@ pub fn load(
     rules_words: &mut [u32],
 ) -> RulesLoad
     requires { ⌜ BookFits (now book) (now words) counts × (512 ≤ length (now «rules_words»)) ⌝ }
-    ensures { λ r. ⌜ Loaded (bookAt (now (book .entry)) (now (words .entry)) counts) (now (text .entry)) (now («rules_words» .exit)) r (readRules (bookAt (now (book .entry)) (now (words .entry)) counts) (now (text .entry))) ⌝ }
+    ensures { λ r. ⌜ Loaded (bookAt (now (book .entry)) (now (words .entry)) counts) (now (text .entry)) (now («rules_words» .exit)) r
+        (readRules (bookAt (now (book .entry)) (now (words .entry)) counts) (now (text .entry))) ⌝ }
 {
     match text::lines::bytes_read(text, MAX_RULES_BYTES) {
         BytesRead::TooLong => {

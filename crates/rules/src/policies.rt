@@ -71,7 +71,8 @@ pub fn policy_fault(
 ) -> u32
     requires { ⌜ Fits (now text) (now words) counts × WordPlaces (now s) 0 p q × (t ≤ u) × (u ≤ length (now s)) ⌝ }
     ensures { λ r. ⌜ ((b : Book) → fault ≡ textFault b (between (now (s .entry)) t u)
-        → r ≡ lineNumber b (rulesAt (now (text .entry)) (now (words .entry)) counts) (policyOn (between (now (s .entry)) p q) (between (now (s .entry)) t u))) ⌝ }
+        → r ≡ lineNumber b (rulesAt (now (text .entry)) (now (words .entry)) counts)
+        (policyOn (between (now (s .entry)) p q) (between (now (s .entry)) t u))) ⌝ }
 {
     let count = counts.categories;
     let m = book_tables::names::find_name(text, words, CATEGORY_NAMES, count, &s[p..q]);

@@ -38,7 +38,8 @@ use rules_tables::RulesCounts;
 // Whether some name from a place on is that of no category.
 fn is_unknown(text: &[u8], words: &[u32], count: usize, s: &[u8], from: usize) -> bool
     requires { ⌜ NamesFit (now text) (now words) names count × (names + count ≤ length (now words)) ⌝ }
-    ensures { λ r. ⌜ ((x : NamesRead) → namesBehind (now (s .entry)) from ≡ just x → r ≡ not (all (λ c. mem c (namesAt (now (text .entry)) (now (words .entry)) names count)) (x .names))) ⌝ }
+    ensures { λ r. ⌜ ((x : NamesRead) → namesBehind (now (s .entry)) from ≡ just x
+        → r ≡ not (all (λ c. mem c (namesAt (now (text .entry)) (now (words .entry)) names count)) (x .names))) ⌝ }
 {
     let mut i = from;
     while i < s.len() {
@@ -90,7 +91,8 @@ fn is_past_limit(count: usize, s: &[u8], a: usize) -> bool
 // Whether an actor of category k is none of the names from a place on.
 fn lacks_one_of(text: &[u8], words: &[u32], k: usize, s: &[u8], a: usize) -> bool
     requires { ⌜ CategoryFits (now text) (now words) k × (k < 16) × (512 ≤ length (now words)) ⌝ }
-    ensures { λ r. ⌜ ((x : NamesRead) → namesBehind (now (s .entry)) a ≡ just x → r ≡ not (all (λ w. mem w (x .names)) (actorsAt (now (text .entry)) (now (words .entry)) k))) ⌝ }
+    ensures { λ r. ⌜ ((x : NamesRead) → namesBehind (now (s .entry)) a ≡ just x
+        → r ≡ not (all (λ w. mem w (x .names)) (actorsAt (now (text .entry)) (now (words .entry)) k))) ⌝ }
 {
     let count = words[CATEGORIES + CATEGORY_WORDS * k] as usize;
     let mut i = 0;
@@ -112,7 +114,8 @@ fn lacks_one_of(text: &[u8], words: &[u32], k: usize, s: &[u8], a: usize) -> boo
 fn lacks_of_lower(text: &[u8], words: &[u32], k: usize, s: &[u8], a: usize, o: usize) -> bool
     requires { ⌜ CategoryFits (now text) (now words) k × NamesFit (now text) (now words) names (k + 1) × (k < 16) × (512 ≤ length (now words)) ⌝ }
     ensures { λ r. ⌜ ((x y : NamesRead) → namesBehind (now (s .entry)) a ≡ just x → namesBehind (now (s .entry)) o ≡ just y
-        → r ≡ (mem (nameOf (now (text .entry)) (now (words .entry)) names k) (y .names) && not (all (λ w. mem w (x .names)) (actorsAt (now (text .entry)) (now (words .entry)) k)))) ⌝ }
+        → r ≡ (mem (nameOf (now (text .entry)) (now (words .entry)) names k) (y .names)
+        && not (all (λ w. mem w (x .names)) (actorsAt (now (text .entry)) (now (words .entry)) k)))) ⌝ }
 {
     if scans::has_name(
         s,
@@ -180,7 +183,8 @@ pub fn category_fault(
 ) -> u32
     requires { ⌜ Fits (now text) (now words) counts × WordPlaces (now s) 0 p q ⌝ }
     ensures { λ r. ⌜ ((b : Book) (x y : NamesRead) → namesBehind (now (s .entry)) a ≡ just x → namesBehind (now (s .entry)) o ≡ just y
-        → rulesFault b (rulesAt (now (text .entry)) (now (words .entry)) counts) (category (between (now (s .entry)) p q) (x .names) (y .names)) ≡ faultOf r) ⌝ }
+        → rulesFault b (rulesAt (now (text .entry)) (now (words .entry)) counts) (category (between (now (s .entry)) p q) (x .names) (y .names))
+        ≡ faultOf r) ⌝ }
 {
     let count = counts.categories;
     if is_unknown(text, words, count, s, o) {

@@ -38,7 +38,8 @@ module _ (text : Bytes) (words words′ : List ℕ) (c : RulesCounts) (r : Rules
       (inside : Inside text (wordAt words′ (names + c .categories) / 32) (wordAt words′ (names + c .categories) % 32))
       (new : mem (nameOf text words′ names (c .categories)) (categoryNames r) ≡ false)
       (fits : CategoryFits text words′ (c .categories)) where
-    pub category-added : Holds text words′ (moreCategories c) (addRule r (category (nameOf text words′ names (c .categories)) (actorsAt text words′ (c .categories)) (overAt text words′ (c .categories))))
+    pub category-added : Holds text words′ (moreCategories c)
+        (addRule r (category (nameOf text words′ names (c .categories)) (actorsAt text words′ (c .categories)) (overAt text words′ (c .categories))))
     unfolding rulesAt addRule categoryOf
     category-added = record {
       fits = record {
@@ -51,7 +52,8 @@ module _ (text : Bytes) (words words′ : List ℕ) (c : RulesCounts) (r : Rules
         one-each = kept-fits .one-each;
       };
       is = rw (listed-more (categoryOf text words′) (c .categories))
-          (ap (λ (x : Rules). addRule x (category (nameOf text words′ names (c .categories)) (actorsAt text words′ (c .categories)) (overAt text words′ (c .categories)))) kept-rules);
+          (ap (λ (x : Rules). addRule x (category (nameOf text words′ names (c .categories)) (actorsAt text words′ (c .categories))
+          (overAt text words′ (c .categories)))) kept-rules);
     }
 
   -- a policy behind those counted, of category m
@@ -62,7 +64,8 @@ module _ (text : Bytes) (words words′ : List ℕ) (c : RulesCounts) (r : Rules
     not-before : (i : ℕ) → i < c .policies → policyCategory words′ i ≡ m → ⊥
     unfolding hasPolicy rulesAt policyOf
     not-before i l e =
-        let t = scan-found (λ (p : Policy). same (p .category) (nameOf text words′ names m)) (policyOf text words′) (c .policies) i l (equal-same _ _ (ap (nameOf text words′ names) e)) in
+        let t = scan-found (λ (p : Policy). same (p .category) (nameOf text words′ names m)) (policyOf text words′) (c .policies) i l
+        (equal-same _ _ (ap (nameOf text words′ names) e)) in
         let s = ap (λ (x : Rules). hasPolicy x (nameOf text words′ names m)) kept-rules ∙ new in
         let z : _≡_ {A = ℕ} 0 1 = cc in omega arith
 

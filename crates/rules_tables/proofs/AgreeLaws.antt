@@ -87,7 +87,8 @@ module _ (text : Bytes) (words words′ : List ℕ) (c : RulesCounts) (a : Agree
     unfolding overAt namesAt
     below-kept k l m =
         ap (belowSome text words′ k m) (over-kept k l (f k l))
-        ∙ any-same (λ o. bit (lowerSet words′ (rank text words′ k o)) m) (λ o. bit (lowerSet words (rank text words k o)) m) (nameOf text words (overFrom k)) (wordAt words (overCountAt k))
+        ∙ any-same (λ o. bit (lowerSet words′ (rank text words′ k o)) m) (λ o. bit (lowerSet words (rank text words k o)) m)
+        (nameOf text words (overFrom k)) (wordAt words (overCountAt k))
         (λ i h. rw (rank-kept k l (nameOf text words (overFrom k) i))
         (ap (λ (w : ℕ). bit w m) (lower-kept (rank text words k (nameOf text words (overFrom k) i)) (omega (arith, f k l .earlier i h)))))
 
@@ -106,7 +107,11 @@ module _ (text : Bytes) (words words′ : List ℕ) (c : RulesCounts) (a : Agree
           actors = rw na (names-fit-kept text words words′ (actorsFrom k) (wordAt words (actorCountAt k)) (actors-same k l g) (g .actors));
           over = rw no (names-fit-kept text words words′ (overFrom k) (wordAt words (overCountAt k)) (over-same k l g) (g .over));
           earlier = λ i h. let h′ = rw no at h in
-              rw (name-kept text words words′ (overFrom k) (wordAt words (overCountAt k)) (over-same k l g) i h′, rank-kept k l (nameOf text words (overFrom k) i)) (g .earlier i h′);
+              rw (
+                name-kept text words words′ (overFrom k) (wordAt words (overCountAt k)) (over-same k l g) i h′,
+                rank-kept k l
+                    (nameOf text words (overFrom k) i),
+              ) (g .earlier i h′);
           lower = λ m. ap (λ (w : ℕ). bit w m) (lower-kept k l) ∙ g .lower m ∙ ap (λ (b : Bool). eqb m k || b) (sym (below-kept k l m));
         }
 

@@ -37,7 +37,8 @@ unfolding keep
 map-keep f p [] = refl
 map-keep f p (x ∷ l) = go (p (f x)) (map-keep f p l)
   where
-    go : (b : Bool) → map f (keep (λ x. p (f x)) l) ≡ keep p (map f l) → map f (pick b (x ∷ keep (λ x. p (f x)) l) (keep (λ x. p (f x)) l)) ≡ pick b (f x ∷ keep p (map f l)) (keep p (map f l))
+    go : (b : Bool) → map f (keep (λ x. p (f x)) l) ≡ keep p (map f l)
+        → map f (pick b (x ∷ keep (λ x. p (f x)) l) (keep (λ x. p (f x)) l)) ≡ pick b (f x ∷ keep p (map f l)) (keep p (map f l))
     go true e = ap (λ z. f x ∷ z) e
     go false e = e
 
@@ -46,7 +47,8 @@ unfolding keep
 keep-end p [] x = refl
 keep-end p (y ∷ l) x = rw (keep-end p l x) (go (p y))
   where
-    go : (b : Bool) → pick b (y ∷ (keep p l ++ pick (p x) (x ∷ []) [])) (keep p l ++ pick (p x) (x ∷ []) []) ≡ pick b (y ∷ keep p l) (keep p l) ++ pick (p x) (x ∷ []) []
+    go : (b : Bool) → pick b (y ∷ (keep p l ++ pick (p x) (x ∷ []) [])) (keep p l ++ pick (p x) (x ∷ []) [])
+        ≡ pick b (y ∷ keep p l) (keep p l) ++ pick (p x) (x ∷ []) []
     go true = refl
     go false = refl
 
@@ -65,7 +67,8 @@ unfolding keep joined
 joined-keep g p [] = refl
 joined-keep g p (x ∷ l) = go (p x) (joined-keep g p l)
   where
-    go : (b : Bool) → joined g (keep p l) ≡ joined (λ x. pick (p x) (g x) []) l → joined g (pick b (x ∷ keep p l) (keep p l)) ≡ pick b (g x) [] ++ joined (λ x. pick (p x) (g x) []) l
+    go : (b : Bool) → joined g (keep p l) ≡ joined (λ x. pick (p x) (g x) []) l
+        → joined g (pick b (x ∷ keep p l) (keep p l)) ≡ pick b (g x) [] ++ joined (λ x. pick (p x) (g x) []) l
     go true e = ap (λ z. g x ++ z) e
     go false e = e
 
@@ -74,7 +77,8 @@ module _ (r : Rules) where
   steps-kept : (n : ℕ) (q : Bytes → Bool) (cs : List Bytes) → cs ≡ keep q (categoryNames r) → (p : Bytes → Bool) × (stepsDown n r cs ≡ keep p (categoryNames r))
   unfolding stepsDown stepDown categoryNames
   steps-kept zero q cs e = (q, e)
-  steps-kept (suc n) q cs e = steps-kept n _ (stepDown r cs) (map-keep (λ (c : Category). c .name) (λ e. mem e cs || any (λ (d : Category). mem (d .name) cs && mem e (d .over)) (r .categories)) (r .categories))
+  steps-kept (suc n) q cs e = steps-kept n _ (stepDown r cs)
+      (map-keep (λ (c : Category). c .name) (λ e. mem e cs || any (λ (d : Category). mem (d .name) cs && mem e (d .over)) (r .categories)) (r .categories))
 
   pub down-in-order : (c : Bytes) → c ∈ categoryNames r → downFrom r c ≡ keep (λ e. mem e (downFrom r c)) (categoryNames r)
   unfolding downFrom categoryNames stepsDown stepDown
@@ -91,7 +95,9 @@ module _ (r : Rules) where
       go : (cs : List Category) → r .categories ≡ cs → down ≡ keep (λ e. mem e down) (categoryNames r)
       go [] e = elim (subst (λ (z : List Category). c ∈ map (λ (x : Category). x .name) z) e m) [ ]
       go (x ∷ cs) e =
-          let s = steps-kept (length cs) _ (stepDown r (c ∷ [])) (map-keep (λ (d : Category). d .name) (λ e. mem e (c ∷ []) || any (λ (d : Category). mem (d .name) (c ∷ []) && mem e (d .over)) (r .categories)) (r .categories)) in
+          let s = steps-kept (length cs) _ (stepDown r (c ∷ []))
+          (map-keep (λ (d : Category). d .name) (λ e. mem e (c ∷ [])
+          || any (λ (d : Category). mem (d .name) (c ∷ []) && mem e (d .over)) (r .categories)) (r .categories)) in
           by (s .0) (ap (λ (z : List Category). stepsDown (length z) r (c ∷ [])) e ∙ s .1)
 
 module _ (text : Bytes) (words : List ℕ) (c : RulesCounts) (f : Fits text words c) where
@@ -118,7 +124,13 @@ module _ (text : Bytes) (words : List ℕ) (c : RulesCounts) (f : Fits text word
     one-kept zero i h k e = absurd (omega arith)
     one-kept (suc n) i h k e = keep-end isOf (listed (policyOf text words) n) (policyOf text words n) ∙ either (equal-or-not i n)
         (λ q. let q′ : policyCategory words n ≡ m = ap (policyCategory words) (sym q) ∙ e in
-        rw (none-kept n (omega arith) (λ j b d. let z = f .one-each j n (omega arith) (omega arith) (d ∙ sym q′) in omega arith), policy-of n (omega arith), eq-eqb _ _ q′, q))
+        rw (
+          none-kept n (omega arith) (λ j b d. let z = f .one-each j n (omega arith) (omega arith) (d ∙ sym q′) in omega arith),
+          policy-of n
+              (omega arith),
+          eq-eqb _ _ q′,
+          q,
+        ))
         (λ q. let never : (policyCategory words n ≡ m → ⊥) = λ d. q .1 (f .one-each i n (omega arith) (omega arith) (e ∙ sym d)) in
         rw (one-kept n i (omega arith) (omega arith) e, policy-of n (omega arith), ne-eqb _ _ never))
 
@@ -133,7 +145,8 @@ module _ (text : Bytes) (words : List ℕ) (c : RulesCounts) (f : Fits text word
         all-of = listed (policyCategory words) (c .policies)
 
         go : (b : Bool) → any isM all-of ≡ b
-            → keep isOf (listed (policyOf text words) (c .policies)) ≡ pick (ltb (placeWhere isM all-of) (c .policies)) (policyOf text words (placeWhere isM all-of) ∷ []) []
+            → keep isOf (listed (policyOf text words) (c .policies))
+            ≡ pick (ltb (placeWhere isM all-of) (c .policies)) (policyOf text words (placeWhere isM all-of) ∷ []) []
         go true e =
             let n = length-listed (policyCategory words) (c .policies) in
             let i = place-inside isM all-of e in
@@ -142,13 +155,15 @@ module _ (text : Bytes) (words : List ℕ) (c : RulesCounts) (f : Fits text word
             one-kept (c .policies) (placeWhere isM all-of) (omega arith) l (eqb→eq _ m (subst T (sym q) tt)) ∙ rw (lt-ltb _ _ l)
         go false e =
             let n = place-none isM all-of e ∙ length-listed (policyCategory words) (c .policies) in
-            none-kept (c .policies) (omega arith) (λ i h d. let s = scan-found isM (policyCategory words) (c .policies) i h (eq-eqb _ m d) in let z : _≡_ {A = ℕ} 0 1 = cc in omega arith)
+            none-kept (c .policies) (omega arith) (λ i h d. let s = scan-found isM (policyCategory words) (c .policies) i h (eq-eqb _ m d) in
+            let z : _≡_ {A = ℕ} 0 1 = cc in omega arith)
             ∙ rw (le-ltb (placeWhere isM all-of) (c .policies) (omega arith))
 
   -- the enforced policies of category k, in the order of their categories
   module _ (k : ℕ) (l : k < c .categories) where
     joined-below : (n : ℕ) → n ≤ c .categories
-        → joined (λ e. pick (mem e (downFrom (rulesAt text words c) (named text words c k))) (keep (λ p. same (p .category) e) (listed (policyOf text words) (c .policies))) []) (listed (nameOf text words names) n)
+        → joined (λ e. pick (mem e (downFrom (rulesAt text words c) (named text words c k)))
+        (keep (λ p. same (p .category) e) (listed (policyOf text words) (c .policies))) []) (listed (nameOf text words names) n)
         ≡ enforcedBelow text words c k n
     unfolding listed joined enforcedBelow
     joined-below zero h = refl
@@ -167,12 +182,18 @@ module _ (text : Bytes) (words : List ℕ) (c : RulesCounts) (f : Fits text word
         ∙ joined-below (c .categories) (omega arith)
 
     -- the actors of category k
-    actors-below : (n : ℕ) → n ≤ c .categories → joined (λ x. pick (same (x .name) (named text words c k)) (x .actors) []) (listed (categoryOf text words) n) ≡ pick (ltb k n) (actorsAt text words k) []
+    actors-below : (n : ℕ) → n ≤ c .categories
+        → joined (λ x. pick (same (x .name) (named text words c k)) (x .actors) []) (listed (categoryOf text words) n)
+        ≡ pick (ltb k n) (actorsAt text words k) []
     unfolding listed joined categoryOf
     actors-below zero h = rw (le-ltb k 0 (omega arith))
-    actors-below (suc n) h = joined-end (λ (x : Category). pick (same (x .name) (named text words c k)) (x .actors) []) (listed (categoryOf text words) n) (categoryOf text words n) ∙ rw (actors-below n (omega arith)) (either (equal-or-not n k)
+    actors-below (suc n) h = joined-end (λ (x : Category). pick (same (x .name) (named text words c k)) (x .actors) []) (listed (categoryOf text words) n)
+        (categoryOf text words n) ∙ rw (actors-below n (omega arith)) (either (equal-or-not n k)
         (λ e. rw (e, le-ltb k k (omega arith), lt-ltb k (suc k) (omega arith), equal-same (named text words c k) (named text words c k) refl))
-        (λ e. rw (is-false (same (named text words c n) (named text words c k)) (λ t. e .1 (f .named .differ n k (omega arith) l (same-equal (named text words c n) (named text words c k) (is-true (same (named text words c n) (named text words c k)) t))))) (either (below-or-not k n)
+        (λ e. rw (is-false (same (named text words c n) (named text words c k))
+        (λ t. e .1 (f .named .differ n k (omega arith) l
+        (same-equal (named text words c n) (named text words c k) (is-true (same (named text words c n) (named text words c k)) t)))))
+        (either (below-or-not k n)
         (λ s. rw (lt-ltb k n s, lt-ltb k (suc n) (omega arith)) (append-nil (actorsAt text words k)))
         (λ s. rw (le-ltb k n s, le-ltb k (suc n) (omega arith))))))
 

@@ -42,7 +42,8 @@ fewer (suc n) (suc p) f small differ = either (given f n (suc p))
 
     other-small : (i : ℕ) → i < suc p → f i ≡ n → (j : ℕ) → j < p → other i j < n
     other-small i l e j h = either (equal-or-not j i)
-        (λ q. rw (at-i i j q) (let s = small p (omega arith) in let d : f p ≢ n = λ z. let w = differ i p l (omega arith) (e ∙ sym z) in omega arith in omega arith))
+        (λ q. rw (at-i i j q) (let s = small p (omega arith) in let d : f p ≢ n = λ z. let w = differ i p l (omega arith) (e ∙ sym z) in omega arith in
+        omega arith))
         (λ q. rw (elsewhere i j (q .1)) (let s = small j (omega arith) in let d : f j ≢ n = λ z. q .1 (differ j i (omega arith) l (z ∙ sym e)) in omega arith))
 
     other-differ : (i : ℕ) → i < suc p → (j k : ℕ) → j < p → k < p → other i j ≡ other i k → j ≡ k
@@ -57,7 +58,8 @@ fewer (suc n) (suc p) f small differ = either (given f n (suc p))
 pub fewer-names : (ws vs : List Bytes) → (T (twice ws) → ⊥) → ((w : Bytes) → w ∈ ws → w ∈ vs) → length ws ≤ length vs
 fewer-names ws vs once within = fewer (length vs) (length ws) (λ i. place (getD ws i []) vs)
     (λ i l. at-place vs (getD ws i []) (at i l) .0)
-    (λ i j l m e. sym (place-at ws i once l) ∙ ap (λ (w : Bytes). place w ws) (place-injective vs (getD ws i []) (getD ws j []) (at i l) (at j m) e) ∙ place-at ws j once m)
+    (λ i j l m e. sym (place-at ws i once l) ∙ ap (λ (w : Bytes). place w ws) (place-injective vs (getD ws i []) (getD ws j []) (at i l) (at j m) e)
+    ∙ place-at ws j once m)
   where
     at : (i : ℕ) → i < length ws → getD ws i [] ∈ vs
     at i l = within (getD ws i []) (getD-in ws i [] l)

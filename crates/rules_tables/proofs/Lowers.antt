@@ -55,7 +55,8 @@ module _ (text : Bytes) (words : List ℕ) (c : RulesCounts) where
     lower-itself : (k : ℕ) → k < c .categories → T (bit (lowerSet words k) k)
     lower-itself k l = rw (f .each k l .lower k) (or-l (eqb k k) _ (eq→eqb k k refl))
 
-    lower-cases : (k m : ℕ) → k < c .categories → T (bit (lowerSet words k) m) → (m ≡ k) ⊎ ((j : ℕ) × (j < k) × (named j ∈ overAt text words k) × T (bit (lowerSet words j) m))
+    lower-cases : (k m : ℕ) → k < c .categories → T (bit (lowerSet words k) m)
+        → (m ≡ k) ⊎ ((j : ℕ) × (j < k) × (named j ∈ overAt text words k) × T (bit (lowerSet words j) m))
     unfolding overAt namesAt
     lower-cases k m l t = ⊎-elim (λ u. inl (eqb→eq m k u))
         (λ u. let o = any-e (λ o. bit (lowerSet words (rank text words k o)) m) (overAt text words k) u in
@@ -64,7 +65,8 @@ module _ (text : Bytes) (words : List ℕ) (c : RulesCounts) where
         inr (rank text words k (o .0), h, subst (λ z. z ∈ overAt text words k) (sym (place-named text words names k (o .0) h)) (o .1), o .2))
         (or-cases (eqb m k) _ (rw (f .each k l .lower m) at t))
 
-    lower-under : (k j m : ℕ) → k < c .categories → j < c .categories → named j ∈ overAt text words k → T (bit (lowerSet words j) m) → T (bit (lowerSet words k) m)
+    lower-under : (k j m : ℕ) → k < c .categories → j < c .categories → named j ∈ overAt text words k → T (bit (lowerSet words j) m)
+        → T (bit (lowerSet words k) m)
     unfolding overAt namesAt
     lower-under k j m l h o t =
         let i = listed-e (nameOf text words (overFrom k)) (wordAt words (overCountAt k)) (named j) o in
@@ -73,11 +75,13 @@ module _ (text : Bytes) (words : List ℕ) (c : RulesCounts) where
         rw (f .each k l .lower m) (or-r (eqb m k) _ (any-i (λ o. bit (lowerSet words (rank text words k o)) m) (overAt text words k) (named j) o (rw q t)))
 
     -- all that a member is over directly is in the set too
-    lower-closed : (b k : ℕ) → k < b → k < c .categories → (y m : ℕ) → m < c .categories → T (bit (lowerSet words k) y) → named m ∈ overAt text words y → T (bit (lowerSet words k) m)
+    lower-closed : (b k : ℕ) → k < b → k < c .categories → (y m : ℕ) → m < c .categories → T (bit (lowerSet words k) y) → named m ∈ overAt text words y
+        → T (bit (lowerSet words k) m)
     lower-closed zero k h l y m n t o = absurd (omega arith)
     lower-closed (suc b) k h l y m n t o = ⊎-elim
         (λ e. lower-under k m m l n (subst (λ z. named m ∈ overAt text words z) e o) (lower-itself m n))
-        (λ j. let n′ : j .0 < c .categories = omega (arith, j .1) in lower-under k (j .0) m l n′ (j .2) (lower-closed b (j .0) (omega (arith, j .1)) n′ y m n (j .3) o))
+        (λ j. let n′ : j .0 < c .categories = omega (arith, j .1) in
+        lower-under k (j .0) m l n′ (j .2) (lower-closed b (j .0) (omega (arith, j .1)) n′ y m n (j .3) o))
         (lower-cases k y l t)
 
     lower-reached : (b k : ℕ) → k < b → k < c .categories → (m : ℕ) → T (bit (lowerSet words k) m) → Reaches (rulesAt text words c) (named k) (named m)
@@ -91,7 +95,8 @@ module _ (text : Bytes) (words : List ℕ) (c : RulesCounts) where
         (lower-reached b (j .0) (omega (arith, j .1)) n m (j .3)))
         (lower-cases k m l t)
 
-    reached-lower : (k : ℕ) → k < c .categories → (e : Bytes) → Reaches (rulesAt text words c) (named k) e → (m : ℕ) → m < c .categories → named m ≡ e → T (bit (lowerSet words k) m)
+    reached-lower : (k : ℕ) → k < c .categories → (e : Bytes) → Reaches (rulesAt text words c) (named k) e → (m : ℕ) → m < c .categories → named m ≡ e
+        → T (bit (lowerSet words k) m)
     unfolding rulesAt categoryOf
     reached-lower k l e itself m n q = subst (λ z. T (bit (lowerSet words k) z)) (sym (f .named .differ m k n l q)) (lower-itself k l)
     reached-lower k l e (over {d} p i o j) m n q =

@@ -29,7 +29,8 @@ pub at-least : (a b : ℕ) → leb a b ≡ not (ltb b a)
 at-least a b = either (below-or-not b a) (λ l. rw (lt-ltb b a l, lt-leb a b l)) (λ l. rw (le-ltb b a l, le-leb a b l))
 
 -- tests of two lists that agree place by place
-pub any-alike : {A B : Type 0} (p : A → Bool) (q : B → Bool) (f : ℕ → A) (g : ℕ → B) (n : ℕ) → ((i : ℕ) → i < n → p (f i) ≡ q (g i)) → any p (listed f n) ≡ any q (listed g n)
+pub any-alike : {A B : Type 0} (p : A → Bool) (q : B → Bool) (f : ℕ → A) (g : ℕ → B) (n : ℕ) → ((i : ℕ) → i < n → p (f i) ≡ q (g i))
+    → any p (listed f n) ≡ any q (listed g n)
 unfolding listed any
 any-alike p q f g zero h = refl
 any-alike p q f g (suc n) h = rw (any-end p (listed f n) (f n), any-end q (listed g n) (g n), any-alike p q f g n (λ i l. h i (omega arith)), h n (omega arith))
@@ -46,7 +47,8 @@ module _ (text : Bytes) (words : List ℕ) (c : RulesCounts) (f : Fits text word
   pub has-policy : (m : ℕ) → m < c .categories → hasPolicy (rulesAt text words c) (nameOf text words names m) ≡ hasOne words c m
   unfolding hasPolicy rulesAt policyPlace
   has-policy m l =
-      any-alike (λ (p : Policy). same (p .category) (nameOf text words names m)) (λ w. eqb w m) (policyOf text words) (policyCategory words) (c .policies) (policy-of text words c f m l)
+      any-alike (λ (p : Policy). same (p .category) (nameOf text words names m)) (λ w. eqb w m) (policyOf text words) (policyCategory words) (c .policies)
+      (policy-of text words c f m l)
       ∙ any-place (λ w. eqb w m) (listed (policyCategory words) (c .policies))
       ∙ ap (ltb _) (length-listed (policyCategory words) (c .policies))
 
@@ -67,6 +69,8 @@ module _ (text : Bytes) (words : List ℕ) (c : RulesCounts) (f : Fits text word
   unfolding covered uncoveredIn rulesAt categoryOf
   covered-by = ap (λ (b : Bool). pick b (refusal 10 2 0) (accepted (rulesAt text words c))) tests
     where
-      tests : any (λ (x : Category). isNil (x .over) && not (hasPolicy (rulesAt text words c) (x .name))) (rulesAt text words c .categories) ≡ any (uncovered words c) (listed (λ k. k) (c .categories))
-      tests = any-alike (λ (x : Category). isNil (x .over) && not (hasPolicy (rulesAt text words c) (x .name))) (uncovered words c) (categoryOf text words) (λ k. k) (c .categories)
+      tests : any (λ (x : Category). isNil (x .over) && not (hasPolicy (rulesAt text words c) (x .name))) (rulesAt text words c .categories)
+          ≡ any (uncovered words c) (listed (λ k. k) (c .categories))
+      tests = any-alike (λ (x : Category). isNil (x .over) && not (hasPolicy (rulesAt text words c) (x .name))) (uncovered words c) (categoryOf text words)
+          (λ k. k) (c .categories)
           (λ k l. rw (is-nil k, has-policy k l))

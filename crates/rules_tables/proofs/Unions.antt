@@ -35,5 +35,12 @@ module _ (text : Bytes) (words : List ℕ) (k : ℕ) where
       → (m : ℕ) → bit (bitOr set (lowerSet words j)) m ≡ (eqb m k || belowSome text words k m (namesAt text words (overFrom k) (i + 1)))
   union-more set i j e h m =
       bit-or set (lowerSet words j) m
-      ∙ rw (h m, e, names-end text words (overFrom k) i, any-end (λ o. bit (lowerSet words (rank text words k o)) m) (namesAt text words (overFrom k) i) (nameOf text words (overFrom k) i))
-      (or-last (eqb m k) (belowSome text words k m (namesAt text words (overFrom k) i)) (bit (lowerSet words (rank text words k (nameOf text words (overFrom k) i))) m))
+      ∙ rw (
+        h m,
+        e,
+        names-end text words (overFrom k) i,
+        any-end (λ o. bit (lowerSet words (rank text words k o)) m) (namesAt text words (overFrom k) i)
+            (nameOf text words (overFrom k) i),
+      )
+      (or-last (eqb m k) (belowSome text words k m (namesAt text words (overFrom k) i))
+      (bit (lowerSet words (rank text words k (nameOf text words (overFrom k) i))) m))

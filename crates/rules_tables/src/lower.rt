@@ -17,7 +17,8 @@ use crate::names;
 // The lower set of category k, which is over as many earlier ones as are given, their names being stored.
 pub fn lower_set(text: &[u8], words: &[u32], k: usize, over: usize) -> u32
     requires { ⌜ LowerAsked (now text) (now words) k over ⌝ }
-    ensures { λ r. ⌜ ((m : ℕ) → bit r m ≡ (eqb m k || belowSome (now (text .entry)) (now (words .entry)) k m (namesAt (now (text .entry)) (now (words .entry)) (overFrom k) over))) ⌝ }
+    ensures { λ r. ⌜ ((m : ℕ) → bit r m ≡ (eqb m k
+        || belowSome (now (text .entry)) (now (words .entry)) k m (namesAt (now (text .entry)) (now (words .entry)) (overFrom k) over))) ⌝ }
 {
     let mut set = bits::with(0, k);
     let mut i = 0;

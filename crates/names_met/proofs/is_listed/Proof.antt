@@ -53,7 +53,9 @@ shared-slice-read-word c =
     omega (arith, a .pre .room, c .before .before .before .before .before .words-from .ensures)
 
 cast-word : tie.Need-cast-word Inv-loop μ-loop
-cast-word c = omega (arith, c .shared-slice-known4 .given (c .before .before .before .before .before .words-from .result + (c .before .before .loop .entry - 1)))
+cast-word c =
+    let at-words-from = c .before .before .before .before .before in
+    omega (arith, c .shared-slice-known4 .given (at-words-from .words-from .result + (c .before .before .loop .entry - 1)))
 
 add-end : tie.Need-add-end Inv-loop μ-loop
 add-end c = omega (arith, c .shared-slice-known4 .given (c .before .before .before .before .before .words-from .result + (c .before .before .loop .entry - 1)))
@@ -66,36 +68,58 @@ part-same-bytes-start c = search needs
 
 part-same-bytes-end : tie.Need-part-same-bytes-end Inv-loop μ-loop
 part-same-bytes-end c =
-    let a = c .before .before .before .before .before .before .before .before .before in let l = c .before .before .loop in
+    let at-words-from = c .before .before .before .before .before in
+    let at-before = at-words-from .before .before .before in
+    let a = at-before .before in let l = c .before .before .loop in
     let i = names-inside (a .args .s .now) (a .args .table .now) (a .args .n) (a .pre) (a .args .name .now) (l .entry) (c .before .loop-test .taken) (l .inv) in
-    omega (arith, a .pre .inside (l .entry - 1) i, ap (λ p. wordAt (a .args .table .now) (p + (l .entry - 1))) (c .before .before .before .before .before .words-from .ensures))
+    omega (arith, a .pre .inside (l .entry - 1) i, ap (λ p. wordAt (a .args .table .now) (p + (l .entry - 1))) (at-words-from .words-from .ensures))
 
 same-bytes-requires : tie.Need-same-bytes-requires Inv-loop μ-loop
 same-bytes-requires c κs = search needs
 
 returns : tie.Need-returns Inv-loop μ-loop
 returns c =
-    let a = c .before .before .before .before .before .before .before .before .before .before .before .before in let l = c .before .before .before .before .before .loop in
-    name-found (a .args .s .now) (a .args .table .now) (a .args .n) (a .pre) (a .args .name .now) (l .entry) (c .before .before .before .before .loop-test .taken) (l .inv) _ (c .before .before .before .before .before .before .before .before .words-from .ensures) _
-    (c .before .same-bytes .ensures ∙ ap (same (a .args .name .now)) (name-slice (a .args .s .now) (a .args .table .now) (c .before .before .before .before .before .before .before .before .words-from .result) (l .entry - 1)))
+    let at-loop-test = c .before .before .before .before in
+    let at-loop = at-loop-test .before in
+    let at-words-from = at-loop .before .before .before in
+    let at-before = at-words-from .before .before .before in
+    let a = at-before .before in let l = at-loop .loop in
+    name-found (a .args .s .now) (a .args .table .now) (a .args .n) (a .pre) (a .args .name .now) (l .entry) (at-loop-test .loop-test .taken) (l .inv) _
+    (at-words-from .words-from .ensures) _
+    (c .before .same-bytes .ensures ∙ ap (same (a .args .name .now))
+    (name-slice (a .args .s .now) (a .args .table .now) (at-words-from .words-from .result) (l .entry - 1)))
     (c .if1 .taken)
 
 next-requires : tie.Need-next-requires Inv-loop μ-loop
 next-requires c κs =
-    let a = c .before .before .before .before .before .before .before .before .before .before .before .before in let l = c .before .before .before .before .before .loop in
-    let i = names-inside (a .args .s .now) (a .args .table .now) (a .args .n) (a .pre) (a .args .name .now) (l .entry) (c .before .before .before .before .loop-test .taken) (l .inv) in
+    let at-loop-test = c .before .before .before .before in
+    let at-loop = at-loop-test .before in
+    let at-before = at-loop .before .before .before .before .before .before in
+    let a = at-before .before in let l = at-loop .loop in
+    let i = names-inside (a .args .s .now) (a .args .table .now) (a .args .n) (a .pre) (a .args .name .now) (l .entry) (at-loop-test .loop-test .taken)
+    (l .inv) in
     omega (arith, a .pre .room)
 
 loop-less : tie.Need-loop-less Inv-loop μ-loop
 loop-less c =
-    let a = c .before .before .before .before .before .before .before .before .before .before .before .before .before in let l = c .before .before .before .before .before .before .loop in
-    names-fall (a .args .s .now) (a .args .table .now) (a .args .n) (a .pre) (a .args .name .now) (l .entry) (c .before .before .before .before .before .loop-test .taken) (l .inv) _ (c .next .ensures)
+    let at-loop-test = c .before .before .before .before .before in
+    let at-loop = at-loop-test .before in
+    let at-before = at-loop .before .before .before .before .before .before in
+    let a = at-before .before in let l = at-loop .loop in
+    names-fall (a .args .s .now) (a .args .table .now) (a .args .n) (a .pre) (a .args .name .now) (l .entry) (at-loop-test .loop-test .taken) (l .inv) _
+    (c .next .ensures)
 
 loop-again : tie.Need-loop-again Inv-loop μ-loop
 loop-again c =
-    let a = c .before .before .before .before .before .before .before .before .before .before .before .before .before in let l = c .before .before .before .before .before .before .loop in
-    names-next (a .args .s .now) (a .args .table .now) (a .args .n) (a .pre) (a .args .name .now) (l .entry) (c .before .before .before .before .before .loop-test .taken) (l .inv) _ (c .before .before .before .before .before .before .before .before .before .words-from .ensures) _
-    (c .before .before .same-bytes .ensures ∙ ap (same (a .args .name .now)) (name-slice (a .args .s .now) (a .args .table .now) (c .before .before .before .before .before .before .before .before .before .words-from .result) (l .entry - 1)))
+    let at-loop-test = c .before .before .before .before .before in
+    let at-loop = at-loop-test .before in
+    let at-words-from = at-loop .before .before .before in
+    let at-before = at-words-from .before .before .before in
+    let a = at-before .before in let l = at-loop .loop in
+    names-next (a .args .s .now) (a .args .table .now) (a .args .n) (a .pre) (a .args .name .now) (l .entry) (at-loop-test .loop-test .taken) (l .inv) _
+    (at-words-from .words-from .ensures) _
+    (c .before .before .same-bytes .ensures ∙ ap (same (a .args .name .now))
+    (name-slice (a .args .s .now) (a .args .table .now) (at-words-from .words-from .result) (l .entry - 1)))
     (c .before .if1 .left) _ (c .next .ensures)
 
 returns-2 : tie.Need-returns-2 Inv-loop μ-loop

@@ -71,8 +71,14 @@ slot-requires c κs = search needs
 
 add-requires : tie.Need-add-requires
 add-requires c κs =
-    let a = c .before .before .before .before .before .before .before .before .before .before .before .args in
-    simp length-set (omega (arith, c .before .slot .ensures, slot-small (take (a .name .start + a .name .length - a .name .start) (drop (a .name .start) (a .s .now)))))
+    let at-args = c .before .before .before .before .before .before .before .before .before .before .before in
+    let a = at-args .args in
+    simp length-set (omega (
+      arith,
+      c .before .slot .ensures,
+      slot-small
+          (take (a .name .start + a .name .length - a .name .start) (drop (a .name .start) (a .s .now))),
+    ))
 
 add-result : tie.Need-add-result
 add-result c = search needs
@@ -82,8 +88,12 @@ same-length c = c .before .table .given ∙ simp length-set
 
 returns-6 : tie.Need-returns-6
 returns-6 c =
-    let a = c .before .before .before .before .before .before .before .before .before .before .before .before .before .before .args in
-    holds-added (a .s .now) (a .table .now) (a .n) (a .name) (omega arith) (omega arith) (omega arith) _ _ _ (c .before .before .before .before .before .before .words-from .ensures) (c .before .before .before .before .slot .ensures) (c .before .before .add .ensures)
+    let at-slot = c .before .before .before .before in
+    let at-words-from = at-slot .before .before in
+    let at-args = at-words-from .before .before .before .before .before .before .before .before in
+    let a = at-args .args in
+    holds-added (a .s .now) (a .table .now) (a .n) (a .name) (omega arith) (omega arith) (omega arith) _ _ _ (at-words-from .words-from .ensures)
+    (at-slot .slot .ensures) (c .before .before .add .ensures)
 
 pub with-name-spec : {M : Type 1} → statement M
 with-name-spec =

@@ -18,7 +18,13 @@ link-requires c κs = search needs
 
 returns : tie.Need-returns
 unfolding linkPiece markBytes spotAfter
-returns c = record { reads = link-by comes (bytesOf "-") (λ e l v. refl) (signsFrom true false (c .before .before .args .s .now) (c .before .before .args .from)) ∙ c .link .ensures .reads; moves = c .link .ensures .moves; stands = c .link .ensures .stands }
+returns c = record {
+  reads = link-by comes (bytesOf "-") (λ e l v. refl)
+      (signsFrom true false (c .before .before .args .s .now) (c .before .before .args .from))
+      ∙ c .link .ensures .reads;
+  moves = c .link .ensures .moves;
+  stands = c .link .ensures .stands;
+}
 
 pub comes-spec : {M : Type 1} → statement M
 comes-spec = tie.close (tie.spec link-requires returns)

@@ -3,7 +3,8 @@ use Rattle.model.specs.Signs.{isMark}
 use Rattle.model.specs.Bytes.{same}
 use Rattle.query_signs.specs.Marks.{markBytes}
 use Rattle.query_pieces.proofs.StepLaws.{condition-by}
-use Rattle.query_pieces.proofs.PartLaws.{name-read, name-unread, name-moves, mark-moves, rest-differs, rest-asks, step-farther, name-stands, mark-stands, step-stands}
+use Rattle.query_pieces.proofs.PartLaws.{name-read, name-unread, name-moves, mark-moves, rest-differs, rest-asks, step-farther, name-stands}
+use Rattle.query_pieces.proofs.PartLaws.{mark-stands, step-stands}
 use Rattle.query_pieces.specs.Steps.{stepOf, asked}
 use Rattle.query_pieces.specs.Walk.{orStopped}
 use Rattle.query_signs.specs.Reads.{signsFrom}
@@ -32,7 +33,15 @@ enum-told c = search needs
 
 returns : tie.Need-returns
 unfolding stepOf orStopped
-returns c = record { reads = condition-by (signsFrom false true (c .before .before .before .before .args .s .now) (c .before .before .before .before .args .from)) ∙ ap orStopped (name-unread false true (c .before .before .before .before .args .s .now) (c .before .before .before .before .args .from) (c .before .before .name-next .result) (c .before .before .name-next .ensures) (c .enum-told .given .1) _); moves = tt; stands = tt }
+returns c =
+    let at-args = c .before .before .before .before in
+    record {
+      reads = condition-by (signsFrom false true (at-args .args .s .now) (at-args .args .from))
+          ∙ ap orStopped (name-unread false true (at-args .args .s .now) (at-args .args .from) (c .before .before .name-next .result)
+          (c .before .before .name-next .ensures) (c .enum-told .given .1) _);
+      moves = tt;
+      stands = tt;
+    }
 
 mark-next-requires : tie.Need-mark-next-requires
 mark-next-requires c κs = search needs
@@ -51,19 +60,54 @@ demand-requires c κs = search needs
 
 returns-2 : tie.Need-returns-2
 unfolding bracketOf isMark same markBytes variableAt
-returns-2 c = record {
-  reads = condition-by (signsFrom false true (c .before .before .before .before .before .before .before .before .before .before .args .s .now) (c .before .before .before .before .before .before .before .before .before .before .args .from)) ∙ ap orStopped (name-read false true (c .before .before .before .before .before .before .before .before .before .before .args .s .now) (c .before .before .before .before .before .before .before .before .before .before .args .from) (c .before .before .before .before .before .before .before .before .name-next .result) (c .before .before .before .before .before .before .before .before .name-next .ensures) (c .before .before .before .before .before .before .x .given .0 .0) (c .before .before .before .before .before .before .x .given .0 .1 .0) (c .before .before .before .before .before .before .x .given .1) _ ∙ rest-differs (c .before .before .before .before .before .before .before .before .before .before .args .s .now) (c .before .before .before .before .before .before .x .given .0 .1 .0) (c .before .before .before .before .mark-next .result) (c .before .before .before .before .mark-next .ensures) (nameAt (c .before .before .before .before .before .before .before .before .before .before .args .s .now) (c .before .before .before .before .before .before .x .given .0 .0)) asked (c .before .before .b .given .0 .0) (c .before .before .b .given .1)) ∙ c .differ .ensures .reads;
-  moves = step-farther (c .before .before .before .before .before .before .before .before .before .before .args .from) (c .before .before .b .given .0 .0) (c .differ .result) (omega (arith, name-moves false true (c .before .before .before .before .before .before .before .before .before .before .args .s .now) (c .before .before .before .before .before .before .before .before .before .before .args .from) (c .before .before .before .before .before .before .before .before .name-next .result) (c .before .before .before .before .before .before .before .before .name-next .ensures) (c .before .before .before .before .before .before .x .given .0 .0) (c .before .before .before .before .before .before .x .given .0 .1 .0) (c .before .before .before .before .before .before .x .given .1), mark-moves false true (c .before .before .before .before .before .before .before .before .before .before .args .s .now) (c .before .before .before .before .before .before .x .given .0 .1 .0) 15422 (c .before .before .before .before .mark-next .result) (c .before .before .before .before .mark-next .ensures) (c .before .before .b .given .0 .0) (c .before .before .b .given .1))) (c .differ .ensures .moves);
-  stands = step-stands (c .before .before .before .before .before .before .before .before .before .before .args .s .now) (c .differ .result) (name-stands false true (c .before .before .before .before .before .before .before .before .before .before .args .s .now) (c .before .before .before .before .before .before .before .before .before .before .args .from) (c .before .before .before .before .before .before .before .before .name-next .result) (c .before .before .before .before .before .before .before .before .name-next .ensures) (c .before .before .before .before .before .before .x .given .0 .0) (c .before .before .before .before .before .before .x .given .0 .1 .0) (c .before .before .before .before .before .before .x .given .1) none ∙ mark-stands false true (c .before .before .before .before .before .before .before .before .before .before .args .s .now) (c .before .before .before .before .before .before .x .given .0 .1 .0) 15422 (c .before .before .before .before .mark-next .result) (c .before .before .before .before .mark-next .ensures) (c .before .before .b .given .0 .0) (c .before .before .b .given .1) none) (c .differ .ensures .stands);
-}
+returns-2 c =
+    let at-b = c .before .before in
+    let at-mark-next = at-b .before .before in
+    let at-x = at-mark-next .before .before in
+    let at-name-next = at-x .before .before in
+    let at-args = at-name-next .before .before in
+    record {
+      reads = condition-by (signsFrom false true (at-args .args .s .now) (at-args .args .from))
+          ∙ ap orStopped (name-read false true (at-args .args .s .now) (at-args .args .from) (at-name-next .name-next .result)
+          (at-name-next .name-next .ensures) (at-x .x .given .0 .0) (at-x .x .given .0 .1 .0) (at-x .x .given .1) _
+          ∙ rest-differs (at-args .args .s .now) (at-x .x .given .0 .1 .0) (at-mark-next .mark-next .result) (at-mark-next .mark-next .ensures)
+          (nameAt (at-args .args .s .now) (at-x .x .given .0 .0)) asked (at-b .b .given .0 .0) (at-b .b .given .1)) ∙ c .differ .ensures .reads;
+      moves = step-farther (at-args .args .from) (at-b .b .given .0 .0) (c .differ .result)
+          (omega (
+            arith,
+            name-moves false true (at-args .args .s .now) (at-args .args .from) (at-name-next .name-next .result)
+                (at-name-next .name-next .ensures) (at-x .x .given .0 .0) (at-x .x .given .0 .1 .0) (at-x .x .given .1),
+            mark-moves false true
+                (at-args .args .s .now) (at-x .x .given .0 .1 .0) 15422 (at-mark-next .mark-next .result) (at-mark-next .mark-next .ensures)
+                (at-b .b .given .0 .0) (at-b .b .given .1),
+          )) (c .differ .ensures .moves);
+      stands = step-stands (at-args .args .s .now) (c .differ .result)
+          (name-stands false true (at-args .args .s .now) (at-args .args .from) (at-name-next .name-next .result) (at-name-next .name-next .ensures)
+          (at-x .x .given .0 .0) (at-x .x .given .0 .1 .0) (at-x .x .given .1) none
+          ∙ mark-stands false true (at-args .args .s .now) (at-x .x .given .0 .1 .0) 15422 (at-mark-next .mark-next .result)
+          (at-mark-next .mark-next .ensures) (at-b .b .given .0 .0) (at-b .b .given .1) none) (c .differ .ensures .stands);
+    }
 
 returns-3 : tie.Need-returns-3
 unfolding bracketOf isMark same markBytes variableAt
-returns-3 c = record {
-  reads = condition-by (signsFrom false true (c .before .before .before .before .before .before .before .before .before .args .s .now) (c .before .before .before .before .before .before .before .before .before .args .from)) ∙ ap orStopped (name-read false true (c .before .before .before .before .before .before .before .before .before .args .s .now) (c .before .before .before .before .before .before .before .before .before .args .from) (c .before .before .before .before .before .before .before .name-next .result) (c .before .before .before .before .before .before .before .name-next .ensures) (c .before .before .before .before .before .x .given .0 .0) (c .before .before .before .before .before .x .given .0 .1 .0) (c .before .before .before .before .before .x .given .1) _ ∙ rest-asks (c .before .before .before .before .before .before .before .before .before .args .s .now) (c .before .before .before .before .before .x .given .0 .1 .0) (c .before .before .before .mark-next .result) (c .before .before .before .mark-next .ensures) (nameAt (c .before .before .before .before .before .before .before .before .before .args .s .now) (c .before .before .before .before .before .x .given .0 .0)) asked (c .before .enum-told2 .given .1)) ∙ c .demand .ensures .reads;
-  moves = step-farther (c .before .before .before .before .before .before .before .before .before .args .from) (c .before .before .before .before .before .x .given .0 .1 .0) (c .demand .result) (name-moves false true (c .before .before .before .before .before .before .before .before .before .args .s .now) (c .before .before .before .before .before .before .before .before .before .args .from) (c .before .before .before .before .before .before .before .name-next .result) (c .before .before .before .before .before .before .before .name-next .ensures) (c .before .before .before .before .before .x .given .0 .0) (c .before .before .before .before .before .x .given .0 .1 .0) (c .before .before .before .before .before .x .given .1)) (c .demand .ensures .moves);
-  stands = step-stands (c .before .before .before .before .before .before .before .before .before .args .s .now) (c .demand .result) (name-stands false true (c .before .before .before .before .before .before .before .before .before .args .s .now) (c .before .before .before .before .before .before .before .before .before .args .from) (c .before .before .before .before .before .before .before .name-next .result) (c .before .before .before .before .before .before .before .name-next .ensures) (c .before .before .before .before .before .x .given .0 .0) (c .before .before .before .before .before .x .given .0 .1 .0) (c .before .before .before .before .before .x .given .1) none) (c .demand .ensures .stands);
-}
+returns-3 c =
+    let at-x = c .before .before .before .before .before in
+    let at-name-next = at-x .before .before in
+    let at-args = at-name-next .before .before in
+    record {
+      reads = condition-by (signsFrom false true (at-args .args .s .now) (at-args .args .from))
+          ∙ ap orStopped (name-read false true (at-args .args .s .now) (at-args .args .from) (at-name-next .name-next .result)
+          (at-name-next .name-next .ensures) (at-x .x .given .0 .0) (at-x .x .given .0 .1 .0) (at-x .x .given .1) _
+          ∙ rest-asks (at-args .args .s .now) (at-x .x .given .0 .1 .0) (c .before .before .before .mark-next .result)
+          (c .before .before .before .mark-next .ensures) (nameAt (at-args .args .s .now) (at-x .x .given .0 .0)) asked (c .before .enum-told2 .given .1))
+          ∙ c .demand .ensures .reads;
+      moves = step-farther (at-args .args .from) (at-x .x .given .0 .1 .0) (c .demand .result)
+          (name-moves false true (at-args .args .s .now) (at-args .args .from) (at-name-next .name-next .result) (at-name-next .name-next .ensures)
+          (at-x .x .given .0 .0) (at-x .x .given .0 .1 .0) (at-x .x .given .1)) (c .demand .ensures .moves);
+      stands = step-stands (at-args .args .s .now) (c .demand .result)
+          (name-stands false true (at-args .args .s .now) (at-args .args .from) (at-name-next .name-next .result) (at-name-next .name-next .ensures)
+          (at-x .x .given .0 .0) (at-x .x .given .0 .1 .0) (at-x .x .given .1) none) (c .demand .ensures .stands);
+    }
 
 pub condition-spec : {M : Type 1} → statement M
 condition-spec =

@@ -24,11 +24,32 @@ enum-told c = search needs
 
 returns : tie.Need-returns
 unfolding stepOf walkAt pieceOf spotOf chainAt orStopped otherThen
-returns c = record { reads = ap orStopped (name-unread false false (c .before .before .before .before .args .s .now) (c .before .before .before .before .args .from) (c .before .before .name-next .result) (c .before .before .name-next .ensures) (c .enum-told .given .1) _); moves = tt; stands = tt }
+returns c =
+    let at-args = c .before .before .before .before in
+    record {
+      reads = ap orStopped (name-unread false false (at-args .args .s .now) (at-args .args .from) (c .before .before .name-next .result)
+          (c .before .before .name-next .ensures) (c .enum-told .given .1) _);
+      moves = tt;
+      stands = tt;
+    }
 
 returns-2 : tie.Need-returns-2
 unfolding stepOf walkAt pieceOf spotOf chainAt orStopped otherThen pieceStanding variableAt
-returns-2 c = record { reads = ap orStopped (name-read false false (c .before .before .before .before .before .args .s .now) (c .before .before .before .before .before .args .from) (c .before .before .before .name-next .result) (c .before .before .before .name-next .ensures) (c .before .u .given .0 .0) (c .before .u .given .0 .1 .0) (c .before .u .given .1) _); moves = omega (arith, name-moves false false (c .before .before .before .before .before .args .s .now) (c .before .before .before .before .before .args .from) (c .before .before .before .name-next .result) (c .before .before .before .name-next .ensures) (c .before .u .given .0 .0) (c .before .u .given .0 .1 .0) (c .before .u .given .1)); stands = name-stands false false (c .before .before .before .before .before .args .s .now) (c .before .before .before .before .before .args .from) (c .before .before .before .name-next .result) (c .before .before .before .name-next .ensures) (c .before .u .given .0 .0) (c .before .u .given .0 .1 .0) (c .before .u .given .1) none }
+returns-2 c =
+    let at-name-next = c .before .before .before in
+    let at-args = at-name-next .before .before in
+    record {
+      reads = ap orStopped (name-read false false (at-args .args .s .now) (at-args .args .from) (at-name-next .name-next .result)
+          (at-name-next .name-next .ensures) (c .before .u .given .0 .0) (c .before .u .given .0 .1 .0) (c .before .u .given .1) _);
+      moves = omega (
+        arith,
+        name-moves false false (at-args .args .s .now) (at-args .args .from) (at-name-next .name-next .result) (at-name-next .name-next .ensures)
+            (c .before .u .given .0 .0) (c .before .u .given .0 .1 .0) (c .before .u .given .1),
+      );
+      stands = name-stands false false (at-args .args .s .now)
+          (at-args .args .from) (at-name-next .name-next .result) (at-name-next .name-next .ensures) (c .before .u .given .0 .0)
+          (c .before .u .given .0 .1 .0) (c .before .u .given .1) none;
+    }
 
 pub differ-spec : {M : Type 1} → statement M
 differ-spec = tie.close (tie.spec name-next-requires enum-known-u enum-told returns returns-2)

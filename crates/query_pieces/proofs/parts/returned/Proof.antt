@@ -25,11 +25,34 @@ enum-told c = search needs
 
 returns : tie.Need-returns
 unfolding stepOf walkAt pieceOf spotOf chainAt orStopped
-returns c = record { reads = return-by (signsFrom false (c .before .before .before .before .args .close) (c .before .before .before .before .args .s .now) (c .before .before .before .before .args .from)) ∙ ap orStopped (name-unread false (c .before .before .before .before .args .close) (c .before .before .before .before .args .s .now) (c .before .before .before .before .args .from) (c .before .before .name-next .result) (c .before .before .name-next .ensures) (c .enum-told .given .1) _); moves = tt; stands = tt }
+returns c =
+    let at-args = c .before .before .before .before in
+    record {
+      reads = return-by (signsFrom false (at-args .args .close) (at-args .args .s .now) (at-args .args .from))
+          ∙ ap orStopped (name-unread false (at-args .args .close) (at-args .args .s .now) (at-args .args .from) (c .before .before .name-next .result)
+          (c .before .before .name-next .ensures) (c .enum-told .given .1) _);
+      moves = tt;
+      stands = tt;
+    }
 
 returns-2 : tie.Need-returns-2
 unfolding stepOf walkAt pieceOf spotOf chainAt orStopped pieceStanding variableAt
-returns-2 c = record { reads = return-by (signsFrom false (c .before .before .before .before .before .args .close) (c .before .before .before .before .before .args .s .now) (c .before .before .before .before .before .args .from)) ∙ ap orStopped (name-read false (c .before .before .before .before .before .args .close) (c .before .before .before .before .before .args .s .now) (c .before .before .before .before .before .args .from) (c .before .before .before .name-next .result) (c .before .before .before .name-next .ensures) (c .before .v .given .0 .0) (c .before .v .given .0 .1 .0) (c .before .v .given .1) _); moves = omega (arith, name-moves false (c .before .before .before .before .before .args .close) (c .before .before .before .before .before .args .s .now) (c .before .before .before .before .before .args .from) (c .before .before .before .name-next .result) (c .before .before .before .name-next .ensures) (c .before .v .given .0 .0) (c .before .v .given .0 .1 .0) (c .before .v .given .1)); stands = name-stands false (c .before .before .before .before .before .args .close) (c .before .before .before .before .before .args .s .now) (c .before .before .before .before .before .args .from) (c .before .before .before .name-next .result) (c .before .before .before .name-next .ensures) (c .before .v .given .0 .0) (c .before .v .given .0 .1 .0) (c .before .v .given .1) none }
+returns-2 c =
+    let at-name-next = c .before .before .before in
+    let at-args = at-name-next .before .before in
+    record {
+      reads = return-by (signsFrom false (at-args .args .close) (at-args .args .s .now) (at-args .args .from))
+          ∙ ap orStopped (name-read false (at-args .args .close) (at-args .args .s .now) (at-args .args .from) (at-name-next .name-next .result)
+          (at-name-next .name-next .ensures) (c .before .v .given .0 .0) (c .before .v .given .0 .1 .0) (c .before .v .given .1) _);
+      moves = omega (
+        arith,
+        name-moves false (at-args .args .close) (at-args .args .s .now) (at-args .args .from) (at-name-next .name-next .result)
+            (at-name-next .name-next .ensures) (c .before .v .given .0 .0) (c .before .v .given .0 .1 .0) (c .before .v .given .1),
+      );
+      stands = name-stands false
+          (at-args .args .close) (at-args .args .s .now) (at-args .args .from) (at-name-next .name-next .result) (at-name-next .name-next .ensures)
+          (c .before .v .given .0 .0) (c .before .v .given .0 .1 .0) (c .before .v .given .1) none;
+    }
 
 pub returned-spec : {M : Type 1} → statement M
 returned-spec = tie.close (tie.spec name-next-requires enum-known-v enum-told returns returns-2)

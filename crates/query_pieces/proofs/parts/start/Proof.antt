@@ -25,11 +25,34 @@ enum-told c = search needs
 
 returns : tie.Need-returns
 unfolding stepOf walkAt pieceOf spotOf chainAt orStopped
-returns c = record { reads = start-by (signsFrom true true (c .before .before .before .before .args .s .now) (c .before .before .before .before .args .from)) ∙ ap orStopped (vertex-unread true (c .before .before .before .before .args .s .now) (c .before .before .before .before .args .from) (c .before .before .vertex .result) (c .before .before .vertex .ensures) (c .enum-told .given .1) _); moves = tt; stands = tt }
+returns c =
+    let at-args = c .before .before .before .before in
+    record {
+      reads = start-by (signsFrom true true (at-args .args .s .now) (at-args .args .from))
+          ∙ ap orStopped (vertex-unread true (at-args .args .s .now) (at-args .args .from) (c .before .before .vertex .result)
+          (c .before .before .vertex .ensures) (c .enum-told .given .1) _);
+      moves = tt;
+      stands = tt;
+    }
 
 returns-2 : tie.Need-returns-2
 unfolding stepOf walkAt pieceOf spotOf chainAt orStopped pieceStanding
-returns-2 c = record { reads = start-by (signsFrom true true (c .before .before .before .before .before .args .s .now) (c .before .before .before .before .before .args .from)) ∙ ap orStopped (vertex-read true (c .before .before .before .before .before .args .s .now) (c .before .before .before .before .before .args .from) (c .before .before .before .vertex .result) (c .before .before .before .vertex .ensures) (c .before .v .given .0 .0) (c .before .v .given .0 .1 .0) (c .before .v .given .1) _); moves = omega (arith, vertex-moves true (c .before .before .before .before .before .args .s .now) (c .before .before .before .before .before .args .from) (c .before .before .before .vertex .result) (c .before .before .before .vertex .ensures) (c .before .v .given .0 .0) (c .before .v .given .0 .1 .0) (c .before .v .given .1)); stands = vertex-stands true (c .before .before .before .before .before .args .s .now) (c .before .before .before .before .before .args .from) (c .before .before .before .vertex .result) (c .before .before .before .vertex .ensures) (c .before .v .given .0 .0) (c .before .v .given .0 .1 .0) (c .before .v .given .1) none }
+returns-2 c =
+    let at-vertex = c .before .before .before in
+    let at-args = at-vertex .before .before in
+    record {
+      reads = start-by (signsFrom true true (at-args .args .s .now) (at-args .args .from))
+          ∙ ap orStopped (vertex-read true (at-args .args .s .now) (at-args .args .from) (at-vertex .vertex .result) (at-vertex .vertex .ensures)
+          (c .before .v .given .0 .0) (c .before .v .given .0 .1 .0) (c .before .v .given .1) _);
+      moves = omega (
+        arith,
+        vertex-moves true (at-args .args .s .now) (at-args .args .from) (at-vertex .vertex .result) (at-vertex .vertex .ensures)
+            (c .before .v .given .0 .0) (c .before .v .given .0 .1 .0) (c .before .v .given .1),
+      );
+      stands = vertex-stands true (at-args .args .s .now)
+          (at-args .args .from) (at-vertex .vertex .result) (at-vertex .vertex .ensures) (c .before .v .given .0 .0) (c .before .v .given .0 .1 .0)
+          (c .before .v .given .1) none;
+    }
 
 pub start-spec : {M : Type 1} → statement M
 start-spec = tie.close (tie.spec vertex-requires enum-known-v enum-told returns returns-2)

@@ -27,7 +27,14 @@ enum-told c = search needs
 
 returns : tie.Need-returns
 unfolding vertexThen onVertex markBytes
-returns c = record { reads = λ f. mark-unread true (c .before .before .before .before .args .close) (c .before .before .before .before .args .s .now) (c .before .before .before .before .args .from) 40 (c .before .before .mark-next .result) (c .before .before .mark-next .ensures) (c .enum-told .given .1) _; moves = tt; stands = λ o. tt }
+returns c =
+    let at-args = c .before .before .before .before in
+    record {
+      reads = λ f. mark-unread true (at-args .args .close) (at-args .args .s .now) (at-args .args .from) 40 (c .before .before .mark-next .result)
+          (c .before .before .mark-next .ensures) (c .enum-told .given .1) _;
+      moves = tt;
+      stands = λ o. tt;
+    }
 
 name-next-requires : tie.Need-name-next-requires
 name-next-requires c κs = search needs
@@ -40,7 +47,18 @@ enum-told-2 c = search needs
 
 returns-2 : tie.Need-returns-2
 unfolding vertexThen onVertex markBytes
-returns-2 c = record { reads = λ f. mark-read true (c .before .before .before .before .before .before .before .before .args .close) (c .before .before .before .before .before .before .before .before .args .s .now) (c .before .before .before .before .before .before .before .before .args .from) 40 (c .before .before .before .before .before .before .mark-next .result) (c .before .before .before .before .before .before .mark-next .ensures) (c .before .before .before .before .a .given .0 .0) (c .before .before .before .before .a .given .1) _ ∙ name-unread true false (c .before .before .before .before .before .before .before .before .args .s .now) (c .before .before .before .before .a .given .0 .0) (c .before .before .name-next .result) (c .before .before .name-next .ensures) (c .enum-told2 .given .1) _; moves = tt; stands = λ o. tt }
+returns-2 c =
+    let at-a = c .before .before .before .before in
+    let at-mark-next = at-a .before .before in
+    let at-args = at-mark-next .before .before in
+    record {
+      reads = λ f. mark-read true (at-args .args .close) (at-args .args .s .now) (at-args .args .from) 40 (at-mark-next .mark-next .result)
+          (at-mark-next .mark-next .ensures) (at-a .a .given .0 .0) (at-a .a .given .1) _
+          ∙ name-unread true false (at-args .args .s .now) (at-a .a .given .0 .0) (c .before .before .name-next .result)
+          (c .before .before .name-next .ensures) (c .enum-told2 .given .1) _;
+      moves = tt;
+      stands = λ o. tt;
+    }
 
 mark-next-requires-2 : tie.Need-mark-next-requires-2
 mark-next-requires-2 c κs = search needs
@@ -53,11 +71,57 @@ enum-told-3 c = search needs
 
 returns-3 : tie.Need-returns-3
 unfolding vertexThen onVertex markBytes
-returns-3 c = record { reads = λ f. mark-read true (c .before .before .before .before .before .before .before .before .before .before .before .before .args .close) (c .before .before .before .before .before .before .before .before .before .before .before .before .args .s .now) (c .before .before .before .before .before .before .before .before .before .before .before .before .args .from) 40 (c .before .before .before .before .before .before .before .before .before .before .mark-next .result) (c .before .before .before .before .before .before .before .before .before .before .mark-next .ensures) (c .before .before .before .before .before .before .before .before .a .given .0 .0) (c .before .before .before .before .before .before .before .before .a .given .1) _ ∙ name-read true false (c .before .before .before .before .before .before .before .before .before .before .before .before .args .s .now) (c .before .before .before .before .before .before .before .before .a .given .0 .0) (c .before .before .before .before .before .before .name-next .result) (c .before .before .before .before .before .before .name-next .ensures) (c .before .before .before .before .v .given .0 .0) (c .before .before .before .before .v .given .0 .1 .0) (c .before .before .before .before .v .given .1) _ ∙ mark-unread true true (c .before .before .before .before .before .before .before .before .before .before .before .before .args .s .now) (c .before .before .before .before .v .given .0 .1 .0) 41 (c .before .before .mark-next2 .result) (c .before .before .mark-next2 .ensures) (c .enum-told3 .given .1) _; moves = tt; stands = λ o. tt }
+returns-3 c =
+    let at-v = c .before .before .before .before in
+    let at-name-next = at-v .before .before in
+    let at-a = at-name-next .before .before in
+    let at-mark-next = at-a .before .before in
+    let at-args = at-mark-next .before .before in
+    record {
+      reads = λ f. mark-read true (at-args .args .close) (at-args .args .s .now) (at-args .args .from) 40 (at-mark-next .mark-next .result)
+          (at-mark-next .mark-next .ensures) (at-a .a .given .0 .0) (at-a .a .given .1) _
+          ∙ name-read true false (at-args .args .s .now) (at-a .a .given .0 .0) (at-name-next .name-next .result) (at-name-next .name-next .ensures)
+          (at-v .v .given .0 .0) (at-v .v .given .0 .1 .0) (at-v .v .given .1) _
+          ∙ mark-unread true true (at-args .args .s .now) (at-v .v .given .0 .1 .0) 41 (c .before .before .mark-next2 .result)
+          (c .before .before .mark-next2 .ensures) (c .enum-told3 .given .1) _;
+      moves = tt;
+      stands = λ o. tt;
+    }
 
 returns-4 : tie.Need-returns-4
 unfolding vertexThen onVertex markBytes bracketOf isMark same variableAt
-returns-4 c = record { reads = λ f. mark-read true (c .before .before .before .before .before .before .before .before .before .before .before .before .before .args .close) (c .before .before .before .before .before .before .before .before .before .before .before .before .before .args .s .now) (c .before .before .before .before .before .before .before .before .before .before .before .before .before .args .from) 40 (c .before .before .before .before .before .before .before .before .before .before .before .mark-next .result) (c .before .before .before .before .before .before .before .before .before .before .before .mark-next .ensures) (c .before .before .before .before .before .before .before .before .before .a .given .0 .0) (c .before .before .before .before .before .before .before .before .before .a .given .1) _ ∙ name-read true false (c .before .before .before .before .before .before .before .before .before .before .before .before .before .args .s .now) (c .before .before .before .before .before .before .before .before .before .a .given .0 .0) (c .before .before .before .before .before .before .before .name-next .result) (c .before .before .before .before .before .before .before .name-next .ensures) (c .before .before .before .before .before .v .given .0 .0) (c .before .before .before .before .before .v .given .0 .1 .0) (c .before .before .before .before .before .v .given .1) _ ∙ mark-read true true (c .before .before .before .before .before .before .before .before .before .before .before .before .before .args .s .now) (c .before .before .before .before .before .v .given .0 .1 .0) 41 (c .before .before .before .mark-next2 .result) (c .before .before .before .mark-next2 .ensures) (c .before .q .given .0 .0) (c .before .q .given .1) _; moves = omega (arith, mark-moves true (c .before .before .before .before .before .before .before .before .before .before .before .before .before .args .close) (c .before .before .before .before .before .before .before .before .before .before .before .before .before .args .s .now) (c .before .before .before .before .before .before .before .before .before .before .before .before .before .args .from) 40 (c .before .before .before .before .before .before .before .before .before .before .before .mark-next .result) (c .before .before .before .before .before .before .before .before .before .before .before .mark-next .ensures) (c .before .before .before .before .before .before .before .before .before .a .given .0 .0) (c .before .before .before .before .before .before .before .before .before .a .given .1), name-moves true false (c .before .before .before .before .before .before .before .before .before .before .before .before .before .args .s .now) (c .before .before .before .before .before .before .before .before .before .a .given .0 .0) (c .before .before .before .before .before .before .before .name-next .result) (c .before .before .before .before .before .before .before .name-next .ensures) (c .before .before .before .before .before .v .given .0 .0) (c .before .before .before .before .before .v .given .0 .1 .0) (c .before .before .before .before .before .v .given .1), mark-moves true true (c .before .before .before .before .before .before .before .before .before .before .before .before .before .args .s .now) (c .before .before .before .before .before .v .given .0 .1 .0) 41 (c .before .before .before .mark-next2 .result) (c .before .before .before .mark-next2 .ensures) (c .before .q .given .0 .0) (c .before .q .given .1)); stands = λ o. mark-stands true (c .before .before .before .before .before .before .before .before .before .before .before .before .before .args .close) (c .before .before .before .before .before .before .before .before .before .before .before .before .before .args .s .now) (c .before .before .before .before .before .before .before .before .before .before .before .before .before .args .from) 40 (c .before .before .before .before .before .before .before .before .before .before .before .mark-next .result) (c .before .before .before .before .before .before .before .before .before .before .before .mark-next .ensures) (c .before .before .before .before .before .before .before .before .before .a .given .0 .0) (c .before .before .before .before .before .before .before .before .before .a .given .1) o ∙ name-stands true false (c .before .before .before .before .before .before .before .before .before .before .before .before .before .args .s .now) (c .before .before .before .before .before .before .before .before .before .a .given .0 .0) (c .before .before .before .before .before .before .before .name-next .result) (c .before .before .before .before .before .before .before .name-next .ensures) (c .before .before .before .before .before .v .given .0 .0) (c .before .before .before .before .before .v .given .0 .1 .0) (c .before .before .before .before .before .v .given .1) round ∙ ap (λ l. vertex (c .before .before .before .before .before .v .given .0 .0) ∷ l) (mark-stands true true (c .before .before .before .before .before .before .before .before .before .before .before .before .before .args .s .now) (c .before .before .before .before .before .v .given .0 .1 .0) 41 (c .before .before .before .mark-next2 .result) (c .before .before .before .mark-next2 .ensures) (c .before .q .given .0 .0) (c .before .q .given .1) none) }
+returns-4 c =
+    let at-mark-next2 = c .before .before .before in
+    let at-v = at-mark-next2 .before .before in
+    let at-name-next = at-v .before .before in
+    let at-a = at-name-next .before .before in
+    let at-mark-next = at-a .before .before in
+    let at-args = at-mark-next .before .before in
+    record {
+      reads = λ f. mark-read true (at-args .args .close) (at-args .args .s .now) (at-args .args .from) 40 (at-mark-next .mark-next .result)
+          (at-mark-next .mark-next .ensures) (at-a .a .given .0 .0) (at-a .a .given .1) _
+          ∙ name-read true false (at-args .args .s .now) (at-a .a .given .0 .0) (at-name-next .name-next .result) (at-name-next .name-next .ensures)
+          (at-v .v .given .0 .0) (at-v .v .given .0 .1 .0) (at-v .v .given .1) _
+          ∙ mark-read true true (at-args .args .s .now) (at-v .v .given .0 .1 .0) 41 (at-mark-next2 .mark-next2 .result) (at-mark-next2 .mark-next2 .ensures)
+          (c .before .q .given .0 .0) (c .before .q .given .1) _;
+      moves = omega (
+        arith,
+        mark-moves true (at-args .args .close) (at-args .args .s .now) (at-args .args .from) 40 (at-mark-next .mark-next .result)
+            (at-mark-next .mark-next .ensures) (at-a .a .given .0 .0) (at-a .a .given .1),
+        name-moves true false (at-args .args .s .now) (at-a .a .given .0 .0)
+            (at-name-next .name-next .result) (at-name-next .name-next .ensures) (at-v .v .given .0 .0) (at-v .v .given .0 .1 .0)
+            (at-v .v .given .1),
+        mark-moves true true (at-args .args .s .now) (at-v .v .given .0 .1 .0) 41 (at-mark-next2 .mark-next2 .result)
+            (at-mark-next2 .mark-next2 .ensures) (c .before .q .given .0 .0) (c .before .q .given .1),
+      );
+      stands = λ o. mark-stands true (at-args .args .close)
+          (at-args .args .s .now) (at-args .args .from) 40 (at-mark-next .mark-next .result) (at-mark-next .mark-next .ensures) (at-a .a .given .0 .0)
+          (at-a .a .given .1) o ∙ name-stands true false (at-args .args .s .now) (at-a .a .given .0 .0) (at-name-next .name-next .result)
+          (at-name-next .name-next .ensures) (at-v .v .given .0 .0) (at-v .v .given .0 .1 .0) (at-v .v .given .1) round
+          ∙ ap (λ l. vertex (at-v .v .given .0 .0) ∷ l)
+          (mark-stands true true (at-args .args .s .now) (at-v .v .given .0 .1 .0) 41 (at-mark-next2 .mark-next2 .result)
+          (at-mark-next2 .mark-next2 .ensures) (c .before .q .given .0 .0) (c .before .q .given .1) none);
+    }
 
 pub vertex-spec : {M : Type 1} → statement M
 vertex-spec =

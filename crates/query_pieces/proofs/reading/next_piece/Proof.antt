@@ -24,7 +24,14 @@ ends-well-requires c κs = search needs
 
 returns : tie.Need-returns
 unfolding stepOf
-returns c = record { reads = place-ends (c .before .before .before .before .args .s .now) (c .before .before .before .before .args .place) (c .before .before .blanks-end .result) (c .before .before .blanks-end .ensures) (c .before .if1 .taken) ∙ ap stopped (sym (c .ends-well .ensures)); moves = tt; stands = tt }
+returns c =
+    let at-args = c .before .before .before .before in
+    record {
+      reads = place-ends (at-args .args .s .now) (at-args .args .place) (c .before .before .blanks-end .result)
+          (c .before .before .blanks-end .ensures) (c .before .if1 .taken) ∙ ap stopped (sym (c .ends-well .ensures));
+      moves = tt;
+      stands = tt;
+    }
 
 in-chain-requires : tie.Need-in-chain-requires
 in-chain-requires c κs = search needs
@@ -40,17 +47,46 @@ enum-told c = search needs
 
 returns-2 : tie.Need-returns-2
 unfolding stepOf
-returns-2 c = record { reads = place-broken (c .before .before .before .before .before .before .before .args .s .now) (c .before .before .before .before .before .before .before .args .place) (c .before .before .before .before .before .blanks-end .result) (c .before .before .before .before .before .blanks-end .ensures) (c .before .before .before .before .if1 .left) (c .before .before .next-sign .result) (subst (λ (x : Bool). NextSign x (c .before .before .before .before .before .before .before .args .place .close) (c .before .before .before .before .before .before .before .args .s .now) (c .before .before .before .before .before .before .before .args .place .at) (c .before .before .next-sign .result)) (c .before .before .before .in-chain .ensures) (c .before .before .next-sign .ensures)) (c .enum-told .given .1); moves = tt; stands = tt }
+returns-2 c =
+    let at-next-sign = c .before .before in
+    let at-if1 = at-next-sign .before .before in
+    let at-blanks-end = at-if1 .before in
+    let at-args = at-blanks-end .before .before in
+    record {
+      reads = place-broken (at-args .args .s .now) (at-args .args .place) (at-blanks-end .blanks-end .result) (at-blanks-end .blanks-end .ensures)
+          (at-if1 .if1 .left) (at-next-sign .next-sign .result)
+          (subst (λ (x : Bool). NextSign x (at-args .args .place .close) (at-args .args .s .now) (at-args .args .place .at)
+          (at-next-sign .next-sign .result)) (c .before .before .before .in-chain .ensures) (at-next-sign .next-sign .ensures))
+          (c .enum-told .given .1);
+      moves = tt;
+      stands = tt;
+    }
 
 piece-by-requires : tie.Need-piece-by-requires
 piece-by-requires c κs = search needs
 
 returns-3 : tie.Need-returns-3
-returns-3 c = let h = subst (λ (x : Bool). NextSign x (c .before .before .before .before .before .before .before .before .before .args .place .close) (c .before .before .before .before .before .before .before .before .before .args .s .now) (c .before .before .before .before .before .before .before .before .before .args .place .at) (c .before .before .before .before .next-sign .result)) (c .before .before .before .before .before .in-chain .ensures) (c .before .before .before .before .next-sign .ensures) in record {
-  reads = place-piece (c .before .before .before .before .before .before .before .before .before .args .s .now) (c .before .before .before .before .before .before .before .before .before .args .place) (c .before .before .before .before .before .before .before .blanks-end .result) (c .before .before .before .before .before .before .before .blanks-end .ensures) (c .before .before .before .before .before .before .if1 .left) (c .before .before .before .before .next-sign .result) h (c .before .before .t .given .0 .0) (c .before .before .t .given .0 .1 .0) (c .before .before .t .given .1) ∙ c .piece-by .ensures .reads;
-  moves = step-farther (c .before .before .before .before .before .before .before .before .before .args .place .at) (c .before .before .t .given .0 .1 .0) (c .piece-by .result) (place-moves (c .before .before .before .before .before .before .before .before .before .args .s .now) (c .before .before .before .before .before .before .before .before .before .args .place) (c .before .before .before .before .before .before .before .blanks-end .result) (c .before .before .before .before .before .before .before .blanks-end .ensures) (c .before .before .before .before .before .before .if1 .left) (c .before .before .before .before .next-sign .result) h (c .before .before .t .given .0 .0) (c .before .before .t .given .0 .1 .0) (c .before .before .t .given .1)) (c .piece-by .ensures .moves);
-  stands = step-stands (c .before .before .before .before .before .before .before .before .before .args .s .now) (c .piece-by .result) (place-stands (c .before .before .before .before .before .before .before .before .before .args .s .now) (c .before .before .before .before .before .before .before .before .before .args .place) (c .before .before .before .before .before .before .before .blanks-end .result) (c .before .before .before .before .before .before .before .blanks-end .ensures) (c .before .before .before .before .before .before .if1 .left) (c .before .before .before .before .next-sign .result) h (c .before .before .t .given .0 .0) (c .before .before .t .given .0 .1 .0) (c .before .before .t .given .1)) (c .piece-by .ensures .stands);
-}
+returns-3 c =
+    let at-t = c .before .before in
+    let at-next-sign = at-t .before .before in
+    let at-in-chain = at-next-sign .before in
+    let at-if1 = at-in-chain .before in
+    let at-blanks-end = at-if1 .before in
+    let at-args = at-blanks-end .before .before in
+    let h = subst (λ (x : Bool). NextSign x (at-args .args .place .close) (at-args .args .s .now) (at-args .args .place .at)
+    (at-next-sign .next-sign .result)) (at-in-chain .in-chain .ensures) (at-next-sign .next-sign .ensures) in record {
+      reads = place-piece (at-args .args .s .now) (at-args .args .place) (at-blanks-end .blanks-end .result) (at-blanks-end .blanks-end .ensures)
+          (at-if1 .if1 .left) (at-next-sign .next-sign .result) h (at-t .t .given .0 .0) (at-t .t .given .0 .1 .0) (at-t .t .given .1)
+          ∙ c .piece-by .ensures .reads;
+      moves = step-farther (at-args .args .place .at) (at-t .t .given .0 .1 .0) (c .piece-by .result)
+          (place-moves (at-args .args .s .now) (at-args .args .place) (at-blanks-end .blanks-end .result) (at-blanks-end .blanks-end .ensures)
+          (at-if1 .if1 .left) (at-next-sign .next-sign .result) h (at-t .t .given .0 .0) (at-t .t .given .0 .1 .0) (at-t .t .given .1))
+          (c .piece-by .ensures .moves);
+      stands = step-stands (at-args .args .s .now) (c .piece-by .result)
+          (place-stands (at-args .args .s .now) (at-args .args .place) (at-blanks-end .blanks-end .result) (at-blanks-end .blanks-end .ensures)
+          (at-if1 .if1 .left) (at-next-sign .next-sign .result) h (at-t .t .given .0 .0) (at-t .t .given .0 .1 .0) (at-t .t .given .1))
+          (c .piece-by .ensures .stands);
+    }
 
 pub next-piece-spec : {M : Type 1} → statement M
 next-piece-spec =

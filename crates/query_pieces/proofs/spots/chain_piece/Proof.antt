@@ -21,13 +21,21 @@ goes-requires : tie.Need-goes-requires
 goes-requires c κs = search needs
 
 returns : tie.Need-returns
-returns c = step-same _ _ (c .before .before .before .before .args .s .now) (c .before .before .before .before .args .q) (c .goes .result) (chain-goes (c .before .before .before .before .args .s .now) (c .before .before .before .before .args .t) (c .before .before .before .before .args .q) (sym (c .before .before .mark-code .ensures) ∙ c .before .if1 .taken)) (c .goes .ensures)
+returns c =
+    let at-args = c .before .before .before .before in
+    step-same _ _ (at-args .args .s .now) (at-args .args .q) (c .goes .result)
+    (chain-goes (at-args .args .s .now) (at-args .args .t) (at-args .args .q) (sym (c .before .before .mark-code .ensures) ∙ c .before .if1 .taken))
+    (c .goes .ensures)
 
 comes-requires : tie.Need-comes-requires
 comes-requires c κs = search needs
 
 returns-2 : tie.Need-returns-2
-returns-2 c = step-same _ _ (c .before .before .before .before .before .args .s .now) (c .before .before .before .before .before .args .q) (c .comes .result) (chain-comes (c .before .before .before .before .before .args .s .now) (c .before .before .before .before .before .args .t) (c .before .before .before .before .before .args .q) (sym (c .before .before .before .mark-code .ensures) ∙ c .before .if2 .taken)) (c .comes .ensures)
+returns-2 c =
+    let at-args = c .before .before .before .before .before in
+    step-same _ _ (at-args .args .s .now) (at-args .args .q) (c .comes .result)
+    (chain-comes (at-args .args .s .now) (at-args .args .t) (at-args .args .q)
+    (sym (c .before .before .before .mark-code .ensures) ∙ c .before .if2 .taken)) (c .comes .ensures)
 
 slice-aggregate-is-word : tie.Need-slice-aggregate-is-word
 slice-aggregate-is-word c = search needs
@@ -39,7 +47,11 @@ condition-requires : tie.Need-condition-requires
 condition-requires c κs = search needs
 
 returns-3 : tie.Need-returns-3
-returns-3 c = step-same _ _ (c .before .before .before .before .before .before .before .before .args .s .now) (c .before .before .before .before .before .before .before .before .args .q) (c .condition .result) (chain-where (c .before .before .before .before .before .before .before .before .args .s .now) (c .before .before .before .before .before .before .before .before .args .t) (c .before .before .before .before .before .before .before .before .args .q) (sym (c .before .before .is-word .ensures) ∙ c .before .if3 .taken)) (c .condition .ensures)
+returns-3 c =
+    let at-args = c .before .before .before .before .before .before .before .before in
+    step-same _ _ (at-args .args .s .now) (at-args .args .q) (c .condition .result)
+    (chain-where (at-args .args .s .now) (at-args .args .t) (at-args .args .q) (sym (c .before .before .is-word .ensures) ∙ c .before .if3 .taken))
+    (c .condition .ensures)
 
 slice-aggregate-is-word-2 : tie.Need-slice-aggregate-is-word-2
 slice-aggregate-is-word-2 c = search needs
@@ -51,7 +63,11 @@ start-requires : tie.Need-start-requires
 start-requires c κs = search needs
 
 returns-4 : tie.Need-returns-4
-returns-4 c = step-same _ _ (c .before .before .before .before .before .before .before .before .before .before .before .args .s .now) (c .before .before .before .before .before .before .before .before .before .before .before .args .q) (c .start .result) (chain-match (c .before .before .before .before .before .before .before .before .before .before .before .args .s .now) (c .before .before .before .before .before .before .before .before .before .before .before .args .t) (c .before .before .before .before .before .before .before .before .before .before .before .args .q) (sym (c .before .before .is-word2 .ensures) ∙ c .before .if4 .taken)) (c .start .ensures)
+returns-4 c =
+    let at-args = c .before .before .before .before .before .before .before .before .before .before .before in
+    step-same _ _ (at-args .args .s .now) (at-args .args .q) (c .start .result)
+    (chain-match (at-args .args .s .now) (at-args .args .t) (at-args .args .q) (sym (c .before .before .is-word2 .ensures) ∙ c .before .if4 .taken))
+    (c .start .ensures)
 
 slice-aggregate-is-word-3 : tie.Need-slice-aggregate-is-word-3
 slice-aggregate-is-word-3 c = search needs
@@ -63,11 +79,30 @@ returned-requires : tie.Need-returned-requires
 returned-requires c κs = search needs
 
 returns-5 : tie.Need-returns-5
-returns-5 c = step-same _ _ (c .before .before .before .before .before .before .before .before .before .before .before .before .before .before .args .s .now) (c .before .before .before .before .before .before .before .before .before .before .before .before .before .before .args .q) (c .returned .result) (chain-return (c .before .before .before .before .before .before .before .before .before .before .before .before .before .before .args .s .now) (c .before .before .before .before .before .before .before .before .before .before .before .before .before .before .args .t) (c .before .before .before .before .before .before .before .before .before .before .before .before .before .before .args .q) (sym (c .before .before .is-word3 .ensures) ∙ c .before .if5 .taken)) (c .returned .ensures)
+returns-5 c =
+    let at-args = c .before .before .before .before .before .before .before .before .before .before .before .before .before .before in
+    step-same _ _ (at-args .args .s .now) (at-args .args .q) (c .returned .result)
+    (chain-return (at-args .args .s .now) (at-args .args .t) (at-args .args .q) (sym (c .before .before .is-word3 .ensures) ∙ c .before .if5 .taken))
+    (c .returned .ensures)
 
 returns-6 : tie.Need-returns-6
 unfolding stepOf
-returns-6 c = record { reads = chain-none (c .before .before .before .before .before .before .before .before .before .before .before .before .before .args .s .now) (c .before .before .before .before .before .before .before .before .before .before .before .before .before .args .t) (c .before .before .before .before .before .before .before .before .before .before .before .before .before .args .q) (λ z. c .before .before .before .before .before .before .before .before .before .before .if1 .left (c .before .before .before .before .before .before .before .before .before .before .before .mark-code .ensures ∙ z)) (λ z. c .before .before .before .before .before .before .before .before .before .if2 .left (c .before .before .before .before .before .before .before .before .before .before .before .mark-code .ensures ∙ z)) (sym (c .before .before .before .before .before .before .before .is-word .ensures) ∙ c .before .before .before .before .before .before .if3 .left) (sym (c .before .before .before .before .is-word2 .ensures) ∙ c .before .before .before .if4 .left) (sym (c .before .is-word3 .ensures) ∙ c .if5 .left); moves = tt; stands = tt }
+returns-6 c =
+    let at-is-word2 = c .before .before .before .before in
+    let at-if3 = at-is-word2 .before .before in
+    let at-is-word = at-if3 .before in
+    let at-if2 = at-is-word .before .before in
+    let at-if1 = at-if2 .before in
+    let at-mark-code = at-if1 .before in
+    let at-args = at-mark-code .before .before in
+    record {
+      reads = chain-none (at-args .args .s .now) (at-args .args .t) (at-args .args .q)
+          (λ z. at-if1 .if1 .left (at-mark-code .mark-code .ensures ∙ z)) (λ z. at-if2 .if2 .left (at-mark-code .mark-code .ensures ∙ z))
+          (sym (at-is-word .is-word .ensures) ∙ at-if3 .if3 .left) (sym (at-is-word2 .is-word2 .ensures) ∙ c .before .before .before .if4 .left)
+          (sym (c .before .is-word3 .ensures) ∙ c .if5 .left);
+      moves = tt;
+      stands = tt;
+    }
 
 pub chain-piece-spec : {M : Type 1} → statement M
 chain-piece-spec =

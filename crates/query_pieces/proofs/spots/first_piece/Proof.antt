@@ -19,11 +19,22 @@ start-requires : tie.Need-start-requires
 start-requires c κs = search needs
 
 returns : tie.Need-returns
-returns c = step-same _ _ (c .before .before .before .before .before .args .s .now) (c .before .before .before .before .before .args .q) (c .start .result) (first-match (c .before .before .before .before .before .args .s .now) (c .before .before .before .before .before .args .t) (c .before .before .before .before .before .args .q) (sym (c .before .before .is-word .ensures) ∙ c .before .if1 .taken)) (c .start .ensures)
+returns c =
+    let at-args = c .before .before .before .before .before in
+    step-same _ _ (at-args .args .s .now) (at-args .args .q) (c .start .result)
+    (first-match (at-args .args .s .now) (at-args .args .t) (at-args .args .q) (sym (c .before .before .is-word .ensures) ∙ c .before .if1 .taken))
+    (c .start .ensures)
 
 returns-2 : tie.Need-returns-2
 unfolding stepOf
-returns-2 c = record { reads = first-none (c .before .before .before .before .args .s .now) (c .before .before .before .before .args .t) (c .before .before .before .before .args .q) (sym (c .before .is-word .ensures) ∙ c .if1 .left); moves = tt; stands = tt }
+returns-2 c =
+    let at-args = c .before .before .before .before in
+    record {
+      reads = first-none (at-args .args .s .now) (at-args .args .t) (at-args .args .q) (sym (c .before .is-word .ensures) ∙ c .if1 .left);
+      moves =
+          tt;
+      stands = tt;
+    }
 
 pub first-piece-spec : {M : Type 1} → statement M
 first-piece-spec =

@@ -31,19 +31,28 @@ enum-told-3 c = search needs
 
 returns : tie.Need-returns
 unfolding isWord signOf nameAt
-returns c = c .same-bytes .ensures ∙ ap (λ w. same w (c .before .before .before .before .before .before .before .args .word .now)) (c .before .part .ensures) ∙ sym (ap (λ x. isWord (c .before .before .before .before .before .before .before .args .word .now) (signOf (c .before .before .before .before .before .before .before .args .s .now) x)) (c .before .before .before .t .given .1))
+returns c =
+    let at-args = c .before .before .before .before .before .before .before in
+    c .same-bytes .ensures ∙ ap (λ w. same w (at-args .args .word .now)) (c .before .part .ensures)
+    ∙ sym (ap (λ x. isWord (at-args .args .word .now) (signOf (at-args .args .s .now) x)) (c .before .before .before .t .given .1))
 
 returns-2 : tie.Need-returns-2
 unfolding isWord signOf
-returns-2 c = sym (ap (λ x. isWord (c .before .before .before .before .args .word .now) (signOf (c .before .before .before .before .args .s .now) x)) (c .enum-told .given .1))
+returns-2 c =
+    let at-args = c .before .before .before .before in
+    sym (ap (λ x. isWord (at-args .args .word .now) (signOf (at-args .args .s .now) x)) (c .enum-told .given .1))
 
 returns-3 : tie.Need-returns-3
 unfolding isWord signOf
-returns-3 c = sym (ap (λ x. isWord (c .before .before .before .before .args .word .now) (signOf (c .before .before .before .before .args .s .now) x)) (c .enum-told2 .given .1))
+returns-3 c =
+    let at-args = c .before .before .before .before in
+    sym (ap (λ x. isWord (at-args .args .word .now) (signOf (at-args .args .s .now) x)) (c .enum-told2 .given .1))
 
 returns-4 : tie.Need-returns-4
 unfolding isWord signOf
-returns-4 c = sym (ap (λ x. isWord (c .before .before .before .before .args .word .now) (signOf (c .before .before .before .before .args .s .now) x)) (c .enum-told3 .given .1))
+returns-4 c =
+    let at-args = c .before .before .before .before in
+    sym (ap (λ x. isWord (at-args .args .word .now) (signOf (at-args .args .s .now) x)) (c .enum-told3 .given .1))
 
 pub is-word-spec : {M : Type 1} → statement M
 is-word-spec =

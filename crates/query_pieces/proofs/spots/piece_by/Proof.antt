@@ -34,16 +34,28 @@ return-piece-requires : tie.Need-return-piece-requires
 return-piece-requires c κs = search needs
 
 returns : tie.Need-returns
-returns c = step-same _ _ (c .before .before .before .before .args .s .now) (c .before .before .before .before .args .q) (c .first-piece .result) (by-spot (c .before .before .before .before .args .s .now) (c .before .before .before .before .args .t) (c .before .before .before .before .args .q) (c .before .enum-told .given .1)) (c .first-piece .ensures)
+returns c =
+    let at-args = c .before .before .before .before in
+    step-same _ _ (at-args .args .s .now) (at-args .args .q) (c .first-piece .result)
+    (by-spot (at-args .args .s .now) (at-args .args .t) (at-args .args .q) (c .before .enum-told .given .1)) (c .first-piece .ensures)
 
 returns-2 : tie.Need-returns-2
-returns-2 c = step-same _ _ (c .before .before .before .before .args .s .now) (c .before .before .before .before .args .q) (c .chain-piece .result) (by-spot (c .before .before .before .before .args .s .now) (c .before .before .before .before .args .t) (c .before .before .before .before .args .q) (c .before .enum-told2 .given .1)) (c .chain-piece .ensures)
+returns-2 c =
+    let at-args = c .before .before .before .before in
+    step-same _ _ (at-args .args .s .now) (at-args .args .q) (c .chain-piece .result)
+    (by-spot (at-args .args .s .now) (at-args .args .t) (at-args .args .q) (c .before .enum-told2 .given .1)) (c .chain-piece .ensures)
 
 returns-3 : tie.Need-returns-3
-returns-3 c = step-same _ _ (c .before .before .before .before .args .s .now) (c .before .before .before .before .args .q) (c .where-piece .result) (by-spot (c .before .before .before .before .args .s .now) (c .before .before .before .before .args .t) (c .before .before .before .before .args .q) (c .before .enum-told3 .given .1)) (c .where-piece .ensures)
+returns-3 c =
+    let at-args = c .before .before .before .before in
+    step-same _ _ (at-args .args .s .now) (at-args .args .q) (c .where-piece .result)
+    (by-spot (at-args .args .s .now) (at-args .args .t) (at-args .args .q) (c .before .enum-told3 .given .1)) (c .where-piece .ensures)
 
 returns-4 : tie.Need-returns-4
-returns-4 c = step-same _ _ (c .before .before .before .before .args .s .now) (c .before .before .before .before .args .q) (c .return-piece .result) (by-spot (c .before .before .before .before .args .s .now) (c .before .before .before .before .args .t) (c .before .before .before .before .args .q) (c .before .enum-told4 .given .1)) (c .return-piece .ensures)
+returns-4 c =
+    let at-args = c .before .before .before .before in
+    step-same _ _ (at-args .args .s .now) (at-args .args .q) (c .return-piece .result)
+    (by-spot (at-args .args .s .now) (at-args .args .t) (at-args .args .q) (c .before .enum-told4 .given .1)) (c .return-piece .ensures)
 
 pub piece-by-spec : {M : Type 1} → statement M
 piece-by-spec =

@@ -16,11 +16,21 @@ returned-requires : tie.Need-returned-requires
 returned-requires c κs = search needs
 
 returns : tie.Need-returns
-returns c = step-same _ _ (c .before .before .before .before .args .s .now) (c .before .before .before .before .args .q) (c .returned .result) (return-comma (c .before .before .before .before .args .s .now) (c .before .before .before .before .args .t) (c .before .before .before .before .args .q) (sym (c .before .before .mark-code .ensures) ∙ c .before .if1 .taken)) (c .returned .ensures)
+returns c =
+    let at-args = c .before .before .before .before in
+    step-same _ _ (at-args .args .s .now) (at-args .args .q) (c .returned .result)
+    (return-comma (at-args .args .s .now) (at-args .args .t) (at-args .args .q) (sym (c .before .before .mark-code .ensures) ∙ c .before .if1 .taken))
+    (c .returned .ensures)
 
 returns-2 : tie.Need-returns-2
 unfolding stepOf
-returns-2 c = record { reads = return-none (c .before .before .before .args .s .now) (c .before .before .before .args .t) (c .before .before .before .args .q) (λ z. c .if1 .left (c .before .mark-code .ensures ∙ z)); moves = tt; stands = tt }
+returns-2 c =
+    let at-args = c .before .before .before in
+    record {
+      reads = return-none (at-args .args .s .now) (at-args .args .t) (at-args .args .q) (λ z. c .if1 .left (c .before .mark-code .ensures ∙ z));
+      moves = tt;
+      stands = tt;
+    }
 
 pub return-piece-spec : {M : Type 1} → statement M
 return-piece-spec = tie.close (tie.spec mark-code-requires returned-requires returns returns-2)

@@ -21,7 +21,11 @@ condition-requires : tie.Need-condition-requires
 condition-requires c κs = search needs
 
 returns : tie.Need-returns
-returns c = step-same _ _ (c .before .before .before .before .before .args .s .now) (c .before .before .before .before .before .args .q) (c .condition .result) (where-and (c .before .before .before .before .before .args .s .now) (c .before .before .before .before .before .args .t) (c .before .before .before .before .before .args .q) (sym (c .before .before .is-word .ensures) ∙ c .before .if1 .taken)) (c .condition .ensures)
+returns c =
+    let at-args = c .before .before .before .before .before in
+    step-same _ _ (at-args .args .s .now) (at-args .args .q) (c .condition .result)
+    (where-and (at-args .args .s .now) (at-args .args .t) (at-args .args .q) (sym (c .before .before .is-word .ensures) ∙ c .before .if1 .taken))
+    (c .condition .ensures)
 
 slice-aggregate-is-word-2 : tie.Need-slice-aggregate-is-word-2
 slice-aggregate-is-word-2 c = search needs
@@ -33,7 +37,11 @@ start-requires : tie.Need-start-requires
 start-requires c κs = search needs
 
 returns-2 : tie.Need-returns-2
-returns-2 c = step-same _ _ (c .before .before .before .before .before .before .before .before .args .s .now) (c .before .before .before .before .before .before .before .before .args .q) (c .start .result) (where-match (c .before .before .before .before .before .before .before .before .args .s .now) (c .before .before .before .before .before .before .before .before .args .t) (c .before .before .before .before .before .before .before .before .args .q) (sym (c .before .before .is-word2 .ensures) ∙ c .before .if2 .taken)) (c .start .ensures)
+returns-2 c =
+    let at-args = c .before .before .before .before .before .before .before .before in
+    step-same _ _ (at-args .args .s .now) (at-args .args .q) (c .start .result)
+    (where-match (at-args .args .s .now) (at-args .args .t) (at-args .args .q) (sym (c .before .before .is-word2 .ensures) ∙ c .before .if2 .taken))
+    (c .start .ensures)
 
 slice-aggregate-is-word-3 : tie.Need-slice-aggregate-is-word-3
 slice-aggregate-is-word-3 c = search needs
@@ -45,11 +53,25 @@ returned-requires : tie.Need-returned-requires
 returned-requires c κs = search needs
 
 returns-3 : tie.Need-returns-3
-returns-3 c = step-same _ _ (c .before .before .before .before .before .before .before .before .before .before .before .args .s .now) (c .before .before .before .before .before .before .before .before .before .before .before .args .q) (c .returned .result) (where-return (c .before .before .before .before .before .before .before .before .before .before .before .args .s .now) (c .before .before .before .before .before .before .before .before .before .before .before .args .t) (c .before .before .before .before .before .before .before .before .before .before .before .args .q) (sym (c .before .before .is-word3 .ensures) ∙ c .before .if3 .taken)) (c .returned .ensures)
+returns-3 c =
+    let at-args = c .before .before .before .before .before .before .before .before .before .before .before in
+    step-same _ _ (at-args .args .s .now) (at-args .args .q) (c .returned .result)
+    (where-return (at-args .args .s .now) (at-args .args .t) (at-args .args .q) (sym (c .before .before .is-word3 .ensures) ∙ c .before .if3 .taken))
+    (c .returned .ensures)
 
 returns-4 : tie.Need-returns-4
 unfolding stepOf
-returns-4 c = record { reads = where-none (c .before .before .before .before .before .before .before .before .before .before .args .s .now) (c .before .before .before .before .before .before .before .before .before .before .args .t) (c .before .before .before .before .before .before .before .before .before .before .args .q) (sym (c .before .before .before .before .before .before .before .is-word .ensures) ∙ c .before .before .before .before .before .before .if1 .left) (sym (c .before .before .before .before .is-word2 .ensures) ∙ c .before .before .before .if2 .left) (sym (c .before .is-word3 .ensures) ∙ c .if3 .left); moves = tt; stands = tt }
+returns-4 c =
+    let at-is-word2 = c .before .before .before .before in
+    let at-if1 = at-is-word2 .before .before in
+    let at-is-word = at-if1 .before in
+    let at-args = at-is-word .before .before .before in
+    record {
+      reads = where-none (at-args .args .s .now) (at-args .args .t) (at-args .args .q) (sym (at-is-word .is-word .ensures) ∙ at-if1 .if1 .left)
+          (sym (at-is-word2 .is-word2 .ensures) ∙ c .before .before .before .if2 .left) (sym (c .before .is-word3 .ensures) ∙ c .if3 .left);
+      moves = tt;
+      stands = tt;
+    }
 
 pub where-piece-spec : {M : Type 1} → statement M
 where-piece-spec =

@@ -19,7 +19,11 @@ is-letter-requires : tie.Need-is-letter-requires
 is-letter-requires c κs = search needs
 
 returns : tie.Need-returns
-returns c = name-other (c .before .before .before .before .before .args .chain) (c .before .before .before .before .before .args .close) (c .before .before .before .before .before .args .s .now) (c .before .before .before .before .before .args .from) (c .before .before .before .blanks-end .result) (c .before .before .before .blanks-end .ensures) (ap isLetter (sym (c .before .before .peek .ensures)) ∙ sym (c .before .is-letter .ensures) ∙ not-true (c .before .is-letter .result) (c .if1 .taken))
+returns c =
+    let at-args = c .before .before .before .before .before in
+    name-other (at-args .args .chain) (at-args .args .close) (at-args .args .s .now) (at-args .args .from) (c .before .before .before .blanks-end .result)
+    (c .before .before .before .blanks-end .ensures)
+    (ap isLetter (sym (c .before .before .peek .ensures)) ∙ sym (c .before .is-letter .ensures) ∙ not-true (c .before .is-letter .result) (c .if1 .taken))
 
 word-requires : tie.Need-word-requires
 word-requires c κs = search needs
@@ -31,36 +35,133 @@ enum-told : tie.Need-enum-told
 enum-told c = search needs
 
 returns-2 : tie.Need-returns-2
-returns-2 c = name-long (c .before .before .before .before .before .before .before .before .args .chain) (c .before .before .before .before .before .before .before .before .args .close) (c .before .before .before .before .before .before .before .before .args .s .now) (c .before .before .before .before .before .before .before .before .args .from) (c .before .before .before .before .before .before .blanks-end .result) (c .before .before .before .before .before .before .blanks-end .ensures) (ap isLetter (sym (c .before .before .before .before .before .peek .ensures)) ∙ sym (c .before .before .before .before .is-letter .ensures) ∙ not-false (c .before .before .before .before .is-letter .result) (c .before .before .before .if1 .left)) (sym (c .enum-told .given .1) ∙ c .before .before .word .ensures)
+returns-2 c =
+    let at-is-letter = c .before .before .before .before in
+    let at-peek = at-is-letter .before in
+    let at-blanks-end = at-peek .before in
+    let at-args = at-blanks-end .before .before in
+    name-long (at-args .args .chain) (at-args .args .close) (at-args .args .s .now) (at-args .args .from) (at-blanks-end .blanks-end .result)
+    (at-blanks-end .blanks-end .ensures) (ap isLetter (sym (at-peek .peek .ensures)) ∙ sym (at-is-letter .is-letter .ensures)
+    ∙ not-false (at-is-letter .is-letter .result) (c .before .before .before .if1 .left)) (sym (c .enum-told .given .1) ∙ c .before .before .word .ensures)
 
 touches-requires : tie.Need-touches-requires
 touches-requires c κs = search needs
 
 returns-3 : tie.Need-returns-3
-returns-3 c = name-close (c .before .before .before .before .before .before .before .before .before .before .before .args .chain) (c .before .before .before .before .before .before .before .before .before .before .before .args .close) (c .before .before .before .before .before .before .before .before .before .before .before .args .s .now) (c .before .before .before .before .before .before .before .before .before .before .before .args .from) (c .before .before .before .before .before .before .before .before .before .blanks-end .result) (c .before .before .before .before .before .before .before .before .before .blanks-end .ensures) (ap isLetter (sym (c .before .before .before .before .before .before .before .before .peek .ensures)) ∙ sym (c .before .before .before .before .before .before .before .is-letter .ensures) ∙ not-false (c .before .before .before .before .before .before .before .is-letter .result) (c .before .before .before .before .before .before .if1 .left)) (c .before .before .before .q .given .0 .0) (sym (c .before .before .before .q .given .1) ∙ c .before .before .before .before .before .word .ensures) (sym (c .before .touches .ensures) ∙ c .if2 .taken)
+returns-3 c =
+    let at-word = c .before .before .before .before .before in
+    let at-if1 = at-word .before in
+    let at-is-letter = at-if1 .before in
+    let at-peek = at-is-letter .before in
+    let at-blanks-end = at-peek .before in
+    let at-args = at-blanks-end .before .before in
+    name-close (at-args .args .chain) (at-args .args .close) (at-args .args .s .now) (at-args .args .from) (at-blanks-end .blanks-end .result)
+    (at-blanks-end .blanks-end .ensures) (ap isLetter (sym (at-peek .peek .ensures)) ∙ sym (at-is-letter .is-letter .ensures)
+    ∙ not-false (at-is-letter .is-letter .result) (at-if1 .if1 .left)) (c .before .before .before .q .given .0 .0)
+    (sym (c .before .before .before .q .given .1) ∙ at-word .word .ensures) (sym (c .before .touches .ensures) ∙ c .if2 .taken)
 
 sub-is-name : tie.Need-sub-is-name
-sub-is-name c = omega (arith, name-within (c .before .before .before .before .before .before .before .before .before .before .before .args .chain) (c .before .before .before .before .before .before .before .before .before .before .before .args .close) (c .before .before .before .before .before .before .before .before .before .before .before .args .s .now) (c .before .before .before .before .before .before .before .before .before .before .before .args .from) (c .before .before .before .before .before .before .before .before .before .blanks-end .result) (c .before .before .before .before .before .before .before .before .before .blanks-end .ensures) (ap isLetter (sym (c .before .before .before .before .before .before .before .before .peek .ensures)) ∙ sym (c .before .before .before .before .before .before .before .is-letter .ensures) ∙ not-false (c .before .before .before .before .before .before .before .is-letter .result) (c .before .before .before .before .before .before .if1 .left)) (c .before .before .before .q .given .0 .0) (sym (c .before .before .before .q .given .1) ∙ c .before .before .before .before .before .word .ensures))
+sub-is-name c =
+    let at-word = c .before .before .before .before .before in
+    let at-if1 = at-word .before in
+    let at-is-letter = at-if1 .before in
+    let at-peek = at-is-letter .before in
+    let at-blanks-end = at-peek .before in
+    let at-args = at-blanks-end .before .before in
+    omega (
+      arith,
+      name-within (at-args .args .chain) (at-args .args .close) (at-args .args .s .now) (at-args .args .from)
+          (at-blanks-end .blanks-end .result) (at-blanks-end .blanks-end .ensures)
+          (ap isLetter (sym (at-peek .peek .ensures)) ∙ sym (at-is-letter .is-letter .ensures)
+          ∙ not-false (at-is-letter .is-letter .result) (at-if1 .if1 .left)) (c .before .before .before .q .given .0 .0)
+          (sym (c .before .before .before .q .given .1) ∙ at-word .word .ensures),
+    )
 
 part-is-name-start : tie.Need-part-is-name-start
-part-is-name-start c = omega (arith, name-within (c .before .before .before .before .before .before .before .before .before .before .before .args .chain) (c .before .before .before .before .before .before .before .before .before .before .before .args .close) (c .before .before .before .before .before .before .before .before .before .before .before .args .s .now) (c .before .before .before .before .before .before .before .before .before .before .before .args .from) (c .before .before .before .before .before .before .before .before .before .blanks-end .result) (c .before .before .before .before .before .before .before .before .before .blanks-end .ensures) (ap isLetter (sym (c .before .before .before .before .before .before .before .before .peek .ensures)) ∙ sym (c .before .before .before .before .before .before .before .is-letter .ensures) ∙ not-false (c .before .before .before .before .before .before .before .is-letter .result) (c .before .before .before .before .before .before .if1 .left)) (c .before .before .before .q .given .0 .0) (sym (c .before .before .before .q .given .1) ∙ c .before .before .before .before .before .word .ensures))
+part-is-name-start c =
+    let at-word = c .before .before .before .before .before in
+    let at-if1 = at-word .before in
+    let at-is-letter = at-if1 .before in
+    let at-peek = at-is-letter .before in
+    let at-blanks-end = at-peek .before in
+    let at-args = at-blanks-end .before .before in
+    omega (
+      arith,
+      name-within (at-args .args .chain) (at-args .args .close) (at-args .args .s .now) (at-args .args .from)
+          (at-blanks-end .blanks-end .result) (at-blanks-end .blanks-end .ensures)
+          (ap isLetter (sym (at-peek .peek .ensures)) ∙ sym (at-is-letter .is-letter .ensures)
+          ∙ not-false (at-is-letter .is-letter .result) (at-if1 .if1 .left)) (c .before .before .before .q .given .0 .0)
+          (sym (c .before .before .before .q .given .1) ∙ at-word .word .ensures),
+    )
 
 part-is-name-end : tie.Need-part-is-name-end
-part-is-name-end c = omega (arith, name-within (c .before .before .before .before .before .before .before .before .before .before .before .args .chain) (c .before .before .before .before .before .before .before .before .before .before .before .args .close) (c .before .before .before .before .before .before .before .before .before .before .before .args .s .now) (c .before .before .before .before .before .before .before .before .before .before .before .args .from) (c .before .before .before .before .before .before .before .before .before .blanks-end .result) (c .before .before .before .before .before .before .before .before .before .blanks-end .ensures) (ap isLetter (sym (c .before .before .before .before .before .before .before .before .peek .ensures)) ∙ sym (c .before .before .before .before .before .before .before .is-letter .ensures) ∙ not-false (c .before .before .before .before .before .before .before .is-letter .result) (c .before .before .before .before .before .before .if1 .left)) (c .before .before .before .q .given .0 .0) (sym (c .before .before .before .q .given .1) ∙ c .before .before .before .before .before .word .ensures))
+part-is-name-end c =
+    let at-word = c .before .before .before .before .before in
+    let at-if1 = at-word .before in
+    let at-is-letter = at-if1 .before in
+    let at-peek = at-is-letter .before in
+    let at-blanks-end = at-peek .before in
+    let at-args = at-blanks-end .before .before in
+    omega (
+      arith,
+      name-within (at-args .args .chain) (at-args .args .close) (at-args .args .s .now) (at-args .args .from)
+          (at-blanks-end .blanks-end .result) (at-blanks-end .blanks-end .ensures)
+          (ap isLetter (sym (at-peek .peek .ensures)) ∙ sym (at-is-letter .is-letter .ensures)
+          ∙ not-false (at-is-letter .is-letter .result) (at-if1 .if1 .left)) (c .before .before .before .q .given .0 .0)
+          (sym (c .before .before .before .q .given .1) ∙ at-word .word .ensures),
+    )
 
 is-name-requires : tie.Need-is-name-requires
 is-name-requires c κs = search needs
 
 sub-t16 : tie.Need-sub-t16
-sub-t16 c = omega (arith, name-within (c .before .before .before .before .before .before .before .before .before .before .before .before .before .before .args .chain) (c .before .before .before .before .before .before .before .before .before .before .before .before .before .before .args .close) (c .before .before .before .before .before .before .before .before .before .before .before .before .before .before .args .s .now) (c .before .before .before .before .before .before .before .before .before .before .before .before .before .before .args .from) (c .before .before .before .before .before .before .before .before .before .before .before .before .blanks-end .result) (c .before .before .before .before .before .before .before .before .before .before .before .before .blanks-end .ensures) (ap isLetter (sym (c .before .before .before .before .before .before .before .before .before .before .before .peek .ensures)) ∙ sym (c .before .before .before .before .before .before .before .before .before .before .is-letter .ensures) ∙ not-false (c .before .before .before .before .before .before .before .before .before .before .is-letter .result) (c .before .before .before .before .before .before .before .before .before .if1 .left)) (c .before .before .before .before .before .before .q .given .0 .0) (sym (c .before .before .before .before .before .before .q .given .1) ∙ c .before .before .before .before .before .before .before .before .word .ensures))
+sub-t16 c =
+    let at-q = c .before .before .before .before .before .before in
+    let at-word = at-q .before .before in
+    let at-if1 = at-word .before in
+    let at-is-letter = at-if1 .before in
+    let at-peek = at-is-letter .before in
+    let at-blanks-end = at-peek .before in
+    let at-args = at-blanks-end .before .before in
+    omega (
+      arith,
+      name-within (at-args .args .chain) (at-args .args .close) (at-args .args .s .now) (at-args .args .from)
+          (at-blanks-end .blanks-end .result) (at-blanks-end .blanks-end .ensures)
+          (ap isLetter (sym (at-peek .peek .ensures)) ∙ sym (at-is-letter .is-letter .ensures)
+          ∙ not-false (at-is-letter .is-letter .result) (at-if1 .if1 .left)) (at-q .q .given .0 .0) (sym (at-q .q .given .1) ∙ at-word .word .ensures),
+    )
 
 returns-4 : tie.Need-returns-4
 unfolding partOf
-returns-4 c = name-found (c .before .before .before .before .before .before .before .before .before .before .before .before .before .before .args .chain) (c .before .before .before .before .before .before .before .before .before .before .before .before .before .before .args .close) (c .before .before .before .before .before .before .before .before .before .before .before .before .before .before .args .s .now) (c .before .before .before .before .before .before .before .before .before .before .before .before .before .before .args .from) (c .before .before .before .before .before .before .before .before .before .before .before .before .blanks-end .result) (c .before .before .before .before .before .before .before .before .before .before .before .before .blanks-end .ensures) (ap isLetter (sym (c .before .before .before .before .before .before .before .before .before .before .before .peek .ensures)) ∙ sym (c .before .before .before .before .before .before .before .before .before .before .is-letter .ensures) ∙ not-false (c .before .before .before .before .before .before .before .before .before .before .is-letter .result) (c .before .before .before .before .before .before .before .before .before .if1 .left)) (c .before .before .before .before .before .before .q .given .0 .0) (sym (c .before .before .before .before .before .before .q .given .1) ∙ c .before .before .before .before .before .before .before .before .word .ensures) (sym (c .before .before .before .before .touches .ensures) ∙ c .before .before .before .if2 .left) (sym (c .before .is-name .ensures) ∙ c .if3 .taken)
+returns-4 c =
+    let at-touches = c .before .before .before .before in
+    let at-q = at-touches .before .before in
+    let at-word = at-q .before .before in
+    let at-if1 = at-word .before in
+    let at-is-letter = at-if1 .before in
+    let at-peek = at-is-letter .before in
+    let at-blanks-end = at-peek .before in
+    let at-args = at-blanks-end .before .before in
+    name-found (at-args .args .chain) (at-args .args .close) (at-args .args .s .now) (at-args .args .from) (at-blanks-end .blanks-end .result)
+    (at-blanks-end .blanks-end .ensures) (ap isLetter (sym (at-peek .peek .ensures)) ∙ sym (at-is-letter .is-letter .ensures)
+    ∙ not-false (at-is-letter .is-letter .result) (at-if1 .if1 .left)) (at-q .q .given .0 .0) (sym (at-q .q .given .1) ∙ at-word .word .ensures)
+    (sym (at-touches .touches .ensures) ∙ c .before .before .before .if2 .left) (sym (c .before .is-name .ensures) ∙ c .if3 .taken)
 
 returns-5 : tie.Need-returns-5
 unfolding partOf
-returns-5 c = name-reserved (c .before .before .before .before .before .before .before .before .before .before .before .before .before .before .args .chain) (c .before .before .before .before .before .before .before .before .before .before .before .before .before .before .args .close) (c .before .before .before .before .before .before .before .before .before .before .before .before .before .before .args .s .now) (c .before .before .before .before .before .before .before .before .before .before .before .before .before .before .args .from) (c .before .before .before .before .before .before .before .before .before .before .before .before .blanks-end .result) (c .before .before .before .before .before .before .before .before .before .before .before .before .blanks-end .ensures) (ap isLetter (sym (c .before .before .before .before .before .before .before .before .before .before .before .peek .ensures)) ∙ sym (c .before .before .before .before .before .before .before .before .before .before .is-letter .ensures) ∙ not-false (c .before .before .before .before .before .before .before .before .before .before .is-letter .result) (c .before .before .before .before .before .before .before .before .before .if1 .left)) (c .before .before .before .before .before .before .q .given .0 .0) (sym (c .before .before .before .before .before .before .q .given .1) ∙ c .before .before .before .before .before .before .before .before .word .ensures) (sym (c .before .before .before .before .touches .ensures) ∙ c .before .before .before .if2 .left) (sym (c .before .is-name .ensures) ∙ c .if3 .left)
+returns-5 c =
+    let at-touches = c .before .before .before .before in
+    let at-q = at-touches .before .before in
+    let at-word = at-q .before .before in
+    let at-if1 = at-word .before in
+    let at-is-letter = at-if1 .before in
+    let at-peek = at-is-letter .before in
+    let at-blanks-end = at-peek .before in
+    let at-args = at-blanks-end .before .before in
+    name-reserved (at-args .args .chain) (at-args .args .close) (at-args .args .s .now) (at-args .args .from) (at-blanks-end .blanks-end .result)
+    (at-blanks-end .blanks-end .ensures) (ap isLetter (sym (at-peek .peek .ensures)) ∙ sym (at-is-letter .is-letter .ensures)
+    ∙ not-false (at-is-letter .is-letter .result) (at-if1 .if1 .left)) (at-q .q .given .0 .0) (sym (at-q .q .given .1) ∙ at-word .word .ensures)
+    (sym (at-touches .touches .ensures) ∙ c .before .before .before .if2 .left) (sym (c .before .is-name .ensures) ∙ c .if3 .left)
 
 pub name-next-spec : {M : Type 1} → statement M
 name-next-spec =

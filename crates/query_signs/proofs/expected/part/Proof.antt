@@ -45,7 +45,9 @@ returns c = let a = c .before .before .before .args in
 
 returns-2 : tie.Need-returns-2
 unfolding partOf
-returns-2 c = part-long (c .before .before .before .args .s .now) (c .before .before .before .args .start) (c .before .before .before .args .length) (c .before .if2 .left)
+returns-2 c =
+    let at-args = c .before .before .before in
+    part-long (at-args .args .s .now) (at-args .args .start) (at-args .args .length) (c .before .if2 .left)
 
 returns-3 : tie.Need-returns-3
 unfolding partOf

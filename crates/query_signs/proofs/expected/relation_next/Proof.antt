@@ -21,7 +21,10 @@ enum-told : tie.Need-enum-told
 enum-told c = search needs
 
 returns : tie.Need-returns
-returns c = relation-end (c .before .before .before .before .args .close) (c .before .before .before .before .args .s .now) (c .before .before .before .before .args .from) (c .before .before .next-sign .result) (c .before .before .next-sign .ensures) (c .enum-told .given .1)
+returns c =
+    let at-args = c .before .before .before .before in
+    relation-end (at-args .args .close) (at-args .args .s .now) (at-args .args .from) (c .before .before .next-sign .result)
+    (c .before .before .next-sign .ensures) (c .enum-told .given .1)
 
 mark-code-requires : tie.Need-mark-code-requires
 mark-code-requires c κs = search needs
@@ -30,7 +33,14 @@ relation-or-requires : tie.Need-relation-or-requires
 relation-or-requires c κs = search needs
 
 returns-2 : tie.Need-returns-2
-returns-2 c = subst (λ r. RelationNext (c .before .before .before .before .before .before .before .args .close) (c .before .before .before .before .before .before .before .args .s .now) (c .before .before .before .before .before .before .before .args .from) r) (sym (c .relation-or .ensures ∙ ap (λ (n : ℕ). relationOr n (c .before .before .before .t .given .0 .1 .0)) (c .before .mark-code .ensures))) (relation-met (c .before .before .before .before .before .before .before .args .close) (c .before .before .before .before .before .before .before .args .s .now) (c .before .before .before .before .before .before .before .args .from) (c .before .before .before .before .before .next-sign .result) (c .before .before .before .before .before .next-sign .ensures) (c .before .before .before .t .given .0 .0) (c .before .before .before .t .given .0 .1 .0) (c .before .before .before .t .given .1))
+returns-2 c =
+    let at-t = c .before .before .before in
+    let at-next-sign = at-t .before .before in
+    let at-args = at-next-sign .before .before in
+    subst (λ r. RelationNext (at-args .args .close) (at-args .args .s .now) (at-args .args .from) r)
+    (sym (c .relation-or .ensures ∙ ap (λ (n : ℕ). relationOr n (at-t .t .given .0 .1 .0)) (c .before .mark-code .ensures)))
+    (relation-met (at-args .args .close) (at-args .args .s .now) (at-args .args .from) (at-next-sign .next-sign .result)
+    (at-next-sign .next-sign .ensures) (at-t .t .given .0 .0) (at-t .t .given .0 .1 .0) (at-t .t .given .1))
 
 pub relation-next-spec : {M : Type 1} → statement M
 relation-next-spec =

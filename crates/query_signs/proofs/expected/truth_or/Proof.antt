@@ -31,11 +31,27 @@ same-bytes-requires-2 c κs = search needs
 
 returns-2 : tie.Need-returns-2
 unfolding truthOr nameAt
-returns-2 c = rw (ap (λ w. same w (bytesOf "true")) (sym (c .before .before .before .before .before .before .part .ensures)) ∙ sym (c .before .before .before .before .same-bytes .ensures) ∙ c .before .before .before .if1 .left, ap (λ w. same w (bytesOf "false")) (sym (c .before .before .before .before .before .before .part .ensures)) ∙ sym (c .before .same-bytes2 .ensures) ∙ c .if2 .taken)
+returns-2 c =
+    let at-same-bytes = c .before .before .before .before in
+    let at-part = at-same-bytes .before .before in
+    rw (
+      ap (λ w. same w (bytesOf "true")) (sym (at-part .part .ensures)) ∙ sym (at-same-bytes .same-bytes .ensures)
+          ∙ c .before .before .before .if1 .left,
+      ap (λ w. same w (bytesOf "false")) (sym (at-part .part .ensures)) ∙ sym (c .before .same-bytes2 .ensures)
+          ∙ c .if2 .taken,
+    )
 
 returns-3 : tie.Need-returns-3
 unfolding truthOr nameAt
-returns-3 c = rw (ap (λ w. same w (bytesOf "true")) (sym (c .before .before .before .before .before .before .part .ensures)) ∙ sym (c .before .before .before .before .same-bytes .ensures) ∙ c .before .before .before .if1 .left, ap (λ w. same w (bytesOf "false")) (sym (c .before .before .before .before .before .before .part .ensures)) ∙ sym (c .before .same-bytes2 .ensures) ∙ c .if2 .left)
+returns-3 c =
+    let at-same-bytes = c .before .before .before .before in
+    let at-part = at-same-bytes .before .before in
+    rw (
+      ap (λ w. same w (bytesOf "true")) (sym (at-part .part .ensures)) ∙ sym (at-same-bytes .same-bytes .ensures)
+          ∙ c .before .before .before .if1 .left,
+      ap (λ w. same w (bytesOf "false")) (sym (at-part .part .ensures)) ∙ sym (c .before .same-bytes2 .ensures)
+          ∙ c .if2 .left,
+    )
 
 pub truth-or-spec : {M : Type 1} → statement M
 truth-or-spec =

@@ -21,7 +21,10 @@ enum-told : tie.Need-enum-told
 enum-told c = search needs
 
 returns : tie.Need-returns
-returns c = value-end (c .before .before .before .before .args .close) (c .before .before .before .before .args .s .now) (c .before .before .before .before .args .from) (c .before .before .next-sign .result) (c .before .before .next-sign .ensures) (c .enum-told .given .1)
+returns c =
+    let at-args = c .before .before .before .before in
+    value-end (at-args .args .close) (at-args .args .s .now) (at-args .args .from) (c .before .before .next-sign .result)
+    (c .before .before .next-sign .ensures) (c .enum-told .given .1)
 
 enum-known-t-2 : tie.Need-enum-known-t-2
 enum-known-t-2 c = search needs
@@ -39,16 +42,41 @@ enum-told-2 : tie.Need-enum-told-2
 enum-told-2 c = search needs
 
 returns-2 : tie.Need-returns-2
-returns-2 c = subst (λ r. ValueNext (c .before .before .before .before .before .before .before .before .before .args .close) (c .before .before .before .before .before .before .before .before .before .args .s .now) (c .before .before .before .before .before .before .before .before .before .args .from) r) (sym (c .truth-or .ensures)) (value-word (c .before .before .before .before .before .before .before .before .before .args .close) (c .before .before .before .before .before .before .before .before .before .args .s .now) (c .before .before .before .before .before .before .before .before .before .args .from) (c .before .before .before .before .before .before .before .next-sign .result) (c .before .before .before .before .before .before .before .next-sign .ensures) (c .before .before .before .before .before .t .given .0 .1 .0) (c .before .before .t2 .given .0 .0) (c .before .before .before .before .before .t .given .1 ∙ ap (λ (t : Sign). Found t (c .before .before .before .before .before .t .given .0 .1 .0)) (c .before .before .t2 .given .1)))
+returns-2 c =
+    let at-t = c .before .before .before .before .before in
+    let at-next-sign = at-t .before .before in
+    let at-args = at-next-sign .before .before in
+    subst (λ r. ValueNext (at-args .args .close) (at-args .args .s .now) (at-args .args .from) r) (sym (c .truth-or .ensures))
+    (value-word (at-args .args .close) (at-args .args .s .now) (at-args .args .from) (at-next-sign .next-sign .result)
+    (at-next-sign .next-sign .ensures) (at-t .t .given .0 .1 .0) (c .before .before .t2 .given .0 .0)
+    (at-t .t .given .1 ∙ ap (λ (t : Sign). Found t (at-t .t .given .0 .1 .0)) (c .before .before .t2 .given .1)))
 
 returns-3 : tie.Need-returns-3
-returns-3 c = value-whole (c .before .before .before .before .before .before .before .before .args .close) (c .before .before .before .before .before .before .before .before .args .s .now) (c .before .before .before .before .before .before .before .before .args .from) (c .before .before .before .before .before .before .next-sign .result) (c .before .before .before .before .before .before .next-sign .ensures) (c .before .before .before .before .t .given .0 .1 .0) (c .before .t3 .given .0 .0) (c .before .before .before .before .t .given .1 ∙ ap (λ (t : Sign). Found t (c .before .before .before .before .t .given .0 .1 .0)) (c .before .t3 .given .1))
+returns-3 c =
+    let at-t = c .before .before .before .before in
+    let at-next-sign = at-t .before .before in
+    let at-args = at-next-sign .before .before in
+    value-whole (at-args .args .close) (at-args .args .s .now) (at-args .args .from) (at-next-sign .next-sign .result) (at-next-sign .next-sign .ensures)
+    (at-t .t .given .0 .1 .0) (c .before .t3 .given .0 .0)
+    (at-t .t .given .1 ∙ ap (λ (t : Sign). Found t (at-t .t .given .0 .1 .0)) (c .before .t3 .given .1))
 
 returns-4 : tie.Need-returns-4
-returns-4 c = value-text (c .before .before .before .before .before .before .before .before .args .close) (c .before .before .before .before .before .before .before .before .args .s .now) (c .before .before .before .before .before .before .before .before .args .from) (c .before .before .before .before .before .before .next-sign .result) (c .before .before .before .before .before .before .next-sign .ensures) (c .before .before .before .before .t .given .0 .1 .0) (c .before .t4 .given .0 .0) (c .before .before .before .before .t .given .1 ∙ ap (λ (t : Sign). Found t (c .before .before .before .before .t .given .0 .1 .0)) (c .before .t4 .given .1))
+returns-4 c =
+    let at-t = c .before .before .before .before in
+    let at-next-sign = at-t .before .before in
+    let at-args = at-next-sign .before .before in
+    value-text (at-args .args .close) (at-args .args .s .now) (at-args .args .from) (at-next-sign .next-sign .result) (at-next-sign .next-sign .ensures)
+    (at-t .t .given .0 .1 .0) (c .before .t4 .given .0 .0)
+    (at-t .t .given .1 ∙ ap (λ (t : Sign). Found t (at-t .t .given .0 .1 .0)) (c .before .t4 .given .1))
 
 returns-5 : tie.Need-returns-5
-returns-5 c = value-mark (c .before .before .before .before .before .before .before .args .close) (c .before .before .before .before .before .before .before .args .s .now) (c .before .before .before .before .before .before .before .args .from) (c .before .before .before .before .before .next-sign .result) (c .before .before .before .before .before .next-sign .ensures) (c .before .before .before .t .given .0 .1 .0) (c .enum-told2 .given .0 .0) (c .before .before .before .t .given .1 ∙ ap (λ (t : Sign). Found t (c .before .before .before .t .given .0 .1 .0)) (c .enum-told2 .given .1))
+returns-5 c =
+    let at-t = c .before .before .before in
+    let at-next-sign = at-t .before .before in
+    let at-args = at-next-sign .before .before in
+    value-mark (at-args .args .close) (at-args .args .s .now) (at-args .args .from) (at-next-sign .next-sign .result) (at-next-sign .next-sign .ensures)
+    (at-t .t .given .0 .1 .0) (c .enum-told2 .given .0 .0)
+    (at-t .t .given .1 ∙ ap (λ (t : Sign). Found t (at-t .t .given .0 .1 .0)) (c .enum-told2 .given .1))
 
 pub value-next-spec : {M : Type 1} → statement M
 value-next-spec =

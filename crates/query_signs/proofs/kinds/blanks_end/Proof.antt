@@ -20,7 +20,8 @@ Inv-loop s from i₀ i = past isBlank s i ≡ past isBlank s from
 abbrev μ-loop : tie.MeasureT-loop
 μ-loop s from i₀ i = length s - i
 
-passes : (c : tie.Then1 Inv-loop μ-loop) → isBlank (peekAt (c .before .before .before .before .before .args .s .now) (c .before .before .before .loop .i)) ≡ true
+passes : (c : tie.Then1 Inv-loop μ-loop)
+    → isBlank (peekAt (c .before .before .before .before .before .args .s .now) (c .before .before .before .loop .i)) ≡ true
 passes c = ap isBlank (sym (c .before .before .peek .ensures)) ∙ sym (c .before .is-blank .ensures) ∙ c .if1 .taken
 
 loop-holds : tie.Need-loop-holds Inv-loop μ-loop
@@ -42,10 +43,15 @@ loop-less c = omega (arith, test-in isBlank (c .before .before .before .before .
 
 loop-again : tie.Need-loop-again Inv-loop μ-loop
 unfolding isBlank
-loop-again c = sym (past-step isBlank (c .before .before .before .before .before .args .s .now) (c .before .before .before .loop .i) refl (passes c)) ∙ c .before .before .before .loop .inv
+loop-again c =
+    let at-args = c .before .before .before .before .before in
+    sym (past-step isBlank (at-args .args .s .now) (c .before .before .before .loop .i) refl (passes c)) ∙ c .before .before .before .loop .inv
 
 returns : tie.Need-returns Inv-loop μ-loop
-returns c = sym (past-stop isBlank (c .before .before .before .before .before .args .s .now) (c .before .before .before .loop .i) (ap isBlank (sym (c .before .before .peek .ensures)) ∙ sym (c .before .is-blank .ensures) ∙ c .if1 .left)) ∙ c .before .before .before .loop .inv
+returns c =
+    let at-args = c .before .before .before .before .before in
+    sym (past-stop isBlank (at-args .args .s .now) (c .before .before .before .loop .i)
+    (ap isBlank (sym (c .before .before .peek .ensures)) ∙ sym (c .before .is-blank .ensures) ∙ c .if1 .left)) ∙ c .before .before .before .loop .inv
 
 pub blanks-end-spec : {M : Type 1} → statement M
 blanks-end-spec =

@@ -19,27 +19,96 @@ returns-3 c = rw (le-ltb _ 40 (c .before .before .if1 .left), lt-leb _ 41 (c .be
 
 returns-4 : tie.Need-returns-4
 unfolding isSingle
-returns-4 c = rw (le-ltb _ 40 (c .before .before .before .if1 .left), lt-leb _ 41 (c .before .before .if2 .left), le-ltb _ 44 (c .before .if3 .left), le-leb _ 46 (c .if4 .taken))
+returns-4 c = rw (
+  le-ltb _ 40 (c .before .before .before .if1 .left),
+  lt-leb _ 41 (c .before .before .if2 .left),
+  le-ltb _ 44
+      (c .before .if3 .left),
+  le-leb _ 46 (c .if4 .taken),
+)
 
 returns-5 : tie.Need-returns-5
 unfolding isSingle
-returns-5 c = rw (le-ltb _ 40 (c .before .before .before .before .if1 .left), lt-leb _ 41 (c .before .before .before .if2 .left), le-ltb _ 44 (c .before .before .if3 .left), lt-leb _ 46 (c .before .if4 .left), eq-eqb _ 58 (c .if5 .taken))
+returns-5 c =
+    let at-if1 = c .before .before .before .before in
+    rw (
+      le-ltb _ 40 (at-if1 .if1 .left),
+      lt-leb _ 41 (c .before .before .before .if2 .left),
+      le-ltb _ 44 (c .before .before .if3 .left),
+      lt-leb _ 46
+          (c .before .if4 .left),
+      eq-eqb _ 58 (c .if5 .taken),
+    )
 
 returns-6 : tie.Need-returns-6
 unfolding isSingle
-returns-6 c = rw (le-ltb _ 40 (c .before .before .before .before .before .if1 .left), lt-leb _ 41 (c .before .before .before .before .if2 .left), le-ltb _ 44 (c .before .before .before .if3 .left), lt-leb _ 46 (c .before .before .if4 .left), ne-eqb _ 58 (c .before .if5 .left), lt-ltb _ 60 (c .if6 .taken))
+returns-6 c =
+    let at-if2 = c .before .before .before .before in
+    let at-if1 = at-if2 .before in
+    rw (
+      le-ltb _ 40 (at-if1 .if1 .left),
+      lt-leb _ 41 (at-if2 .if2 .left),
+      le-ltb _ 44 (c .before .before .before .if3 .left),
+      lt-leb _ 46
+          (c .before .before .if4 .left),
+      ne-eqb _ 58 (c .before .if5 .left),
+      lt-ltb _ 60 (c .if6 .taken),
+    )
 
 returns-7 : tie.Need-returns-7
 unfolding isSingle
-returns-7 c = rw (le-ltb _ 40 (c .before .before .before .before .before .before .if1 .left), lt-leb _ 41 (c .before .before .before .before .before .if2 .left), le-ltb _ 44 (c .before .before .before .before .if3 .left), lt-leb _ 46 (c .before .before .before .if4 .left), ne-eqb _ 58 (c .before .before .if5 .left), le-ltb _ 60 (c .before .if6 .left), le-leb _ 62 (c .if7 .taken))
+returns-7 c =
+    let at-if3 = c .before .before .before .before in
+    let at-if2 = at-if3 .before in
+    let at-if1 = at-if2 .before in
+    rw (
+      le-ltb _ 40 (at-if1 .if1 .left),
+      lt-leb _ 41 (at-if2 .if2 .left),
+      le-ltb _ 44 (at-if3 .if3 .left),
+      lt-leb _ 46
+          (c .before .before .before .if4 .left),
+      ne-eqb _ 58 (c .before .before .if5 .left),
+      le-ltb _ 60 (c .before .if6 .left),
+      le-leb _ 62 (c .if7 .taken),
+    )
 
 returns-8 : tie.Need-returns-8
 unfolding isSingle
-returns-8 c = rw (le-ltb _ 40 (c .before .before .before .before .before .before .before .if1 .left), lt-leb _ 41 (c .before .before .before .before .before .before .if2 .left), le-ltb _ 44 (c .before .before .before .before .before .if3 .left), lt-leb _ 46 (c .before .before .before .before .if4 .left), ne-eqb _ 58 (c .before .before .before .if5 .left), le-ltb _ 60 (c .before .before .if6 .left), lt-leb _ 62 (c .before .if7 .left), eq-eqb _ 91 (c .if8 .taken))
+returns-8 c =
+    let at-if4 = c .before .before .before .before in
+    let at-if3 = at-if4 .before in
+    let at-if2 = at-if3 .before in
+    let at-if1 = at-if2 .before in
+    rw (
+      le-ltb _ 40 (at-if1 .if1 .left),
+      lt-leb _ 41 (at-if2 .if2 .left),
+      le-ltb _ 44 (at-if3 .if3 .left),
+      lt-leb _ 46 (at-if4 .if4 .left),
+      ne-eqb _ 58
+          (c .before .before .before .if5 .left),
+      le-ltb _ 60 (c .before .before .if6 .left),
+      lt-leb _ 62 (c .before .if7 .left),
+      eq-eqb _ 91 (c .if8 .taken),
+    )
 
 returns-9 : tie.Need-returns-9
 unfolding isSingle
-returns-9 c = rw (le-ltb _ 40 (c .before .before .before .before .before .before .before .if1 .left), lt-leb _ 41 (c .before .before .before .before .before .before .if2 .left), le-ltb _ 44 (c .before .before .before .before .before .if3 .left), lt-leb _ 46 (c .before .before .before .before .if4 .left), ne-eqb _ 58 (c .before .before .before .if5 .left), le-ltb _ 60 (c .before .before .if6 .left), lt-leb _ 62 (c .before .if7 .left), ne-eqb _ 91 (c .if8 .left))
+returns-9 c =
+    let at-if4 = c .before .before .before .before in
+    let at-if3 = at-if4 .before in
+    let at-if2 = at-if3 .before in
+    let at-if1 = at-if2 .before in
+    rw (
+      le-ltb _ 40 (at-if1 .if1 .left),
+      lt-leb _ 41 (at-if2 .if2 .left),
+      le-ltb _ 44 (at-if3 .if3 .left),
+      lt-leb _ 46 (at-if4 .if4 .left),
+      ne-eqb _ 58
+          (c .before .before .before .if5 .left),
+      le-ltb _ 60 (c .before .before .if6 .left),
+      lt-leb _ 62 (c .before .if7 .left),
+      ne-eqb _ 91 (c .if8 .left),
+    )
 
 pub is-single-spec : {M : Type 1} → statement M
 is-single-spec =

@@ -12,7 +12,13 @@ mark-at-requires : tie.Need-mark-at-requires
 mark-at-requires c κs = search needs
 
 returns : tie.Need-returns
-returns c = record { got = mark-missing (c .before .before .before .args .s .now) (c .before .before .before .args .at) (c .before .before .before .args .chain) (c .before .mark-at .result) (c .before .mark-at .ensures) (c .if1 .taken); part = tt }
+returns c =
+    let at-args = c .before .before .before in
+    record {
+      got = mark-missing (at-args .args .s .now) (at-args .args .at) (at-args .args .chain) (c .before .mark-at .result)
+          (c .before .mark-at .ensures) (c .if1 .taken);
+      part = tt;
+    }
 
 mark-size-requires : tie.Need-mark-size-requires
 mark-size-requires c κs = search needs
@@ -21,7 +27,13 @@ add-t8 : tie.Need-add-t8
 add-t8 c = omega (arith, c .mark-size .ensures, mark-small (c .before .before .mark-at .result))
 
 returns-2 : tie.Need-returns-2
-returns-2 c = record { got = mark-found (c .before .before .before .before .args .s .now) (c .before .before .before .before .args .at) (c .before .before .before .before .args .chain) (c .before .before .mark-at .result) (c .mark-size .result) (c .before .before .mark-at .ensures) (c .mark-size .ensures) (c .before .if1 .left); part = tt }
+returns-2 c =
+    let at-args = c .before .before .before .before in
+    record {
+      got = mark-found (at-args .args .s .now) (at-args .args .at) (at-args .args .chain) (c .before .before .mark-at .result)
+          (c .mark-size .result) (c .before .before .mark-at .ensures) (c .mark-size .ensures) (c .before .if1 .left);
+      part = tt;
+    }
 
 pub mark-sign-spec : {M : Type 1} → statement M
 mark-sign-spec = tie.close (tie.spec mark-at-requires returns mark-size-requires add-t8 returns-2)

@@ -17,10 +17,18 @@ enum-told : tie.Need-enum-told
 enum-told c = search needs
 
 returns : tie.Need-returns
-returns c = record { got = whole-none (c .before .before .before .before .args .s .now) (c .before .before .before .before .args .at) (sym (c .enum-told .given .1) ∙ c .before .before .whole .ensures); part = tt }
+returns c =
+    let at-args = c .before .before .before .before in
+    record { got = whole-none (at-args .args .s .now) (at-args .args .at) (sym (c .enum-told .given .1) ∙ c .before .before .whole .ensures); part = tt }
 
 returns-2 : tie.Need-returns-2
-returns-2 c = record { got = whole-found (c .before .before .before .before .before .args .s .now) (c .before .before .before .before .before .args .at) (c .before .n .given .0 .0) (c .before .n .given .0 .1 .0) (sym (c .before .n .given .1) ∙ c .before .before .before .whole .ensures); part = tt }
+returns-2 c =
+    let at-args = c .before .before .before .before .before in
+    record {
+      got = whole-found (at-args .args .s .now) (at-args .args .at) (c .before .n .given .0 .0) (c .before .n .given .0 .1 .0)
+          (sym (c .before .n .given .1) ∙ c .before .before .before .whole .ensures);
+      part = tt;
+    }
 
 pub number-sign-spec : {M : Type 1} → statement M
 number-sign-spec = tie.close (tie.spec whole-requires enum-known-n enum-told returns returns-2)

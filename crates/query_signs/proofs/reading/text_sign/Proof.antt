@@ -19,19 +19,40 @@ enum-told : tie.Need-enum-told
 enum-told c = search needs
 
 returns : tie.Need-returns
-returns c = record { got = text-none (c .before .before .before .before .args .s .now) (c .before .before .before .before .args .at) (sym (c .enum-told .given .1) ∙ c .before .before .text-value .ensures); part = tt }
+returns c =
+    let at-args = c .before .before .before .before in
+    record { got = text-none (at-args .args .s .now) (at-args .args .at) (sym (c .enum-told .given .1) ∙ c .before .before .text-value .ensures); part = tt }
 
 add-t5 : tie.Need-add-t5
 add-t5 c = search needs
 
 sub-t6 : tie.Need-sub-t6
-sub-t6 c = omega (arith, text-behind (c .before .before .before .before .before .args .s .now) (c .before .before .before .before .before .args .at) (c .before .q .given .0 .0) (sym (c .before .q .given .1) ∙ c .before .before .before .text-value .ensures))
+sub-t6 c =
+    let at-args = c .before .before .before .before .before in
+    omega (
+      arith,
+      text-behind (at-args .args .s .now) (at-args .args .at) (c .before .q .given .0 .0)
+          (sym (c .before .q .given .1) ∙ c .before .before .before .text-value .ensures),
+    )
 
 sub-t7 : tie.Need-sub-t7
-sub-t7 c = omega (arith, text-behind (c .before .before .before .before .before .args .s .now) (c .before .before .before .before .before .args .at) (c .before .q .given .0 .0) (sym (c .before .q .given .1) ∙ c .before .before .before .text-value .ensures))
+sub-t7 c =
+    let at-args = c .before .before .before .before .before in
+    omega (
+      arith,
+      text-behind (at-args .args .s .now) (at-args .args .at) (c .before .q .given .0 .0)
+          (sym (c .before .q .given .1) ∙ c .before .before .before .text-value .ensures),
+    )
 
 returns-2 : tie.Need-returns-2
-returns-2 c = record { got = text-found (c .before .before .before .before .before .args .s .now) (c .before .before .before .before .before .args .at) (c .before .q .given .0 .0) (sym (c .before .q .given .1) ∙ c .before .before .before .text-value .ensures); part = text-part (c .before .before .before .before .before .args .s .now) (c .before .before .before .before .before .args .at) (c .before .q .given .0 .0) (sym (c .before .q .given .1) ∙ c .before .before .before .text-value .ensures) }
+returns-2 c =
+    let at-args = c .before .before .before .before .before in
+    record {
+      got = text-found (at-args .args .s .now) (at-args .args .at) (c .before .q .given .0 .0)
+          (sym (c .before .q .given .1) ∙ c .before .before .before .text-value .ensures);
+      part = text-part (at-args .args .s .now) (at-args .args .at)
+          (c .before .q .given .0 .0) (sym (c .before .q .given .1) ∙ c .before .before .before .text-value .ensures);
+    }
 
 pub text-sign-spec : {M : Type 1} → statement M
 text-sign-spec =

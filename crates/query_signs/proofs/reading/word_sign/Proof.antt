@@ -18,13 +18,24 @@ enum-told : tie.Need-enum-told
 enum-told c = search needs
 
 returns : tie.Need-returns
-returns c = record { got = word-none (c .before .before .before .before .args .s .now) (c .before .before .before .before .args .at) (sym (c .enum-told .given .1) ∙ c .before .before .word .ensures); part = tt }
+returns c =
+    let at-args = c .before .before .before .before in
+    record { got = word-none (at-args .args .s .now) (at-args .args .at) (sym (c .enum-told .given .1) ∙ c .before .before .word .ensures); part = tt }
 
 sub-t5 : tie.Need-sub-t5
-sub-t5 c = end-behind (c .before .before .before .before .before .args .at) (c .before .q .given .0 .0) _ (sym (c .before .q .given .1) ∙ c .before .before .before .word .ensures)
+sub-t5 c =
+    let at-args = c .before .before .before .before .before in
+    end-behind (at-args .args .at) (c .before .q .given .0 .0) _ (sym (c .before .q .given .1) ∙ c .before .before .before .word .ensures)
 
 returns-2 : tie.Need-returns-2
-returns-2 c = record { got = word-found (c .before .before .before .before .before .args .s .now) (c .before .before .before .before .before .args .at) (c .before .q .given .0 .0) (sym (c .before .q .given .1) ∙ c .before .before .before .word .ensures); part = word-part (c .before .before .before .before .before .args .s .now) (c .before .before .before .before .before .args .at) (c .before .q .given .0 .0) (sym (c .before .q .given .1) ∙ c .before .before .before .word .ensures) }
+returns-2 c =
+    let at-args = c .before .before .before .before .before in
+    record {
+      got = word-found (at-args .args .s .now) (at-args .args .at) (c .before .q .given .0 .0)
+          (sym (c .before .q .given .1) ∙ c .before .before .before .word .ensures);
+      part = word-part (at-args .args .s .now) (at-args .args .at)
+          (c .before .q .given .0 .0) (sym (c .before .q .given .1) ∙ c .before .before .before .word .ensures);
+    }
 
 pub word-sign-spec : {M : Type 1} → statement M
 word-sign-spec = tie.close (tie.spec word-requires enum-known-q enum-told returns sub-t5 returns-2)

@@ -25,10 +25,18 @@ enum-known-next : tie.Need-enum-known-next Inv-loop μ-loop
 enum-known-next c = search needs
 
 loop-less : tie.Need-loop-less Inv-loop μ-loop
-loop-less c = let h = placed-at (c .before .before .before .before .before .before .before .args .s .now) (c .before .before .before .before .before .loop .i) _ (ap claimAt (sym (c .before .before .before .claim .ensures) ∙ c .before .next .given .1)) (claim-placed (c .before .before .before .before .before .before .before .args .s .now) (c .before .before .before .before .before .loop .i)) in omega (arith, h .onward)
+loop-less c =
+    let at-loop = c .before .before .before .before .before in
+    let at-args = at-loop .before .before in
+    let h = placed-at (at-args .args .s .now) (at-loop .loop .i) _
+    (ap claimAt (sym (c .before .before .before .claim .ensures) ∙ c .before .next .given .1))
+    (claim-placed (at-args .args .s .now) (at-loop .loop .i)) in omega (arith, h .onward)
 
 loop-again : tie.Need-loop-again Inv-loop μ-loop
-loop-again c = read-on (c .before .before .before .before .before .before .before .args .s .now) (c .before .before .before .before .before .loop .i) (sym (c .before .next .given .1) ∙ c .before .before .before .claim .ensures) ∙ c .before .before .before .before .before .loop .inv
+loop-again c =
+    let at-loop = c .before .before .before .before .before in
+    let at-args = at-loop .before .before in
+    read-on (at-args .args .s .now) (at-loop .loop .i) (sym (c .before .next .given .1) ∙ c .before .before .before .claim .ensures) ∙ at-loop .loop .inv
 
 enum-known-e : tie.Need-enum-known-e Inv-loop μ-loop
 enum-known-e c = search needs
@@ -37,13 +45,21 @@ only-spaces-requires : tie.Need-only-spaces-requires Inv-loop μ-loop
 only-spaces-requires c κs = search needs
 
 returns : tie.Need-returns Inv-loop μ-loop
-returns c = c .only-spaces .ensures ∙ read-closed (c .before .before .before .before .before .before .before .before .args .s .now) (c .before .before .before .before .before .before .loop .i) (sym (c .before .before .e .given .1) ∙ c .before .before .before .before .claim .ensures) ∙ c .before .before .before .before .before .before .loop .inv
+returns c =
+    let at-claim = c .before .before .before .before in
+    let at-loop = at-claim .before .before in
+    let at-args = at-loop .before .before in
+    c .only-spaces .ensures ∙ read-closed (at-args .args .s .now) (at-loop .loop .i) (sym (c .before .before .e .given .1) ∙ at-claim .claim .ensures)
+    ∙ at-loop .loop .inv
 
 enum-told : tie.Need-enum-told Inv-loop μ-loop
 enum-told c = search needs
 
 returns-2 : tie.Need-returns-2 Inv-loop μ-loop
-returns-2 c = read-broken (c .before .before .before .before .before .before .args .s .now) (c .before .before .before .before .loop .i) (sym (c .enum-told .given .1) ∙ c .before .before .claim .ensures) ∙ c .before .before .before .before .loop .inv
+returns-2 c =
+    let at-loop = c .before .before .before .before in
+    let at-args = at-loop .before .before in
+    read-broken (at-args .args .s .now) (at-loop .loop .i) (sym (c .enum-told .given .1) ∙ c .before .before .claim .ensures) ∙ at-loop .loop .inv
 
 returns-3 : tie.Need-returns-3 Inv-loop μ-loop
 returns-3 c = read-over (c .before .before .before .args .s .now) (c .before .loop .i) (c .loop-test .left) ∙ c .before .loop .inv

@@ -13,7 +13,8 @@ claim-at-requires : tie.Need-claim-at-requires
 claim-at-requires c κs = search needs
 
 returns : tie.Need-returns
-returns c = let a = c .before .before .before .args in let e = c .claim-at .ensures ∙ ap claimAt (c .before .claim .ensures) in record { is = e; placed = subst (ClaimPlaced (a .s .now) (a .from)) (sym e) (claim-placed (a .s .now) (a .from)) }
+returns c = let a = c .before .before .before .args in let e = c .claim-at .ensures ∙ ap claimAt (c .before .claim .ensures) in
+    record { is = e; placed = subst (ClaimPlaced (a .s .now) (a .from)) (sym e) (claim-placed (a .s .now) (a .from)) }
 
 pub next-claim-spec : {M : Type 1} → statement M
 next-claim-spec = tie.close (tie.spec claim-requires claim-at-requires returns)

@@ -17,10 +17,14 @@ mul-count-2 : tie.Need-mul-count-2
 mul-count-2 c = omega (arith, c .before .before .before .pre .0 .few, c .before .before .before .pre .1)
 
 shared-slice-read-count : tie.Need-shared-slice-read-count
-shared-slice-read-count c = omega (arith, c .before .before .before .before .pre .0 .few, c .before .before .before .before .pre .1, c .before .before .before .before .pre .0 .room)
+shared-slice-read-count c =
+    let at-pre = c .before .before .before .before in
+    omega (arith, at-pre .pre .0 .few, at-pre .pre .1, at-pre .pre .0 .room)
 
 cast-count : tie.Need-cast-count
-cast-count c = let h = c .before .before .before .before .pre .0 .each (c .before .before .before .before .args .k) (c .before .before .before .before .pre .1) in omega (arith, h .few-actors)
+cast-count c =
+    let at-pre = c .before .before .before .before in
+    let h = at-pre .pre .0 .each (at-pre .args .k) (at-pre .pre .1) in omega (arith, h .few-actors)
 
 mul-at : tie.Need-mul-at
 mul-at c = omega (arith, c .before .before .before .before .pre .0 .few, c .before .before .before .before .pre .1)
@@ -32,11 +36,17 @@ add-at-2 : tie.Need-add-at-2
 add-at-2 c = omega (arith, c .before .before .before .before .pre .0 .few, c .before .before .before .before .pre .1)
 
 find-name-requires : tie.Need-find-name-requires
-find-name-requires c κs = let h = c .before .before .before .before .pre .0 .each (c .before .before .before .before .args .k) (c .before .before .before .before .pre .1) in (h .actors, omega (arith, h .few-actors, c .before .before .before .before .pre .0 .few, c .before .before .before .before .pre .1, c .before .before .before .before .pre .0 .room))
+find-name-requires c κs =
+    let at-pre = c .before .before .before .before in
+    let h = at-pre .pre .0 .each (at-pre .args .k) (at-pre .pre .1) in
+    (h .actors, omega (arith, h .few-actors, at-pre .pre .0 .few, at-pre .pre .1, at-pre .pre .0 .room))
 
 returns : tie.Need-returns
 unfolding actorsAt
-returns c = let a = c .before .before .before .before .before .args in named-test (a .rules .now) (a .table .now) (actorsFrom (a .k)) (wordAt (a .table .now) (actorCountAt (a .k))) (a .name .now) _ (c .find-name .ensures)
+returns c =
+    let at-args = c .before .before .before .before .before in
+    let a = at-args .args in named-test (a .rules .now) (a .table .now) (actorsFrom (a .k)) (wordAt (a .table .now) (actorCountAt (a .k))) (a .name .now) _
+    (c .find-name .ensures)
 
 pub is-actor-spec : {M : Type 1} → statement M
 is-actor-spec =

@@ -10,7 +10,11 @@ find-node-requires : tie.Need-find-node-requires
 find-node-requires c κs = search needs
 
 returns : tie.Need-returns
-returns c = let a = c .before .before .before .before .before .args in rw (node-names (a .book .now) (a .words .now) (a .counts)) (named-test (a .book .now) (a .words .now) nodeNames (a .counts .nodes) (a .name .now) _ (rw (node-names (a .book .now) (a .words .now) (a .counts)) at (c .before .find-node .ensures)))
+returns c =
+    let at-args = c .before .before .before .before .before in
+    let a = at-args .args in rw (node-names (a .book .now) (a .words .now) (a .counts))
+    (named-test (a .book .now) (a .words .now) nodeNames (a .counts .nodes) (a .name .now) _
+    (rw (node-names (a .book .now) (a .words .now) (a .counts)) at (c .before .find-node .ensures)))
 
 pub is-node-spec : {M : Type 1} → statement M
 is-node-spec = tie.close (tie.spec find-node-requires returns)

@@ -30,19 +30,35 @@ refused-requires : tie.Need-refused-requires
 refused-requires c κs = search needs
 
 returns : tie.Need-returns
-returns c = let a = c .before .before .before .before .before .before .before .before .before .args in reads-refused (a .counts .nodes) (a .rules .now) (a .table .now) (a .sizes .categories) (fed (a .s .now)) _ 3 1 _ (c .refused .ensures) (line-broken (bookAt (a .book .now) (a .words .now) (a .counts)) (rulesAt (a .rules .now) (a .table .now) (a .sizes)) (a .s .now) accepted (form-none (a .s .now) (andThen (lineItems (a .s .now)) requestLine) _ (c .before .enum-told .given .1) (c .before .before .before .request-form .ensures)))
+returns c =
+    let at-args = c .before .before .before .before .before .before .before .before .before in
+    let a = at-args .args in reads-refused (a .counts .nodes) (a .rules .now) (a .table .now) (a .sizes .categories) (fed (a .s .now)) _ 3 1 _
+    (c .refused .ensures) (line-broken (bookAt (a .book .now) (a .words .now) (a .counts)) (rulesAt (a .rules .now) (a .table .now) (a .sizes))
+    (a .s .now) accepted (form-none (a .s .now) (andThen (lineItems (a .s .now)) requestLine) _ (c .before .enum-told .given .1)
+    (c .before .before .before .request-form .ensures)))
 
 sub-find-name : tie.Need-sub-find-name
-sub-find-name c = let a = c .before .before .before .before .before .before .before .before .before .args in let h = form-at (a .s .now) (andThen (lineItems (a .s .now)) requestLine) _ (c .before .p .given .1) (c .before .before .before .request-form .ensures) in omega (arith, h .places .some, h .places .inside)
+sub-find-name c =
+    let at-args = c .before .before .before .before .before .before .before .before .before in
+    let a = at-args .args in let h = form-at (a .s .now) (andThen (lineItems (a .s .now)) requestLine) _ (c .before .p .given .1)
+    (c .before .before .before .request-form .ensures) in omega (arith, h .places .some, h .places .inside)
 
 part-find-name-start : tie.Need-part-find-name-start
-part-find-name-start c = let a = c .before .before .before .before .before .before .before .before .before .args in let h = form-at (a .s .now) (andThen (lineItems (a .s .now)) requestLine) _ (c .before .p .given .1) (c .before .before .before .request-form .ensures) in omega (arith, h .places .some, h .places .inside)
+part-find-name-start c =
+    let at-args = c .before .before .before .before .before .before .before .before .before in
+    let a = at-args .args in let h = form-at (a .s .now) (andThen (lineItems (a .s .now)) requestLine) _ (c .before .p .given .1)
+    (c .before .before .before .request-form .ensures) in omega (arith, h .places .some, h .places .inside)
 
 part-find-name-end : tie.Need-part-find-name-end
-part-find-name-end c = let a = c .before .before .before .before .before .before .before .before .before .args in let h = form-at (a .s .now) (andThen (lineItems (a .s .now)) requestLine) _ (c .before .p .given .1) (c .before .before .before .request-form .ensures) in omega (arith, h .places .some, h .places .inside)
+part-find-name-end c =
+    let at-args = c .before .before .before .before .before .before .before .before .before in
+    let a = at-args .args in let h = form-at (a .s .now) (andThen (lineItems (a .s .now)) requestLine) _ (c .before .p .given .1)
+    (c .before .before .before .request-form .ensures) in omega (arith, h .places .some, h .places .inside)
 
 find-name-requires : tie.Need-find-name-requires
-find-name-requires c κs = (c .before .before .before .before .before .before .before .before .before .before .pre .1 .named, omega (arith, c .before .before .before .before .before .before .before .before .before .before .pre .1 .few, c .before .before .before .before .before .before .before .before .before .before .pre .1 .room))
+find-name-requires c κs =
+    let at-pre = c .before .before .before .before .before .before .before .before .before .before in
+    (at-pre .pre .1 .named, omega (arith, at-pre .pre .1 .few, at-pre .pre .1 .room))
 
 request-fault-requires : tie.Need-request-fault-requires
 request-fault-requires c κs = c .before .before .before .before .before .before .before .before .before .before .before .pre
@@ -52,22 +68,59 @@ refused-requires-2 c κs = search needs
 
 returns-2 : tie.Need-returns-2
 unfolding partOf
-returns-2 c = let a = c .before .before .before .before .before .before .before .before .before .before .before .before .before .before .args in let h = form-at (a .s .now) (andThen (lineItems (a .s .now)) requestLine) _ (c .before .before .before .before .before .before .p .given .1) (c .before .before .before .before .before .before .before .before .request-form .ensures) in
-    reads-refused (a .counts .nodes) (a .rules .now) (a .table .now) (a .sizes .categories) (fed (a .s .now)) _ _ 1 _ (c .refused2 .ensures) (line-faulty (bookAt (a .book .now) (a .words .now) (a .counts)) (rulesAt (a .rules .now) (a .table .now) (a .sizes)) (a .s .now) accepted (lineOf (a .s .now) (c .before .before .before .before .before .before .p .given .0 .0) (c .before .before .before .before .before .before .p .given .0 .1 .0) (h .claims)) _ (h .is) (c .before .before .request-fault .ensures (partOf (a .s .now) (c .before .before .before .before .before .before .p .given .0 .0) ((c .before .before .before .before .before .before .p .given .0 .1 .0) - (c .before .before .before .before .before .before .p .given .0 .0))) (h .claims) (c .before .before .before .find-name .ensures) (h .are)) (c .before .if1 .taken))
+returns-2 c =
+    let at-p = c .before .before .before .before .before .before in
+    let at-request-form = at-p .before .before in
+    let at-args = at-request-form .before .before .before .before .before .before in
+    let a = at-args .args in let h = form-at (a .s .now) (andThen (lineItems (a .s .now)) requestLine) _ (at-p .p .given .1)
+    (at-request-form .request-form .ensures) in
+    reads-refused (a .counts .nodes) (a .rules .now) (a .table .now) (a .sizes .categories) (fed (a .s .now)) _ _ 1 _ (c .refused2 .ensures)
+    (line-faulty (bookAt (a .book .now) (a .words .now) (a .counts)) (rulesAt (a .rules .now) (a .table .now) (a .sizes)) (a .s .now) accepted
+    (lineOf (a .s .now) (at-p .p .given .0 .0) (at-p .p .given .0 .1 .0) (h .claims)) _ (h .is)
+    (c .before .before .request-fault .ensures (partOf (a .s .now) (at-p .p .given .0 .0) ((at-p .p .given .0 .1 .0) - (at-p .p .given .0 .0)))
+    (h .claims) (c .before .before .before .find-name .ensures) (h .are)) (c .before .if1 .taken))
 
 identities-requires : tie.Need-identities-requires
 unfolding partOf
-identities-requires c κs = let a = c .before .before .before .before .before .before .before .before .before .before .before .before .before .args in let h = form-at (a .s .now) (andThen (lineItems (a .s .now)) requestLine) _ (c .before .before .before .before .before .p .given .1) (c .before .before .before .before .before .before .before .request-form .ensures) in
-    let f = no-fault _ _ (c .before .request-fault .ensures (partOf (a .s .now) (c .before .before .before .before .before .p .given .0 .0) ((c .before .before .before .before .before .p .given .0 .1 .0) - (c .before .before .before .before .before .p .given .0 .0))) (h .claims) (c .before .before .find-name .ensures) (h .are)) (c .if1 .left) in
-    let z = faultless (a .rules .now) (a .table .now) (a .sizes) (c .before .before .before .before .before .before .before .before .before .before .before .before .before .pre .1) (bookAt (a .book .now) (a .words .now) (a .counts)) (partOf (a .s .now) (c .before .before .before .before .before .p .given .0 .0) ((c .before .before .before .before .before .p .given .0 .1 .0) - (c .before .before .before .before .before .p .given .0 .0))) (c .before .before .find-name .result) (c .before .before .find-name .ensures) (h .claims) f in
-    (c .before .before .before .before .before .before .before .before .before .before .before .before .before .pre .0, claims-asked (a .rules .now) (a .table .now) (a .sizes) (c .before .before .before .before .before .before .before .before .before .before .before .before .before .pre .1) (bookAt (a .book .now) (a .words .now) (a .counts)) (c .before .before .find-name .result) (z .0) (a .s .now) (c .before .before .before .before .before .p .given .0 .1 .0) (h .claims) (h .are) (z .1) (z .2))
+identities-requires c κs =
+    let at-find-name = c .before .before in
+    let at-p = at-find-name .before .before .before in
+    let at-request-form = at-p .before .before in
+    let at-pre = at-request-form .before .before .before .before .before .before in
+    let a = at-pre .args in let h = form-at (a .s .now) (andThen (lineItems (a .s .now)) requestLine) _ (at-p .p .given .1)
+    (at-request-form .request-form .ensures) in
+    let f = no-fault _ _ (c .before .request-fault .ensures
+    (partOf (a .s .now) (at-p .p .given .0 .0) ((at-p .p .given .0 .1 .0) - (at-p .p .given .0 .0))) (h .claims) (at-find-name .find-name .ensures)
+    (h .are)) (c .if1 .left) in
+    let z = faultless (a .rules .now) (a .table .now) (a .sizes) (at-pre .pre .1) (bookAt (a .book .now) (a .words .now) (a .counts))
+    (partOf (a .s .now) (at-p .p .given .0 .0) ((at-p .p .given .0 .1 .0) - (at-p .p .given .0 .0))) (at-find-name .find-name .result)
+    (at-find-name .find-name .ensures) (h .claims) f in (
+      at-pre .pre .0,
+      claims-asked (a .rules .now) (a .table .now) (a .sizes) (at-pre .pre .1) (bookAt (a .book .now) (a .words .now) (a .counts))
+          (at-find-name .find-name .result) (z .0) (a .s .now) (at-p .p .given .0 .1 .0) (h .claims) (h .are) (z .1) (z .2),
+    )
 
 returns-3 : tie.Need-returns-3
 unfolding partOf
-returns-3 c = let a = c .before .before .before .before .before .before .before .before .before .before .before .before .before .before .before .args in let h = form-at (a .s .now) (andThen (lineItems (a .s .now)) requestLine) _ (c .before .before .before .before .before .before .before .p .given .1) (c .before .before .before .before .before .before .before .before .before .request-form .ensures) in
-    let f = no-fault _ _ (c .before .before .before .request-fault .ensures (partOf (a .s .now) (c .before .before .before .before .before .before .before .p .given .0 .0) ((c .before .before .before .before .before .before .before .p .given .0 .1 .0) - (c .before .before .before .before .before .before .before .p .given .0 .0))) (h .claims) (c .before .before .before .before .find-name .ensures) (h .are)) (c .before .before .if1 .left) in
-    let z = faultless (a .rules .now) (a .table .now) (a .sizes) (c .before .before .before .before .before .before .before .before .before .before .before .before .before .before .before .pre .1) (bookAt (a .book .now) (a .words .now) (a .counts)) (partOf (a .s .now) (c .before .before .before .before .before .before .before .p .given .0 .0) ((c .before .before .before .before .before .before .before .p .given .0 .1 .0) - (c .before .before .before .before .before .before .before .p .given .0 .0))) (c .before .before .before .before .find-name .result) (c .before .before .before .before .find-name .ensures) (h .claims) f in
-    accepts-line (bookAt (a .book .now) (a .words .now) (a .counts)) (rulesAt (a .rules .now) (a .table .now) (a .sizes)) (a .counts .nodes) (a .rules .now) (a .table .now) (a .sizes .categories) (a .s .now) (c .before .before .before .before .before .before .before .p .given .0 .0) (c .before .before .before .before .before .before .before .p .given .0 .1 .0) (c .before .before .before .before .find-name .result) (h .claims) (c .before .identities .result) (h .is) f (is-named (a .rules .now) (a .table .now) (a .sizes) (c .before .before .before .before .before .before .before .before .before .before .before .before .before .before .before .pre .1) (bookAt (a .book .now) (a .words .now) (a .counts)) (partOf (a .s .now) (c .before .before .before .before .before .before .before .p .given .0 .0) ((c .before .before .before .before .before .before .before .p .given .0 .1 .0) - (c .before .before .before .before .before .before .before .p .given .0 .0))) (c .before .before .before .before .find-name .result) (c .before .before .before .before .find-name .ensures) (h .claims) (z .0)) (z .0) (c .before .identities .ensures (h .claims) (h .are)) (h .words)
+returns-3 c =
+    let at-find-name = c .before .before .before .before in
+    let at-p = at-find-name .before .before .before in
+    let at-request-form = at-p .before .before in
+    let at-pre = at-request-form .before .before .before .before .before .before in
+    let a = at-pre .args in let h = form-at (a .s .now) (andThen (lineItems (a .s .now)) requestLine) _ (at-p .p .given .1)
+    (at-request-form .request-form .ensures) in
+    let f = no-fault _ _ (c .before .before .before .request-fault .ensures
+    (partOf (a .s .now) (at-p .p .given .0 .0) ((at-p .p .given .0 .1 .0) - (at-p .p .given .0 .0))) (h .claims) (at-find-name .find-name .ensures)
+    (h .are)) (c .before .before .if1 .left) in
+    let z = faultless (a .rules .now) (a .table .now) (a .sizes) (at-pre .pre .1) (bookAt (a .book .now) (a .words .now) (a .counts))
+    (partOf (a .s .now) (at-p .p .given .0 .0) ((at-p .p .given .0 .1 .0) - (at-p .p .given .0 .0))) (at-find-name .find-name .result)
+    (at-find-name .find-name .ensures) (h .claims) f in
+    accepts-line (bookAt (a .book .now) (a .words .now) (a .counts)) (rulesAt (a .rules .now) (a .table .now) (a .sizes)) (a .counts .nodes)
+    (a .rules .now) (a .table .now) (a .sizes .categories) (a .s .now) (at-p .p .given .0 .0) (at-p .p .given .0 .1 .0)
+    (at-find-name .find-name .result) (h .claims) (c .before .identities .result) (h .is) f
+    (is-named (a .rules .now) (a .table .now) (a .sizes) (at-pre .pre .1) (bookAt (a .book .now) (a .words .now) (a .counts))
+    (partOf (a .s .now) (at-p .p .given .0 .0) ((at-p .p .given .0 .1 .0) - (at-p .p .given .0 .0))) (at-find-name .find-name .result)
+    (at-find-name .find-name .ensures) (h .claims) (z .0)) (z .0) (c .before .identities .ensures (h .claims) (h .are)) (h .words)
 
 pub read-line-spec : {M : Type 1} → statement M
 read-line-spec =

@@ -17,7 +17,11 @@ refused-requires : tie.Need-refused-requires
 refused-requires c κs = search needs
 
 returns : tie.Need-returns
-returns c = let a = c .before .before .before .before .before .before .before .before .args in reads-refused (a .counts .nodes) (a .rules .now) (a .table .now) (a .sizes .categories) (a .text .now) _ 3 1 _ (c .refused .ensures) (no-feed (bookAt (a .book .now) (a .words .now) (a .counts)) (rulesAt (a .rules .now) (a .table .now) (a .sizes)) (a .text .now) _ (c .before .before .line-end .ensures) (c .before .if1 .taken))
+returns c =
+    let at-args = c .before .before .before .before .before .before .before .before in
+    let a = at-args .args in reads-refused (a .counts .nodes) (a .rules .now) (a .table .now) (a .sizes .categories) (a .text .now) _ 3 1 _
+    (c .refused .ensures) (no-feed (bookAt (a .book .now) (a .words .now) (a .counts)) (rulesAt (a .rules .now) (a .table .now) (a .sizes))
+    (a .text .now) _ (c .before .before .line-end .ensures) (c .before .if1 .taken))
 
 sub-read-line : tie.Need-sub-read-line
 sub-read-line c = search needs
@@ -45,19 +49,48 @@ refused-requires-2 c κs = search needs
 
 returns-2 : tie.Need-returns-2
 unfolding partOf
-returns-2 c = let a = c .before .before .before .before .before .before .before .before .before .before .before .before .before .args in
-    reads-refused (a .counts .nodes) (a .rules .now) (a .table .now) (a .sizes .categories) (a .text .now) _ 3 2 _ (c .refused2 .ensures) (followed (bookAt (a .book .now) (a .words .now) (a .counts)) (rulesAt (a .rules .now) (a .table .now) (a .sizes)) (a .text .now) _ (c .before .before .before .before .before .before .before .line-end .ensures) (c .before .before .before .before .before .before .if1 .left) (c .before .if2 .taken) ∙ second-line (a .counts .nodes) (a .rules .now) (a .table .now) (a .sizes .categories) (fed (partOf (a .text .now) 0 (c .before .before .before .before .before .before .before .line-end .result - 0))) _ _ (c .before .before .before .before .read-line .ensures) (c .before .before .enum-told2 .given .1))
+returns-2 c =
+    let at-read-line = c .before .before .before .before in
+    let at-if1 = at-read-line .before .before in
+    let at-line-end = at-if1 .before in
+    let at-args = at-line-end .before .before .before .before .before .before in
+    let a = at-args .args in
+    reads-refused (a .counts .nodes) (a .rules .now) (a .table .now) (a .sizes .categories) (a .text .now) _ 3 2 _ (c .refused2 .ensures)
+    (followed (bookAt (a .book .now) (a .words .now) (a .counts)) (rulesAt (a .rules .now) (a .table .now) (a .sizes)) (a .text .now) _
+    (at-line-end .line-end .ensures) (at-if1 .if1 .left) (c .before .if2 .taken)
+    ∙ second-line (a .counts .nodes) (a .rules .now) (a .table .now) (a .sizes .categories)
+    (fed (partOf (a .text .now) 0 (at-line-end .line-end .result - 0))) _ _ (at-read-line .read-line .ensures) (c .before .before .enum-told2 .given .1))
 
 returns-3 : tie.Need-returns-3
 unfolding partOf
-returns-3 c = let a = c .before .before .before .before .before .before .before .before .before .before .before .args in
-    reads-as (a .counts .nodes) (a .rules .now) (a .table .now) (a .sizes .categories) (a .text .now) _ _ (c .before .before .read-line .result) (first-of (bookAt (a .book .now) (a .words .now) (a .counts)) (rulesAt (a .rules .now) (a .table .now) (a .sizes)) (a .text .now) _ (c .before .before .before .before .before .line-end .ensures) (c .before .before .before .before .if1 .left)) (still-refused (a .counts .nodes) (a .rules .now) (a .table .now) (a .sizes .categories) (fed (partOf (a .text .now) 0 (c .before .before .before .before .before .line-end .result - 0))) _ (c .before .before .read-line .result) (c .before .before .read-line .ensures) (a .text .now) _ _ (c .enum-told .given .1))
+returns-3 c =
+    let at-read-line = c .before .before in
+    let at-if1 = at-read-line .before .before in
+    let at-line-end = at-if1 .before in
+    let at-args = at-line-end .before .before .before .before .before .before in
+    let a = at-args .args in
+    reads-as (a .counts .nodes) (a .rules .now) (a .table .now) (a .sizes .categories) (a .text .now) _ _ (at-read-line .read-line .result)
+    (first-of (bookAt (a .book .now) (a .words .now) (a .counts)) (rulesAt (a .rules .now) (a .table .now) (a .sizes)) (a .text .now) _
+    (at-line-end .line-end .ensures) (at-if1 .if1 .left))
+    (still-refused (a .counts .nodes) (a .rules .now) (a .table .now) (a .sizes .categories)
+    (fed (partOf (a .text .now) 0 (at-line-end .line-end .result - 0))) _ (at-read-line .read-line .result) (at-read-line .read-line .ensures)
+    (a .text .now) _ _ (c .enum-told .given .1))
 
 returns-4 : tie.Need-returns-4
 unfolding partOf
-returns-4 c = let a = c .before .before .before .before .before .before .before .before .before .before .before .before .args in
-    reads-as (a .counts .nodes) (a .rules .now) (a .table .now) (a .sizes .categories) (a .text .now) _ _ (c .before .before .before .read-line .result) (alone (bookAt (a .book .now) (a .words .now) (a .counts)) (rulesAt (a .rules .now) (a .table .now) (a .sizes)) (a .text .now) _ (c .before .before .before .before .before .before .line-end .ensures) (c .before .before .before .before .before .if1 .left) (c .if2 .left))
-    (reads-in (a .counts .nodes) (a .rules .now) (a .table .now) (a .sizes .categories) (fed (partOf (a .text .now) 0 (c .before .before .before .before .before .before .line-end .result - 0))) (a .text .now) _ (c .before .before .before .read-line .result) (whole-text (bookAt (a .book .now) (a .words .now) (a .counts)) (rulesAt (a .rules .now) (a .table .now) (a .sizes)) (a .text .now) _ (c .before .before .before .before .before .before .line-end .ensures) (c .before .before .before .before .before .if1 .left) (c .if2 .left)) (c .before .before .before .read-line .ensures))
+returns-4 c =
+    let at-read-line = c .before .before .before in
+    let at-if1 = at-read-line .before .before in
+    let at-line-end = at-if1 .before in
+    let at-args = at-line-end .before .before .before .before .before .before in
+    let a = at-args .args in
+    reads-as (a .counts .nodes) (a .rules .now) (a .table .now) (a .sizes .categories) (a .text .now) _ _ (at-read-line .read-line .result)
+    (alone (bookAt (a .book .now) (a .words .now) (a .counts)) (rulesAt (a .rules .now) (a .table .now) (a .sizes)) (a .text .now) _
+    (at-line-end .line-end .ensures) (at-if1 .if1 .left) (c .if2 .left))
+    (reads-in (a .counts .nodes) (a .rules .now) (a .table .now) (a .sizes .categories) (fed (partOf (a .text .now) 0 (at-line-end .line-end .result - 0)))
+    (a .text .now) _ (at-read-line .read-line .result)
+    (whole-text (bookAt (a .book .now) (a .words .now) (a .counts)) (rulesAt (a .rules .now) (a .table .now) (a .sizes)) (a .text .now) _
+    (at-line-end .line-end .ensures) (at-if1 .if1 .left) (c .if2 .left)) (at-read-line .read-line .ensures))
 
 pub read-one-spec : {M : Type 1} → statement M
 read-one-spec =

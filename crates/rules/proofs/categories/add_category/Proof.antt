@@ -35,13 +35,22 @@ add-store-names-4 : tie.Need-add-store-names-4
 add-store-names-4 c = search needs
 
 store-names-requires-2 : tie.Need-store-names-requires-2
-store-names-requires-2 c κs = let g = c .before .before .before .before .before .before .before .before .pre in let d = clear-of _ _ _ _ _ _ _ _ _ g in let st = c .before .before .before .store-names .ensures (g .actors) (g .actors-are) .1 in
+store-names-requires-2 c κs =
+    let at-pre = c .before .before .before .before .before .before .before .before in
+    let g = at-pre .pre in let d = clear-of _ _ _ _ _ _ _ _ _ g in let st = c .before .before .before .store-names .ensures (g .actors) (g .actors-are) .1 in
     (record { read = g .over; is = g .over-are; room = omega (arith, d .few, d .few-over, g .fits .room, st .size) }, omega (arith, g .line .inside, g .short))
 
 lower-set-requires : tie.Need-lower-set-requires
-lower-set-requires c κs = let a = c .before .before .before .before .before .before .before .before .before .before .before .before .args in let g = c .before .before .before .before .before .before .before .before .before .before .before .before .pre in let d = clear-of _ _ _ _ _ _ _ _ _ g in let st1 = c .before .before .before .before .before .before .before .store-names .ensures (g .actors) (g .actors-are) in let st2 = c .before .before .before .store-names2 .ensures (g .over) (g .over-are) in
-    subst (LowerAsked (a .text .now) (c .before .before .before .store-names2 .last .0) (a .counts .categories)) (sym (st2 .0))
-    (lower-asked (a .text .now) (a .words .now) (c .before .before .before .before .before .before .before .store-names .last .0) (c .before .before .before .store-names2 .last .0) (a .counts) (a .s .now) (a .base) (a .p) (a .q) (g .actors .names) (g .over .names) (g .fits) (g .line) (g .places) d (st1 .1) (st2 .1))
+lower-set-requires c κs =
+    let at-store-names2 = c .before .before .before in
+    let at-store-names = at-store-names2 .before .before .before .before in
+    let at-pre = at-store-names .before .before .before .before .before in
+    let a = at-pre .args in let g = at-pre .pre in let d = clear-of _ _ _ _ _ _ _ _ _ g in
+    let st1 = at-store-names .store-names .ensures (g .actors) (g .actors-are) in
+    let st2 = at-store-names2 .store-names2 .ensures (g .over) (g .over-are) in
+    subst (LowerAsked (a .text .now) (at-store-names2 .store-names2 .last .0) (a .counts .categories)) (sym (st2 .0))
+    (lower-asked (a .text .now) (a .words .now) (at-store-names .store-names .last .0) (at-store-names2 .store-names2 .last .0) (a .counts) (a .s .now)
+    (a .base) (a .p) (a .q) (g .actors .names) (g .over .names) (g .fits) (g .line) (g .places) d (st1 .1) (st2 .1))
 
 add-name : tie.Need-add-name
 add-name c = search needs
@@ -59,7 +68,12 @@ cast-name : tie.Need-cast-name
 cast-name c = search needs
 
 store-category-requires : tie.Need-store-category-requires
-store-category-requires c κs = let g = c .before .before .before .before .before .before .before .before .before .before .before .before .before .before .pre in let d = clear-of _ _ _ _ _ _ _ _ _ g in let st1 = c .before .before .before .before .before .before .before .before .before .store-names .ensures (g .actors) (g .actors-are) in let st2 = c .before .before .before .before .before .store-names2 .ensures (g .over) (g .over-are) in
+store-category-requires c κs =
+    let at-store-names2 = c .before .before .before .before .before in
+    let at-store-names = at-store-names2 .before .before .before .before in
+    let at-pre = at-store-names .before .before .before .before .before in
+    let g = at-pre .pre in let d = clear-of _ _ _ _ _ _ _ _ _ g in let st1 = at-store-names .store-names .ensures (g .actors) (g .actors-are) in
+    let st2 = at-store-names2 .store-names2 .ensures (g .over) (g .over-are) in
     (omega (arith, g .fits .room, st1 .1 .size, st2 .1 .size), d .few, omega (arith, d .few-actors, st1 .0), omega (arith, d .few-over, st2 .0))
 
 add-t17 : tie.Need-add-t17
@@ -69,11 +83,22 @@ same-length : tie.Need-same-length
 same-length c = search needs
 
 returns : tie.Need-returns
-returns c = let a = c .before .before .before .before .before .before .before .before .before .before .before .before .before .before .before .before .before .args in let g = c .before .before .before .before .before .before .before .before .before .before .before .before .before .before .before .before .before .pre in let d = clear-of _ _ _ _ _ _ _ _ _ g in let st1 = c .before .before .before .before .before .before .before .before .before .before .before .before .store-names .ensures (g .actors) (g .actors-are) in let st2 = c .before .before .before .before .before .before .before .before .store-names2 .ensures (g .over) (g .over-are) in
+returns c =
+    let at-lower-set = c .before .before .before .before in
+    let at-store-names2 = at-lower-set .before .before .before .before in
+    let at-store-names = at-store-names2 .before .before .before .before in
+    let at-pre = at-store-names .before .before .before .before .before in
+    let a = at-pre .args in let g = at-pre .pre in let d = clear-of _ _ _ _ _ _ _ _ _ g in
+    let st1 = at-store-names .store-names .ensures (g .actors) (g .actors-are) in
+    let st2 = at-store-names2 .store-names2 .ensures (g .over) (g .over-are) in
     added-of (a .text .now) (a .words .now) (a .counts) (a .s .now) (a .base) (a .p) (a .q) (a .a) (a .o) g _
-    (category-done (a .text .now) (a .words .now) (c .before .before .before .before .before .before .before .before .before .before .before .before .store-names .last .0) (c .before .before .before .before .before .before .before .before .store-names2 .last .0) (a .counts) (a .s .now) (a .base) (a .p) (a .q) (g .actors .names) (g .over .names) (g .fits) (g .line) (g .places) d (st1 .1) (st2 .1)
-    (c .before .before .before .before .lower-set .result) (λ m. c .before .before .before .before .lower-set .ensures m ∙ ap (λ (n : ℕ). eqb m (a .counts .categories) || belowSome (a .text .now) (c .before .before .before .before .before .before .before .before .store-names2 .last .0) (a .counts .categories) m (namesAt (a .text .now) (c .before .before .before .before .before .before .before .before .store-names2 .last .0) (overFrom (a .counts .categories)) n)) (st2 .0))
-    _ (c .before .before .before .before .before .before .before .before .before .before .before .before .store-names .result) (c .before .before .before .before .before .before .before .before .store-names2 .result) (st1 .0) (st2 .0) (c .before .before .store-category .ensures))
+    (category-done (a .text .now) (a .words .now) (at-store-names .store-names .last .0) (at-store-names2 .store-names2 .last .0) (a .counts) (a .s .now)
+    (a .base) (a .p) (a .q) (g .actors .names) (g .over .names) (g .fits) (g .line) (g .places) d (st1 .1) (st2 .1)
+    (at-lower-set .lower-set .result) (λ m. at-lower-set .lower-set .ensures m
+    ∙ ap (λ (n : ℕ). eqb m (a .counts .categories)
+    || belowSome (a .text .now) (at-store-names2 .store-names2 .last .0) (a .counts .categories) m
+    (namesAt (a .text .now) (at-store-names2 .store-names2 .last .0) (overFrom (a .counts .categories)) n)) (st2 .0))
+    _ (at-store-names .store-names .result) (at-store-names2 .store-names2 .result) (st1 .0) (st2 .0) (c .before .before .store-category .ensures))
 
 pub add-category-spec : {M : Type 1} → statement M
 add-category-spec =

@@ -16,7 +16,9 @@ enum-told : tie.Need-enum-told
 enum-told c = search needs
 
 returns : tie.Need-returns
-returns c = category-unnamed (c .before .before .before .before .args .s .now) (c .before .before .before .before .args .from) (sym (c .enum-told .given .1) ∙ c .before .before .next-name .ensures .is)
+returns c =
+    let at-args = c .before .before .before .before in
+    category-unnamed (at-args .args .s .now) (at-args .args .from) (sym (c .enum-told .given .1) ∙ c .before .before .next-name .ensures .is)
 
 slice-aggregate-names-list : tie.Need-slice-aggregate-names-list
 slice-aggregate-names-list c = search needs
@@ -31,7 +33,12 @@ enum-told-2 : tie.Need-enum-told-2
 enum-told-2 c = search needs
 
 returns-2 : tie.Need-returns-2
-returns-2 c = category-no-actors (c .before .before .before .before .before .before .before .before .before .args .s .now) (c .before .before .before .before .before .before .before .before .before .args .from) (sym (c .before .before .before .before .before .p .given .1) ∙ c .before .before .before .before .before .before .before .next-name .ensures .is) (list-not _ _ _ _ (c .enum-told2 .given .1) (c .before .before .names-list .ensures))
+returns-2 c =
+    let at-p = c .before .before .before .before .before in
+    let at-next-name = at-p .before .before in
+    let at-args = at-next-name .before .before in
+    category-no-actors (at-args .args .s .now) (at-args .args .from) (sym (at-p .p .given .1) ∙ at-next-name .next-name .ensures .is)
+    (list-not _ _ _ _ (c .enum-told2 .given .1) (c .before .before .names-list .ensures))
 
 slice-aggregate-names-list-2 : tie.Need-slice-aggregate-names-list-2
 slice-aggregate-names-list-2 c = search needs
@@ -46,16 +53,43 @@ enum-told-3 : tie.Need-enum-told-3
 enum-told-3 c = search needs
 
 returns-3 : tie.Need-returns-3
-returns-3 c = category-no-over (c .before .before .before .before .before .before .before .before .before .before .before .before .before .before .args .s .now) (c .before .before .before .before .before .before .before .before .before .before .before .before .before .before .args .from) (sym (c .before .before .before .before .before .before .before .before .before .before .p .given .1) ∙ c .before .before .before .before .before .before .before .before .before .before .before .before .next-name .ensures .is) (list-at _ _ _ _ (c .before .before .before .before .before .a .given .1) (c .before .before .before .before .before .before .before .names-list .ensures)) (list-not _ _ _ _ (c .enum-told3 .given .1) (c .before .before .names-list2 .ensures))
+returns-3 c =
+    let at-a = c .before .before .before .before .before in
+    let at-names-list = at-a .before .before in
+    let at-p = at-names-list .before .before .before in
+    let at-next-name = at-p .before .before in
+    let at-args = at-next-name .before .before in
+    category-no-over (at-args .args .s .now) (at-args .args .from) (sym (at-p .p .given .1) ∙ at-next-name .next-name .ensures .is)
+    (list-at _ _ _ _ (at-a .a .given .1) (at-names-list .names-list .ensures))
+    (list-not _ _ _ _ (c .enum-told3 .given .1) (c .before .before .names-list2 .ensures))
 
 form-closes-requires : tie.Need-form-closes-requires
 form-closes-requires c κs = search needs
 
 returns-4 : tie.Need-returns-4
-returns-4 c = category-read (c .before .before .before .before .before .before .before .before .before .before .before .before .before .before .before .before .before .args .s .now) (c .before .before .before .before .before .before .before .before .before .before .before .before .before .before .before .before .before .args .from) (sym (c .before .before .before .before .before .before .before .before .before .before .before .before .before .p .given .1) ∙ c .before .before .before .before .before .before .before .before .before .before .before .before .before .before .before .next-name .ensures .is) (list-at _ _ _ _ (c .before .before .before .before .before .before .before .before .a .given .1) (c .before .before .before .before .before .before .before .before .before .before .names-list .ensures)) (list-at _ _ _ _ (c .before .before .before .o .given .1) (c .before .before .before .before .before .names-list2 .ensures)) (placed-at _ _ _ (c .before .before .before .before .before .before .before .before .before .before .before .before .before .p .given .1) (c .before .before .before .before .before .before .before .before .before .before .before .before .before .before .before .next-name .ensures .placed)) (sym (c .before .form-closes .ensures) ∙ c .if1 .taken)
+returns-4 c =
+    let at-names-list2 = c .before .before .before .before .before in
+    let at-a = at-names-list2 .before .before .before in
+    let at-names-list = at-a .before .before in
+    let at-p = at-names-list .before .before .before in
+    let at-next-name = at-p .before .before in
+    let at-args = at-next-name .before .before in
+    category-read (at-args .args .s .now) (at-args .args .from) (sym (at-p .p .given .1) ∙ at-next-name .next-name .ensures .is)
+    (list-at _ _ _ _ (at-a .a .given .1) (at-names-list .names-list .ensures))
+    (list-at _ _ _ _ (c .before .before .before .o .given .1) (at-names-list2 .names-list2 .ensures))
+    (placed-at _ _ _ (at-p .p .given .1) (at-next-name .next-name .ensures .placed)) (sym (c .before .form-closes .ensures) ∙ c .if1 .taken)
 
 returns-5 : tie.Need-returns-5
-returns-5 c = category-open (c .before .before .before .before .before .before .before .before .before .before .before .before .before .before .before .before .before .args .s .now) (c .before .before .before .before .before .before .before .before .before .before .before .before .before .before .before .before .before .args .from) (sym (c .before .before .before .before .before .before .before .before .before .before .before .before .before .p .given .1) ∙ c .before .before .before .before .before .before .before .before .before .before .before .before .before .before .before .next-name .ensures .is) (list-at _ _ _ _ (c .before .before .before .before .before .before .before .before .a .given .1) (c .before .before .before .before .before .before .before .before .before .before .names-list .ensures)) (list-at _ _ _ _ (c .before .before .before .o .given .1) (c .before .before .before .before .before .names-list2 .ensures)) (sym (c .before .form-closes .ensures) ∙ c .if1 .left)
+returns-5 c =
+    let at-names-list2 = c .before .before .before .before .before in
+    let at-a = at-names-list2 .before .before .before in
+    let at-names-list = at-a .before .before in
+    let at-p = at-names-list .before .before .before in
+    let at-next-name = at-p .before .before in
+    let at-args = at-next-name .before .before in
+    category-open (at-args .args .s .now) (at-args .args .from) (sym (at-p .p .given .1) ∙ at-next-name .next-name .ensures .is)
+    (list-at _ _ _ _ (at-a .a .given .1) (at-names-list .names-list .ensures))
+    (list-at _ _ _ _ (c .before .before .before .o .given .1) (at-names-list2 .names-list2 .ensures)) (sym (c .before .form-closes .ensures) ∙ c .if1 .left)
 
 pub category-form-spec : {M : Type 1} → statement M
 category-form-spec =

@@ -15,7 +15,9 @@ enum-told : tie.Need-enum-told
 enum-told c = search needs
 
 returns : tie.Need-returns
-returns c = list-none (c .before .before .before .before .before .args .head .now) (c .before .before .before .before .before .args .s .now) (c .before .before .before .before .before .args .from) (sym (c .enum-told .given .1) ∙ c .before .before .headed .ensures)
+returns c =
+    let at-args = c .before .before .before .before .before in
+    list-none (at-args .args .head .now) (at-args .args .s .now) (at-args .args .from) (sym (c .enum-told .given .1) ∙ c .before .before .headed .ensures)
 
 names-end-requires : tie.Need-names-end-requires
 names-end-requires c κs = search needs
@@ -27,10 +29,20 @@ enum-told-2 : tie.Need-enum-told-2
 enum-told-2 c = search needs
 
 returns-2 : tie.Need-returns-2
-returns-2 c = list-broken (c .before .before .before .before .before .before .before .before .before .args .head .now) (c .before .before .before .before .before .before .before .before .before .args .s .now) (c .before .before .before .before .before .before .before .before .before .args .from) (sym (c .before .before .before .before .a .given .1) ∙ c .before .before .before .before .before .before .headed .ensures) (sym (c .enum-told2 .given .1) ∙ c .before .before .names-end .ensures)
+returns-2 c =
+    let at-a = c .before .before .before .before in
+    let at-headed = at-a .before .before in
+    let at-args = at-headed .before .before .before in
+    list-broken (at-args .args .head .now) (at-args .args .s .now) (at-args .args .from) (sym (at-a .a .given .1) ∙ at-headed .headed .ensures)
+    (sym (c .enum-told2 .given .1) ∙ c .before .before .names-end .ensures)
 
 returns-3 : tie.Need-returns-3
-returns-3 c = list-read (c .before .before .before .before .before .before .before .before .before .before .args .head .now) (c .before .before .before .before .before .before .before .before .before .before .args .s .now) (c .before .before .before .before .before .before .before .before .before .before .args .from) (sym (c .before .before .before .before .before .a .given .1) ∙ c .before .before .before .before .before .before .before .headed .ensures) (sym (c .before .e .given .1) ∙ c .before .before .before .names-end .ensures)
+returns-3 c =
+    let at-a = c .before .before .before .before .before in
+    let at-headed = at-a .before .before in
+    let at-args = at-headed .before .before .before in
+    list-read (at-args .args .head .now) (at-args .args .s .now) (at-args .args .from) (sym (at-a .a .given .1) ∙ at-headed .headed .ensures)
+    (sym (c .before .e .given .1) ∙ c .before .before .before .names-end .ensures)
 
 pub names-list-spec : {M : Type 1} → statement M
 names-list-spec =

@@ -17,7 +17,9 @@ enum-told : tie.Need-enum-told
 enum-told c = search needs
 
 returns : tie.Need-returns
-returns c = policy-unnamed (c .before .before .before .before .args .s .now) (c .before .before .before .before .args .from) (sym (c .enum-told .given .1) ∙ c .before .before .next-name .ensures .is)
+returns c =
+    let at-args = c .before .before .before .before in
+    policy-unnamed (at-args .args .s .now) (at-args .args .from) (sym (c .enum-told .given .1) ∙ c .before .before .next-name .ensures .is)
 
 next-quoted-requires : tie.Need-next-quoted-requires
 next-quoted-requires c κs = search needs
@@ -29,19 +31,41 @@ enum-told-2 : tie.Need-enum-told-2
 enum-told-2 c = search needs
 
 returns-2 : tie.Need-returns-2
-returns-2 c = policy-no-text (c .before .before .before .before .before .before .before .before .args .s .now) (c .before .before .before .before .before .before .before .before .args .from) (sym (c .before .before .before .before .p .given .1) ∙ c .before .before .before .before .before .before .next-name .ensures .is) (sym (c .enum-told2 .given .1) ∙ c .before .before .next-quoted .ensures .is)
+returns-2 c =
+    let at-p = c .before .before .before .before in
+    let at-next-name = at-p .before .before in
+    let at-args = at-next-name .before .before in
+    policy-no-text (at-args .args .s .now) (at-args .args .from) (sym (at-p .p .given .1) ∙ at-next-name .next-name .ensures .is)
+    (sym (c .enum-told2 .given .1) ∙ c .before .before .next-quoted .ensures .is)
 
 add-form-closes : tie.Need-add-form-closes
-add-form-closes c = let h = quoted-at (c .before .before .before .before .before .before .before .before .before .args .s .now) _ (c .before .t .given .1) (c .before .before .before .next-quoted .ensures .placed) in omega (arith, h .inside)
+add-form-closes c =
+    let at-args = c .before .before .before .before .before .before .before .before .before in
+    let h = quoted-at (at-args .args .s .now) _ (c .before .t .given .1) (c .before .before .before .next-quoted .ensures .placed) in omega (arith, h .inside)
 
 form-closes-requires : tie.Need-form-closes-requires
 form-closes-requires c κs = search needs
 
 returns-3 : tie.Need-returns-3
-returns-3 c = policy-read (c .before .before .before .before .before .before .before .before .before .before .before .args .s .now) (c .before .before .before .before .before .before .before .before .before .before .before .args .from) (sym (c .before .before .before .before .before .before .before .p .given .1) ∙ c .before .before .before .before .before .before .before .before .before .next-name .ensures .is) (sym (c .before .before .before .t .given .1) ∙ c .before .before .before .before .before .next-quoted .ensures .is) (placed-at _ _ _ (c .before .before .before .before .before .before .before .p .given .1) (c .before .before .before .before .before .before .before .before .before .next-name .ensures .placed)) (quoted-at _ _ (c .before .before .before .t .given .1) (c .before .before .before .before .before .next-quoted .ensures .placed)) (sym (c .before .form-closes .ensures) ∙ c .if1 .taken)
+returns-3 c =
+    let at-next-quoted = c .before .before .before .before .before in
+    let at-p = at-next-quoted .before .before in
+    let at-next-name = at-p .before .before in
+    let at-args = at-next-name .before .before in
+    policy-read (at-args .args .s .now) (at-args .args .from) (sym (at-p .p .given .1) ∙ at-next-name .next-name .ensures .is)
+    (sym (c .before .before .before .t .given .1) ∙ at-next-quoted .next-quoted .ensures .is)
+    (placed-at _ _ _ (at-p .p .given .1) (at-next-name .next-name .ensures .placed))
+    (quoted-at _ _ (c .before .before .before .t .given .1) (at-next-quoted .next-quoted .ensures .placed))
+    (sym (c .before .form-closes .ensures) ∙ c .if1 .taken)
 
 returns-4 : tie.Need-returns-4
-returns-4 c = policy-open (c .before .before .before .before .before .before .before .before .before .before .before .args .s .now) (c .before .before .before .before .before .before .before .before .before .before .before .args .from) (sym (c .before .before .before .before .before .before .before .p .given .1) ∙ c .before .before .before .before .before .before .before .before .before .next-name .ensures .is) (sym (c .before .before .before .t .given .1) ∙ c .before .before .before .before .before .next-quoted .ensures .is) (sym (c .before .form-closes .ensures) ∙ c .if1 .left)
+returns-4 c =
+    let at-next-quoted = c .before .before .before .before .before in
+    let at-p = at-next-quoted .before .before in
+    let at-next-name = at-p .before .before in
+    let at-args = at-next-name .before .before in
+    policy-open (at-args .args .s .now) (at-args .args .from) (sym (at-p .p .given .1) ∙ at-next-name .next-name .ensures .is)
+    (sym (c .before .before .before .t .given .1) ∙ at-next-quoted .next-quoted .ensures .is) (sym (c .before .form-closes .ensures) ∙ c .if1 .left)
 
 pub policy-form-spec : {M : Type 1} → statement M
 policy-form-spec =

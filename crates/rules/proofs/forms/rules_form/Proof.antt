@@ -30,7 +30,12 @@ enum-told-2 : tie.Need-enum-told-2
 enum-told-2 c = search needs
 
 returns-2 : tie.Need-returns-2
-returns-2 c = wordless (c .before .before .before .before .before .before .before .before .args .s .now) (sym (c .before .before .before .before .i .given .1) ∙ c .before .before .before .before .before .before .open-form .ensures) (sym (c .enum-told2 .given .1) ∙ c .before .before .next-word .ensures .is)
+returns-2 c =
+    let at-i = c .before .before .before .before in
+    let at-open-form = at-i .before .before in
+    let at-args = at-open-form .before .before in
+    wordless (at-args .args .s .now) (sym (at-i .i .given .1) ∙ at-open-form .open-form .ensures)
+    (sym (c .enum-told2 .given .1) ∙ c .before .before .next-word .ensures .is)
 
 sub-same-bytes : tie.Need-sub-same-bytes
 sub-same-bytes c = let h = placed-at _ _ _ (c .before .p .given .1) (c .before .before .before .next-word .ensures .placed) in omega (arith, h .some)
@@ -52,16 +57,34 @@ category-form-requires c κs = search needs
 
 returns-3 : tie.Need-returns-3
 unfolding partOf
-returns-3 c = form-moved (c .before .before .before .before .before .before .before .before .before .before .before .before .before .before .args .s .now) _ _ (c .category-form .result) (of-category (c .before .before .before .before .before .before .before .before .before .before .before .before .before .before .args .s .now) (sym (c .before .before .before .before .before .before .before .before .before .before .i .given .1) ∙ c .before .before .before .before .before .before .before .before .before .before .before .before .open-form .ensures) (sym (c .before .before .before .before .before .before .p .given .1) ∙ c .before .before .before .before .before .before .before .before .next-word .ensures .is) (sym (c .before .before .same-bytes .ensures) ∙ c .before .if1 .taken)) (c .category-form .ensures)
+returns-3 c =
+    let at-p = c .before .before .before .before .before .before in
+    let at-next-word = at-p .before .before in
+    let at-i = at-next-word .before .before in
+    let at-open-form = at-i .before .before in
+    let at-args = at-open-form .before .before in
+    form-moved (at-args .args .s .now) _ _ (c .category-form .result)
+    (of-category (at-args .args .s .now) (sym (at-i .i .given .1) ∙ at-open-form .open-form .ensures)
+    (sym (at-p .p .given .1) ∙ at-next-word .next-word .ensures .is) (sym (c .before .before .same-bytes .ensures) ∙ c .before .if1 .taken))
+    (c .category-form .ensures)
 
 sub-same-bytes-2 : tie.Need-sub-same-bytes-2
-sub-same-bytes-2 c = let h = placed-at _ _ _ (c .before .before .before .before .before .p .given .1) (c .before .before .before .before .before .before .before .next-word .ensures .placed) in omega (arith, h .some)
+sub-same-bytes-2 c =
+    let at-p = c .before .before .before .before .before in
+    let at-next-word = at-p .before .before in
+    let h = placed-at _ _ _ (at-p .p .given .1) (at-next-word .next-word .ensures .placed) in omega (arith, h .some)
 
 part-same-bytes-start-2 : tie.Need-part-same-bytes-start-2
-part-same-bytes-start-2 c = let h = placed-at _ _ _ (c .before .before .before .before .before .p .given .1) (c .before .before .before .before .before .before .before .next-word .ensures .placed) in omega (arith, h .some)
+part-same-bytes-start-2 c =
+    let at-p = c .before .before .before .before .before in
+    let at-next-word = at-p .before .before in
+    let h = placed-at _ _ _ (at-p .p .given .1) (at-next-word .next-word .ensures .placed) in omega (arith, h .some)
 
 part-same-bytes-end-2 : tie.Need-part-same-bytes-end-2
-part-same-bytes-end-2 c = let h = placed-at _ _ _ (c .before .before .before .before .before .p .given .1) (c .before .before .before .before .before .before .before .next-word .ensures .placed) in omega (arith, h .inside)
+part-same-bytes-end-2 c =
+    let at-p = c .before .before .before .before .before in
+    let at-next-word = at-p .before .before in
+    let h = placed-at _ _ _ (at-p .p .given .1) (at-next-word .next-word .ensures .placed) in omega (arith, h .inside)
 
 slice-aggregate-same-bytes-2 : tie.Need-slice-aggregate-same-bytes-2
 slice-aggregate-same-bytes-2 c = search needs
@@ -74,11 +97,32 @@ policy-form-requires c κs = search needs
 
 returns-4 : tie.Need-returns-4
 unfolding partOf
-returns-4 c = form-moved (c .before .before .before .before .before .before .before .before .before .before .before .before .before .before .before .before .before .before .args .s .now) _ _ (c .policy-form .result) (of-policy (c .before .before .before .before .before .before .before .before .before .before .before .before .before .before .before .before .before .before .args .s .now) (sym (c .before .before .before .before .before .before .before .before .before .before .before .before .before .before .i .given .1) ∙ c .before .before .before .before .before .before .before .before .before .before .before .before .before .before .before .before .open-form .ensures) (sym (c .before .before .before .before .before .before .before .before .before .before .p .given .1) ∙ c .before .before .before .before .before .before .before .before .before .before .before .before .next-word .ensures .is) (sym (c .before .before .before .before .before .before .same-bytes .ensures) ∙ c .before .before .before .before .before .if1 .left) (sym (c .before .before .same-bytes2 .ensures) ∙ c .before .if2 .taken)) (c .policy-form .ensures)
+returns-4 c =
+    let at-if1 = c .before .before .before .before .before in
+    let at-same-bytes = at-if1 .before in
+    let at-p = at-same-bytes .before .before .before .before in
+    let at-next-word = at-p .before .before in
+    let at-i = at-next-word .before .before in
+    let at-open-form = at-i .before .before in
+    let at-args = at-open-form .before .before in
+    form-moved (at-args .args .s .now) _ _ (c .policy-form .result)
+    (of-policy (at-args .args .s .now) (sym (at-i .i .given .1) ∙ at-open-form .open-form .ensures)
+    (sym (at-p .p .given .1) ∙ at-next-word .next-word .ensures .is) (sym (at-same-bytes .same-bytes .ensures) ∙ at-if1 .if1 .left)
+    (sym (c .before .before .same-bytes2 .ensures) ∙ c .before .if2 .taken)) (c .policy-form .ensures)
 
 returns-5 : tie.Need-returns-5
 unfolding partOf
-returns-5 c = of-neither (c .before .before .before .before .before .before .before .before .before .before .before .before .before .before .before .before .before .args .s .now) (sym (c .before .before .before .before .before .before .before .before .before .before .before .before .before .i .given .1) ∙ c .before .before .before .before .before .before .before .before .before .before .before .before .before .before .before .open-form .ensures) (sym (c .before .before .before .before .before .before .before .before .before .p .given .1) ∙ c .before .before .before .before .before .before .before .before .before .before .before .next-word .ensures .is) (sym (c .before .before .before .before .before .same-bytes .ensures) ∙ c .before .before .before .before .if1 .left) (sym (c .before .same-bytes2 .ensures) ∙ c .if2 .left)
+returns-5 c =
+    let at-if1 = c .before .before .before .before in
+    let at-same-bytes = at-if1 .before in
+    let at-p = at-same-bytes .before .before .before .before in
+    let at-next-word = at-p .before .before in
+    let at-i = at-next-word .before .before in
+    let at-open-form = at-i .before .before in
+    let at-args = at-open-form .before .before in
+    of-neither (at-args .args .s .now) (sym (at-i .i .given .1) ∙ at-open-form .open-form .ensures)
+    (sym (at-p .p .given .1) ∙ at-next-word .next-word .ensures .is) (sym (at-same-bytes .same-bytes .ensures) ∙ at-if1 .if1 .left)
+    (sym (c .before .same-bytes2 .ensures) ∙ c .if2 .left)
 
 pub rules-form-spec : {M : Type 1} → statement M
 rules-form-spec =

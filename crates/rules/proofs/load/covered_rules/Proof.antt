@@ -14,7 +14,9 @@ unfolding refusal refusalOf
 returns c b = uncovered-refused _ _ _ (c .before .before .before .before .pre .0) _ (c .before .is-uncovered .ensures) (c .if1 .taken)
 
 returns-2 : tie.Need-returns-2
-returns-2 c b = (covered-accepted _ _ _ (c .before .before .before .before .pre .0) _ (c .before .is-uncovered .ensures) (c .if1 .left), c .before .before .before .before .pre .0, c .before .before .before .before .pre .1)
+returns-2 c b =
+    let at-pre = c .before .before .before .before in
+    (covered-accepted _ _ _ (at-pre .pre .0) _ (c .before .is-uncovered .ensures) (c .if1 .left), at-pre .pre .0, at-pre .pre .1)
 
 pub covered-rules-spec : {M : Type 1} → statement M
 covered-rules-spec =

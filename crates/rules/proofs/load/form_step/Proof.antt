@@ -14,9 +14,20 @@ enum-known-p c = search needs
 
 category-step-requires : tie.Need-category-step-requires
 category-step-requires c κs =
-    let g = c .before .before .before .before .before .before .before .before .before .before .pre in
-    let f = of-category _ _ _ (c .before .before .before .before .rules-form .ensures) _ _ _ _ (c .before .before .p .given .1) in
-    record { fits = g .fits; short = g .short; line = g .line; places = f .places; actors = f .actors; over = f .over; actors-are = f .actors-are; over-are = f .over-are }
+    let at-rules-form = c .before .before .before .before in
+    let at-pre = at-rules-form .before .before .before .before .before .before in
+    let g = at-pre .pre in
+    let f = of-category _ _ _ (at-rules-form .rules-form .ensures) _ _ _ _ (c .before .before .p .given .1) in
+    record {
+      fits = g .fits;
+      short = g .short;
+      line = g .line;
+      places = f .places;
+      actors = f .actors;
+      over = f .over;
+      actors-are = f .actors-are;
+      over-are = f .over-are;
+    }
 
 enum-known-p-2 : tie.Need-enum-known-p-2
 enum-known-p-2 c = search needs
@@ -36,9 +47,22 @@ fault-of-requires c κs = c .before .before .before .before .before .before .bef
 policy-step-requires : tie.Need-policy-step-requires
 unfolding partOf
 policy-step-requires c κs =
-    let g = c .before .before .before .before .before .before .before .before .before .before .before .before .pre in
-    let f = of-policy _ _ _ (c .before .before .before .before .before .before .rules-form .ensures) _ _ _ _ (c .before .before .before .before .p2 .given .1) in
-    record { fits = g .fits; short = g .short; line = g .line; places = f .places; some = f .some; inside = f .inside; book = _; is = c .before .fault-of .ensures }
+    let at-p2 = c .before .before .before .before in
+    let at-rules-form = at-p2 .before .before in
+    let at-pre = at-rules-form .before .before .before .before .before .before in
+    let g = at-pre .pre in
+    let f = of-policy _ _ _ (at-rules-form .rules-form .ensures) _ _ _ _ (at-p2 .p2 .given .1) in
+    record {
+      fits = g .fits;
+      short = g .short;
+      line = g .line;
+      places = f .places;
+      some = f .some;
+      inside = f .inside;
+      book = _;
+      is =
+          c .before .fault-of .ensures;
+    }
 
 enum-told : tie.Need-enum-told
 enum-told c = search needs
@@ -48,7 +72,9 @@ same-length c = search needs
 
 returns : tie.Need-returns
 returns c =
-    let f = of-category _ _ _ (c .before .before .before .before .before .before .before .rules-form .ensures) _ _ _ _ (c .before .before .before .before .before .p .given .1) in
+    let at-p = c .before .before .before .before .before in
+    let at-rules-form = at-p .before .before in
+    let f = of-category _ _ _ (at-rules-form .rules-form .ensures) _ _ _ _ (at-p .p .given .1) in
     rw (f .is) (c .before .before .category-step .ensures _ (f .actors) (f .over) (f .actors-are) (f .over-are))
 
 same-length-2 : tie.Need-same-length-2
@@ -57,8 +83,11 @@ same-length-2 c = search needs
 returns-2 : tie.Need-returns-2
 unfolding partOf
 returns-2 c =
-    let f = of-policy _ _ _ (c .before .before .before .before .before .before .before .before .before .rules-form .ensures) _ _ _ _ (c .before .before .before .before .before .before .before .p2 .given .1) in
-    rw (f .is) (c .before .before .policy-step .ensures _ (c .before .before .before .before .fault-of .ensures))
+    let at-fault-of = c .before .before .before .before in
+    let at-p2 = at-fault-of .before .before .before in
+    let at-rules-form = at-p2 .before .before in
+    let f = of-policy _ _ _ (at-rules-form .rules-form .ensures) _ _ _ _ (at-p2 .p2 .given .1) in
+    rw (f .is) (c .before .before .policy-step .ensures _ (at-fault-of .fault-of .ensures))
 
 returns-3 : tie.Need-returns-3
 returns-3 c = of-none _ _ _ (c .before .before .rules-form .ensures) _ _ (c .enum-told .given .1)

@@ -7,7 +7,9 @@ use Rattle.rules.proofs.load.line_step.Statement.{statement}
 use Rattle.rules.proofs.load.line_step.Tie as tie
 
 returns : tie.Need-returns
-returns c = line-open (c .before .before .before .before .before .args .text .now) (c .before .before .before .before .before .args .from) (c .before .before .before .before .before .args .to) _ _ (omega (arith, c .if1 .taken))
+returns c =
+    let at-args = c .before .before .before .before .before in
+    line-open (at-args .args .text .now) (at-args .args .from) (at-args .args .to) _ _ (omega (arith, c .if1 .taken))
 
 sub-form-step : tie.Need-sub-form-step
 sub-form-step c = search needs
@@ -26,7 +28,11 @@ same-length c = search needs
 
 returns-2 : tie.Need-returns-2
 unfolding partOf
-returns-2 c = rw (line-closed (c .before .before .before .before .before .before .before .before .before .before .args .text .now) (c .before .before .before .before .before .before .before .before .before .before .args .from) (c .before .before .before .before .before .before .before .before .before .before .args .to) _ _ (omega (arith, c .before .before .before .before .before .if1 .left))) (c .before .before .form-step .ensures)
+returns-2 c =
+    let at-if1 = c .before .before .before .before .before in
+    let at-args = at-if1 .before .before .before .before .before in
+    rw (line-closed (at-args .args .text .now) (at-args .args .from) (at-args .args .to) _ _ (omega (arith, at-if1 .if1 .left)))
+    (c .before .before .form-step .ensures)
 
 pub line-step-spec : {M : Type 1} → statement M
 line-step-spec =

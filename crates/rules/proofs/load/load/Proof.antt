@@ -16,30 +16,46 @@ enum-told c = search needs
 
 returns : tie.Need-returns
 unfolding refusal refusalOf readRules
-returns c = text-too-long 16384 (c .before .before .before .before .before .before .before .args .text .now) _ (c .before .before .bytes-read .ensures) 2 (λ l. l) _ (c .enum-told .given .1)
+returns c =
+    let at-args = c .before .before .before .before .before .before .before in
+    text-too-long 16384 (at-args .args .text .now) _ (c .before .before .bytes-read .ensures) 2 (λ l. l) _ (c .enum-told .given .1)
 
 enum-known-line : tie.Need-enum-known-line
 enum-known-line c = search needs
 
 cast-t9 : tie.Need-cast-t9
-cast-t9 c = omega (arith, bad-small 16384 (c .before .before .before .before .before .before .before .before .args .text .now) _ (c .before .before .before .bytes-read .ensures) _ (c .before .line .given .1))
+cast-t9 c =
+    let at-args = c .before .before .before .before .before .before .before .before in
+    omega (arith, bad-small 16384 (at-args .args .text .now) _ (c .before .before .before .bytes-read .ensures) _ (c .before .line .given .1))
 
 returns-2 : tie.Need-returns-2
 unfolding refusal refusalOf readRules
-returns-2 c = text-bad-line 16384 (c .before .before .before .before .before .before .before .before .args .text .now) _ (c .before .before .before .bytes-read .ensures) 2 (λ l. l) _ _ (c .before .line .given .1)
+returns-2 c =
+    let at-args = c .before .before .before .before .before .before .before .before in
+    text-bad-line 16384 (at-args .args .text .now) _ (c .before .before .before .bytes-read .ensures) 2 (λ l. l) _ _ (c .before .line .given .1)
 
 enum-told-2 : tie.Need-enum-told-2
 enum-told-2 c = search needs
 
 load-lines-requires : tie.Need-load-lines-requires
-load-lines-requires c κs = (c .before .before .before .before .before .before .before .before .pre .0, text-short 16384 (c .before .before .before .before .before .before .before .before .args .text .now) _ (c .before .before .before .bytes-read .ensures) (c .before .enum-told2 .given .1), c .before .before .before .before .before .before .before .before .pre .1)
+load-lines-requires c κs =
+    let at-pre = c .before .before .before .before .before .before .before .before in (
+      at-pre .pre .0,
+      text-short 16384 (at-pre .args .text .now) _ (c .before .before .before .bytes-read .ensures) (c .before .enum-told2 .given .1),
+      at-pre .pre .1,
+    )
 
 same-length : tie.Need-same-length
 same-length c = search needs
 
 returns-3 : tie.Need-returns-3
 unfolding readRules
-returns-3 c = rw (text-allowed 16384 (c .before .before .before .before .before .before .before .before .before .before .before .args .text .now) _ (c .before .before .before .before .before .before .bytes-read .ensures) 2 (λ l. l) _ (c .before .before .before .before .enum-told2 .given .1)) (c .before .before .load-lines .ensures)
+returns-3 c =
+    let at-enum-told2 = c .before .before .before .before in
+    let at-bytes-read = at-enum-told2 .before .before in
+    let at-args = at-bytes-read .before .before .before .before .before in
+    rw (text-allowed 16384 (at-args .args .text .now) _ (at-bytes-read .bytes-read .ensures) 2 (λ l. l) _ (at-enum-told2 .enum-told2 .given .1))
+    (c .before .before .load-lines .ensures)
 
 pub load-spec : {M : Type 1} → statement M
 load-spec =

@@ -13,7 +13,8 @@ use Rattle.rules.proofs.load.load_lines.Statement.{statement}
 use Rattle.rules.proofs.load.load_lines.Tie as tie
 
 abbrev Inv-loop : tie.InvT-loop
-Inv-loop book words counts text rules-words₀ at₀ line₀ known₀ rules-words at line known = Reading (bookAt book words counts) text rules-words₀ rules-words at line known
+Inv-loop book words counts text rules-words₀ at₀ line₀ known₀ rules-words at line known = Reading (bookAt book words counts) text rules-words₀ rules-words
+    at line known
 
 abbrev μ-loop : tie.MeasureT-loop
 μ-loop book words counts text rules-words₀ at₀ line₀ known₀ rules-words at line known = length text + 1 - at
@@ -28,13 +29,16 @@ line-end-requires : tie.Need-line-end-requires Inv-loop μ-loop
 line-end-requires c κs = search needs
 
 line-step-requires : tie.Need-line-step-requires Inv-loop μ-loop
-line-step-requires c κs = record {
-  book-fits = c .before .before .before .before .before .before .before .before .before .pre .0;
-  fits = c .before .before .before .loop .inv .fits;
-  short = c .before .before .before .before .before .before .before .before .before .pre .1;
-  forward = line-forward (c .before .before .before .before .before .before .before .before .before .args .text .now) (c .before .before .before .loop .at) _ (c .before .line-end .ensures) (c .before .before .loop-test .taken);
-  inside = line-inside (c .before .before .before .before .before .before .before .before .before .args .text .now) (c .before .before .before .loop .at) _ (c .before .line-end .ensures) (c .before .before .loop-test .taken);
-}
+line-step-requires c κs =
+    let at-loop = c .before .before .before in
+    let at-pre = at-loop .before .before .before .before .before .before in
+    record {
+      book-fits = at-pre .pre .0;
+      fits = at-loop .loop .inv .fits;
+      short = at-pre .pre .1;
+      forward = line-forward (at-pre .args .text .now) (at-loop .loop .at) _ (c .before .line-end .ensures) (c .before .before .loop-test .taken);
+      inside = line-inside (at-pre .args .text .now) (at-loop .loop .at) _ (c .before .line-end .ensures) (c .before .before .loop-test .taken);
+    }
 
 enum-known-number : tie.Need-enum-known-number Inv-loop μ-loop
 enum-known-number c = search needs
@@ -44,19 +48,44 @@ same-length c = search needs
 
 returns : tie.Need-returns Inv-loop μ-loop
 unfolding refusal refusalOf
-returns c = reading-fault _ (c .before .before .before .before .before .before .before .before .before .before .before .before .before .before .before .args .text .now) _ _ (c .before .before .before .before .before .before .before .before .before .loop .at) _ _ (c .before .before .before .before .before .before .before .before .before .loop .inv) _ (c .before .before .before .before .before .before .before .line-end .ensures) (c .before .before .before .before .before .before .before .before .loop-test .taken) _ _ (c .before .before .before .before .before .line-step .ensures) _ (c .before .number .given .1)
+returns c =
+    let at-line-step = c .before .before .before .before .before in
+    let at-line-end = at-line-step .before .before in
+    let at-loop-test = at-line-end .before in
+    let at-loop = at-loop-test .before in
+    let at-args = at-loop .before .before .before .before .before .before in
+    reading-fault _ (at-args .args .text .now) _ _ (at-loop .loop .at) _ _ (at-loop .loop .inv) _ (at-line-end .line-end .ensures)
+    (at-loop-test .loop-test .taken) _ _ (at-line-step .line-step .ensures) _ (c .before .number .given .1)
 
 enum-known-more : tie.Need-enum-known-more Inv-loop μ-loop
 enum-known-more c = search needs
 
 add-at : tie.Need-add-at Inv-loop μ-loop
-add-at c = omega (arith, c .before .before .before .before .before .before .before .before .before .before .before .before .before .before .before .pre .1, line-inside (c .before .before .before .before .before .before .before .before .before .before .before .before .before .before .before .args .text .now) (c .before .before .before .before .before .before .before .before .before .loop .at) _ (c .before .before .before .before .before .before .before .line-end .ensures) (c .before .before .before .before .before .before .before .before .loop-test .taken))
+add-at c =
+    let at-line-end = c .before .before .before .before .before .before .before in
+    let at-loop-test = at-line-end .before in
+    let at-loop = at-loop-test .before in
+    let at-pre = at-loop .before .before .before .before .before .before in
+    omega (arith, at-pre .pre .1, line-inside (at-pre .args .text .now) (at-loop .loop .at) _ (at-line-end .line-end .ensures) (at-loop-test .loop-test .taken))
 
 add-line : tie.Need-add-line Inv-loop μ-loop
-add-line c = omega (arith, c .before .before .before .before .before .before .before .before .before .before .before .before .before .before .before .pre .1, c .before .before .before .before .before .before .before .before .before .loop .inv .few, c .before .before .before .before .before .before .before .before .loop-test .taken)
+add-line c =
+    let at-loop-test = c .before .before .before .before .before .before .before .before in
+    let at-loop = at-loop-test .before in
+    let at-pre = at-loop .before .before .before .before .before .before in
+    omega (arith, at-pre .pre .1, at-loop .loop .inv .few, at-loop-test .loop-test .taken)
 
 loop-less : tie.Need-loop-less Inv-loop μ-loop
-loop-less c = omega (arith, line-forward (c .before .before .before .before .before .before .before .before .before .before .before .before .before .before .before .args .text .now) (c .before .before .before .before .before .before .before .before .before .loop .at) _ (c .before .before .before .before .before .before .before .line-end .ensures) (c .before .before .before .before .before .before .before .before .loop-test .taken), line-inside (c .before .before .before .before .before .before .before .before .before .before .before .before .before .before .before .args .text .now) (c .before .before .before .before .before .before .before .before .before .loop .at) _ (c .before .before .before .before .before .before .before .line-end .ensures) (c .before .before .before .before .before .before .before .before .loop-test .taken))
+loop-less c =
+    let at-line-end = c .before .before .before .before .before .before .before in
+    let at-loop-test = at-line-end .before in
+    let at-loop = at-loop-test .before in
+    let at-args = at-loop .before .before .before .before .before .before in
+    omega (
+      arith,
+      line-forward (at-args .args .text .now) (at-loop .loop .at) _ (at-line-end .line-end .ensures) (at-loop-test .loop-test .taken),
+      line-inside (at-args .args .text .now) (at-loop .loop .at) _ (at-line-end .line-end .ensures) (at-loop-test .loop-test .taken),
+    )
 
 loop-again : tie.Need-loop-again Inv-loop μ-loop
 loop-again c = reading-on _ (c .before .before .before .before .before .before .before .before .before .before .before .before .before .before .before .args .text .now) _ _ (c .before .before .before .before .before .before .before .before .before .loop .at) _ _ (c .before .before .before .before .before .before .before .before .before .loop .inv) _ (c .before .before .before .before .before .before .before .line-end .ensures) (c .before .before .before .before .before .before .before .before .loop-test .taken) _ _ (c .before .before .before .before .before .line-step .ensures) _ (c .before .more .given .1) (search needs)
@@ -68,7 +97,11 @@ same-length-2 : tie.Need-same-length-2 Inv-loop μ-loop
 same-length-2 c = search needs
 
 returns-2 : tie.Need-returns-2 Inv-loop μ-loop
-returns-2 c = rw (reading-done _ (c .before .before .before .before .before .before .before .before .before .args .text .now) _ _ (c .before .before .before .loop .at) _ _ (c .before .before .before .loop .inv) (c .before .before .loop-test .left)) (c .covered-rules .ensures (bookAt (c .before .before .before .before .before .before .before .before .before .args .book .now) (c .before .before .before .before .before .before .before .before .before .args .words .now) (c .before .before .before .before .before .before .before .before .before .args .counts)))
+returns-2 c =
+    let at-args = c .before .before .before .before .before .before .before .before .before in
+    rw (reading-done _ (at-args .args .text .now) _ _ (c .before .before .before .loop .at) _ _ (c .before .before .before .loop .inv)
+    (c .before .before .loop-test .left)) (c .covered-rules .ensures
+    (bookAt (at-args .args .book .now) (at-args .args .words .now) (at-args .args .counts)))
 
 pub load-lines-spec : {M : Type 1} → statement M
 load-lines-spec =

@@ -29,9 +29,13 @@ sub-store-policy c = search needs
 
 store-policy-requires : tie.Need-store-policy-requires
 unfolding partOf
-store-policy-requires c κs = let a = c .before .before .before .before .before .before .before .args in let g = c .before .before .before .before .before .before .before .pre in
-    let d = is-declared (a .text .now) (a .words .now) (a .counts) (a .s .now) (a .base) (a .p) (a .q) (a .t) (a .u) g (c .before .find-name .result) (c .before .find-name .ensures) in
-    let r = policy-room (a .text .now) (a .words .now) (a .counts) (a .s .now) (a .base) (a .p) (a .q) (a .t) (a .u) g (c .before .find-name .result) (c .before .find-name .ensures) in
+store-policy-requires c κs =
+    let at-pre = c .before .before .before .before .before .before .before in
+    let a = at-pre .args in let g = at-pre .pre in
+    let d = is-declared (a .text .now) (a .words .now) (a .counts) (a .s .now) (a .base) (a .p) (a .q) (a .t) (a .u) g (c .before .find-name .result)
+    (c .before .find-name .ensures) in
+    let r = policy-room (a .text .now) (a .words .now) (a .counts) (a .s .now) (a .base) (a .p) (a .q) (a .t) (a .u) g (c .before .find-name .result)
+    (c .before .find-name .ensures) in
     (g .fits .room, r, omega (arith, d, g .fits .few), omega (arith, g .some, g .inside, g .line .inside, g .short))
 
 add-t16 : tie.Need-add-t16
@@ -42,9 +46,14 @@ same-length c = search needs
 
 returns : tie.Need-returns
 unfolding partOf
-returns c = let a = c .before .before .before .before .before .before .before .before .before .before .args in let g = c .before .before .before .before .before .before .before .before .before .before .pre in
-    subst (λ w. PolicyAdded (a .text .now) (a .words .now) w (a .counts) (a .s .now) (a .p) (a .q) (a .t) (a .u) (morePolicies (a .counts))) (sym (c .before .before .store-policy .ensures))
-    (policy-stored (a .text .now) (a .words .now) (a .counts) (a .s .now) (a .base) (a .p) (a .q) (a .t) (a .u) g (c .before .before .before .before .find-name .result) (c .before .before .before .before .find-name .ensures))
+returns c =
+    let at-find-name = c .before .before .before .before in
+    let at-pre = at-find-name .before .before .before .before .before .before in
+    let a = at-pre .args in let g = at-pre .pre in
+    subst (λ w. PolicyAdded (a .text .now) (a .words .now) w (a .counts) (a .s .now) (a .p) (a .q) (a .t) (a .u) (morePolicies (a .counts)))
+    (sym (c .before .before .store-policy .ensures))
+    (policy-stored (a .text .now) (a .words .now) (a .counts) (a .s .now) (a .base) (a .p) (a .q) (a .t) (a .u) g (at-find-name .find-name .result)
+    (at-find-name .find-name .ensures))
 
 pub add-policy-spec : {M : Type 1} → statement M
 add-policy-spec =

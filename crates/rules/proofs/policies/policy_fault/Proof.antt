@@ -28,7 +28,12 @@ lowest-of-requires c κs = search needs
 
 returns : tie.Need-returns
 unfolding partOf
-returns c = let a = c .before .before .before .before .before .before .before .args in let g = c .before .before .before .before .before .before .before .pre in policy-answer (a .text .now) (a .words .now) (a .counts) (g .0) (a .s .now) (a .p) (a .q) (a .t) (a .u) (c .before .before .find-name .result) (c .before .has-policy .result) (c .lowest-of .result) (a .fault) (g .2) (g .3) (c .before .before .find-name .ensures) (c .before .has-policy .ensures) (c .lowest-of .ensures)
+returns c =
+    let at-pre = c .before .before .before .before .before .before .before in
+    let a = at-pre .args in let g = at-pre .pre in
+    policy-answer (a .text .now) (a .words .now) (a .counts) (g .0) (a .s .now) (a .p) (a .q) (a .t) (a .u) (c .before .before .find-name .result)
+    (c .before .has-policy .result) (c .lowest-of .result) (a .fault) (g .2) (g .3) (c .before .before .find-name .ensures)
+    (c .before .has-policy .ensures) (c .lowest-of .ensures)
 
 pub policy-fault-spec : {M : Type 1} → statement M
 policy-fault-spec =

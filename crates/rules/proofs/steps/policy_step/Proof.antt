@@ -31,8 +31,10 @@ same-length-2 c = search needs
 
 returns-2 : tie.Need-returns-2
 returns-2 c b e =
+    let at-if1 = c .before .before .before .before in
+    let at-policy-fault = at-if1 .before in
     let d = c .before .before .add-policy .ensures in
-    (text-known b _ _ _ _ (sym (c .before .before .before .before .before .policy-fault .ensures b e) ∙ c .before .before .before .before .if1 .left) (d .is), d .fits)
+    (text-known b _ _ _ _ (sym (at-policy-fault .policy-fault .ensures b e) ∙ at-if1 .if1 .left) (d .is), d .fits)
 
 pub policy-step-spec : {M : Type 1} → statement M
 policy-step-spec =

@@ -22,21 +22,40 @@ find-name-requires c κs = (c .before .before .before .before .pre .0, c .before
 
 returns : tie.Need-returns
 unfolding partOf
-returns c = λ x y ex ey. let a = c .before .before .before .before .before .before .args in rw (place-mem (a .text .now) (a .words .now) names (a .count) (between (a .s .now) (a .p) (a .q)) (omega (arith, c .before .find-name .ensures, c .if1 .taken)))
+returns c =
+    let at-args = c .before .before .before .before .before .before in
+    λ x y ex ey. let a = at-args .args in rw
+    (place-mem (a .text .now) (a .words .now) names (a .count) (between (a .s .now) (a .p) (a .q))
+    (omega (arith, c .before .find-name .ensures, c .if1 .taken)))
 
 has-twice-requires : tie.Need-has-twice-requires
 has-twice-requires c κs = search needs
 
 returns-2 : tie.Need-returns-2
 unfolding partOf
-returns-2 c = λ x y ex ey. let a = c .before .before .before .before .before .before .before .before .args in rw (place-out (a .text .now) (a .words .now) names (a .count) (between (a .s .now) (a .p) (a .q)) (omega (arith, c .before .before .before .find-name .ensures, c .before .before .if1 .left)), ← c .before .has-twice .ensures x ex, c .if2 .taken)
+returns-2 c =
+    let at-args = c .before .before .before .before .before .before .before .before in
+    λ x y ex ey. let a = at-args .args in rw (
+      place-out (a .text .now) (a .words .now) names (a .count) (between (a .s .now) (a .p) (a .q))
+          (omega (arith, c .before .before .before .find-name .ensures, c .before .before .if1 .left)),
+      ← c .before .has-twice .ensures x ex,
+      c .if2 .taken,
+    )
 
 has-twice-requires-2 : tie.Need-has-twice-requires-2
 has-twice-requires-2 c κs = search needs
 
 returns-3 : tie.Need-returns-3
 unfolding partOf
-returns-3 c = λ x y ex ey. let a = c .before .before .before .before .before .before .before .before .before .args in rw (place-out (a .text .now) (a .words .now) names (a .count) (between (a .s .now) (a .p) (a .q)) (omega (arith, c .before .before .before .before .find-name .ensures, c .before .before .before .if1 .left)), ← c .before .before .has-twice .ensures x ex, c .before .if2 .left) (c .has-twice2 .ensures y ey)
+returns-3 c =
+    let at-find-name = c .before .before .before .before in
+    let at-args = at-find-name .before .before .before .before .before in
+    λ x y ex ey. let a = at-args .args in rw (
+      place-out (a .text .now) (a .words .now) names (a .count) (between (a .s .now) (a .p) (a .q))
+          (omega (arith, at-find-name .find-name .ensures, c .before .before .before .if1 .left)),
+      ← c .before .before .has-twice .ensures x ex,
+      c .before .if2 .left,
+    ) (c .has-twice2 .ensures y ey)
 
 pub is-second-spec : {M : Type 1} → statement M
 is-second-spec =

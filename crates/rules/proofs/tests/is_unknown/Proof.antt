@@ -21,13 +21,17 @@ use Rattle.rules.proofs.tests.is_unknown.Statement.{statement}
 use Rattle.rules.proofs.tests.is_unknown.Tie as tie
 
 abbrev Inv-loop : tie.InvT-loop
-Inv-loop text words count s from i₀ i = Left (λ ns. not (all (λ c. mem c (namesAt text words names count)) ns)) (λ ns. not (all (λ c. mem c (namesAt text words names count)) ns)) s from i
+Inv-loop text words count s from i₀ i = Left (λ ns. not (all (λ c. mem c (namesAt text words names count)) ns))
+    (λ ns. not (all (λ c. mem c (namesAt text words names count)) ns)) s from i
 
 abbrev μ-loop : tie.MeasureT-loop
 μ-loop text words count s from i₀ i = length s - i
 
 loop-holds : tie.Need-loop-holds Inv-loop μ-loop
-loop-holds c = left-start (λ (ns : List Bytes). not (all (λ w. mem w (namesAt (c .before .before .before .args .text .now) (c .before .before .before .args .words .now) names (c .before .before .before .args .count))) ns)) (c .before .before .before .args .s .now) (c .before .before .before .args .from)
+loop-holds c =
+    let at-args = c .before .before .before in
+    left-start (λ (ns : List Bytes). not (all (λ w. mem w (namesAt (at-args .args .text .now) (at-args .args .words .now) names (at-args .args .count)))
+    ns)) (at-args .args .s .now) (at-args .args .from)
 
 next-name-requires : tie.Need-next-name-requires Inv-loop μ-loop
 next-name-requires c κs = search needs
@@ -39,7 +43,12 @@ enum-told : tie.Need-enum-told Inv-loop μ-loop
 enum-told c = search needs
 
 returns : tie.Need-returns Inv-loop μ-loop
-returns c = let p : Bytes → Bool = λ w. mem w (namesAt (c .before .before .before .before .before .before .before .before .args .text .now) (c .before .before .before .before .before .before .before .before .args .words .now) names (c .before .before .before .before .before .before .before .before .args .count)) in λ x e. sym (miss-none p) ∙ left-done (λ ns. not (all p ns)) (λ ns. not (all p ns)) (c .before .before .before .before .before .before .before .before .args .s .now) (c .before .before .before .before .before .before .before .before .args .from) (c .before .before .before .before .loop .i) (c .before .before .before .before .loop .inv) (sym (c .enum-told .given .1) ∙ c .before .before .next-name .ensures .is) x e
+returns c =
+    let at-loop = c .before .before .before .before in
+    let at-args = at-loop .before .before .before .before in
+    let p : Bytes → Bool = λ w. mem w (namesAt (at-args .args .text .now) (at-args .args .words .now) names (at-args .args .count)) in
+    λ x e. sym (miss-none p) ∙ left-done (λ ns. not (all p ns)) (λ ns. not (all p ns)) (at-args .args .s .now) (at-args .args .from) (at-loop .loop .i)
+    (at-loop .loop .inv) (sym (c .enum-told .given .1) ∙ c .before .before .next-name .ensures .is) x e
 
 sub-find-name : tie.Need-sub-find-name Inv-loop μ-loop
 sub-find-name c = let h = placed-at _ _ _ (c .before .p .given .1) (c .before .before .before .next-name .ensures .placed) in omega (arith, h .some)
@@ -55,21 +64,42 @@ find-name-requires c κs = c .before .before .before .before .before .before .be
 
 returns-2 : tie.Need-returns-2 Inv-loop μ-loop
 unfolding partOf
-returns-2 c = let a = c .before .before .before .before .before .before .before .before .before .before .before .before .args in let p : Bytes → Bool = λ w. mem w (namesAt (a .text .now) (a .words .now) names (a .count)) in
-    left-found (λ ns. not (all p ns)) (λ ns. not (all p ns)) (a .s .now) (a .from) (c .before .before .before .before .before .before .before .before .loop .i) _ _ _ (c .before .before .before .before .before .before .before .before .loop .inv) (sym (c .before .before .before .before .p .given .1) ∙ c .before .before .before .before .before .before .next-name .ensures .is)
-    (λ y e. miss-found p _ (y .names) (place-out (a .text .now) (a .words .now) names (a .count) _ (omega (arith, c .before .find-name .ensures, c .if1 .taken))))
+returns-2 c =
+    let at-p = c .before .before .before .before in
+    let at-next-name = at-p .before .before in
+    let at-loop = at-next-name .before .before in
+    let at-args = at-loop .before .before .before .before in
+    let a = at-args .args in let p : Bytes → Bool = λ w. mem w (namesAt (a .text .now) (a .words .now) names (a .count)) in
+    left-found (λ ns. not (all p ns)) (λ ns. not (all p ns)) (a .s .now) (a .from) (at-loop .loop .i) _ _ _ (at-loop .loop .inv)
+    (sym (at-p .p .given .1) ∙ at-next-name .next-name .ensures .is)
+    (λ y e. miss-found p _ (y .names) (place-out (a .text .now) (a .words .now) names (a .count) _
+    (omega (arith, c .before .find-name .ensures, c .if1 .taken))))
 
 loop-less : tie.Need-loop-less Inv-loop μ-loop
-loop-less c = let h = placed-at _ _ _ (c .before .before .before .before .p .given .1) (c .before .before .before .before .before .before .next-name .ensures .placed) in omega (arith, h .after, h .some)
+loop-less c =
+    let at-p = c .before .before .before .before in
+    let at-next-name = at-p .before .before in
+    let h = placed-at _ _ _ (at-p .p .given .1) (at-next-name .next-name .ensures .placed) in omega (arith, h .after, h .some)
 
 loop-again : tie.Need-loop-again Inv-loop μ-loop
 unfolding partOf
-loop-again c = let a = c .before .before .before .before .before .before .before .before .before .before .before .before .args in let p : Bytes → Bool = λ w. mem w (namesAt (a .text .now) (a .words .now) names (a .count)) in
-    left-next (λ ns. not (all p ns)) (λ ns. not (all p ns)) (a .s .now) (a .from) (c .before .before .before .before .before .before .before .before .loop .i) (λ ns. not (all p ns)) _ _ (c .before .before .before .before .before .before .before .before .loop .inv) (sym (c .before .before .before .before .p .given .1) ∙ c .before .before .before .before .before .before .next-name .ensures .is)
-    (λ y e. miss-other p _ (y .names) (place-mem (a .text .now) (a .words .now) names (a .count) _ (omega (arith, c .before .find-name .ensures, c .if1 .left))))
+loop-again c =
+    let at-p = c .before .before .before .before in
+    let at-next-name = at-p .before .before in
+    let at-loop = at-next-name .before .before in
+    let at-args = at-loop .before .before .before .before in
+    let a = at-args .args in let p : Bytes → Bool = λ w. mem w (namesAt (a .text .now) (a .words .now) names (a .count)) in
+    left-next (λ ns. not (all p ns)) (λ ns. not (all p ns)) (a .s .now) (a .from) (at-loop .loop .i) (λ ns. not (all p ns)) _ _ (at-loop .loop .inv)
+    (sym (at-p .p .given .1) ∙ at-next-name .next-name .ensures .is)
+    (λ y e. miss-other p _ (y .names) (place-mem (a .text .now) (a .words .now) names (a .count) _
+    (omega (arith, c .before .find-name .ensures, c .if1 .left))))
 
 returns-3 : tie.Need-returns-3 Inv-loop μ-loop
-returns-3 c = let p : Bytes → Bool = λ w. mem w (namesAt (c .before .before .before .before .before .args .text .now) (c .before .before .before .before .before .args .words .now) names (c .before .before .before .before .before .args .count)) in λ x e. left-over (λ ns. not (all p ns)) (λ ns. not (all p ns)) (c .before .before .before .before .before .args .s .now) (c .before .before .before .before .before .args .from) (c .before .loop .i) (c .before .loop .inv) (c .loop-test .left) x e
+returns-3 c =
+    let at-args = c .before .before .before .before .before in
+    let p : Bytes → Bool = λ w. mem w (namesAt (at-args .args .text .now) (at-args .args .words .now) names (at-args .args .count)) in
+    λ x e. left-over (λ ns. not (all p ns)) (λ ns. not (all p ns)) (at-args .args .s .now) (at-args .args .from) (c .before .loop .i)
+    (c .before .loop .inv) (c .loop-test .left) x e
 
 pub is-unknown-spec : {M : Type 1} → statement M
 is-unknown-spec =

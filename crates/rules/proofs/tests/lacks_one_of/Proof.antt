@@ -19,7 +19,8 @@ use Rattle.rules.proofs.tests.lacks_one_of.Statement.{statement}
 use Rattle.rules.proofs.tests.lacks_one_of.Tie as tie
 
 abbrev Inv-loop : tie.InvT-loop
-Inv-loop text words k s a count i₀ i = (i ≤ count) × ((x : NamesRead) → namesBehind s a ≡ just x → all (λ w. mem w (x .names)) (listed (nameOf text words (actorsFrom k)) i) ≡ true)
+Inv-loop text words k s a count i₀ i = (i ≤ count)
+    × ((x : NamesRead) → namesBehind s a ≡ just x → all (λ w. mem w (x .names)) (listed (nameOf text words (actorsFrom k)) i) ≡ true)
 
 abbrev μ-loop : tie.MeasureT-loop
 μ-loop text words k s a count i₀ i = count - i
@@ -40,7 +41,9 @@ cast-count : tie.Need-cast-count Inv-loop μ-loop
 cast-count c = omega (arith, c .shared-slice-known4 .given (16 + 27 * c .before .before .before .before .args .k))
 
 loop-holds : tie.Need-loop-holds Inv-loop μ-loop
-loop-holds c = (omega arith, λ x ex. pass-none (λ w. mem w (x .names)) (nameOf (c .before .before .before .before .args .text .now) (c .before .before .before .before .args .words .now) (actorsFrom (c .before .before .before .before .args .k))))
+loop-holds c =
+    let at-args = c .before .before .before .before in
+    (omega arith, λ x ex. pass-none (λ w. mem w (x .names)) (nameOf (at-args .args .text .now) (at-args .args .words .now) (actorsFrom (at-args .args .k))))
 
 mul-name-at : tie.Need-mul-name-at Inv-loop μ-loop
 mul-name-at c = omega (arith, c .before .before .before .before .before .before .pre .1)
@@ -52,18 +55,28 @@ add-name-at-2 : tie.Need-add-name-at-2 Inv-loop μ-loop
 add-name-at-2 c = omega (arith, c .before .before .before .before .before .before .pre .1)
 
 add-name-at-3 : tie.Need-add-name-at-3 Inv-loop μ-loop
-add-name-at-3 c = omega (arith, c .before .before .before .before .before .before .pre .1, c .before .before .before .before .before .before .pre .0 .few-actors)
+add-name-at-3 c =
+    let at-pre = c .before .before .before .before .before .before in
+    omega (arith, at-pre .pre .1, at-pre .pre .0 .few-actors)
 
 name-at-requires : tie.Need-name-at-requires Inv-loop μ-loop
-name-at-requires c κs = (omega (arith, c .before .before .before .before .before .before .pre .1, c .before .before .before .before .before .before .pre .2, c .before .before .before .before .before .before .pre .0 .few-actors), c .before .before .before .before .before .before .pre .0 .actors .inside (c .before .loop .i) (c .loop-test .taken))
+name-at-requires c κs =
+    let at-pre = c .before .before .before .before .before .before in
+    (omega (arith, at-pre .pre .1, at-pre .pre .2, at-pre .pre .0 .few-actors), at-pre .pre .0 .actors .inside (c .before .loop .i) (c .loop-test .taken))
 
 has-name-requires : tie.Need-has-name-requires Inv-loop μ-loop
 has-name-requires c κs = search needs
 
 returns : tie.Need-returns Inv-loop μ-loop
 unfolding actorsAt namesAt nameOf
-returns c = let a = c .before .before .before .before .before .before .before .before .before .args in λ x ex. sym (ap not (pass-missed (λ w. mem w (x .names)) (nameOf (a .text .now) (a .words .now) (actorsFrom (a .k))) _ (c .before .before .before .before .loop .i) (c .before .before .before .loop-test .taken)
-    (ap (λ (w : Bytes). mem w (x .names)) (sym (c .before .before .name-at .ensures)) ∙ sym (c .before .has-name .ensures x ex) ∙ not-true _ (c .if1 .taken))))
+returns c =
+    let at-loop = c .before .before .before .before in
+    let at-args = at-loop .before .before .before .before .before in
+    let a = at-args .args in λ x ex. sym (ap not
+    (pass-missed (λ w. mem w (x .names)) (nameOf (a .text .now) (a .words .now) (actorsFrom (a .k))) _ (at-loop .loop .i)
+    (c .before .before .before .loop-test .taken)
+    (ap (λ (w : Bytes). mem w (x .names)) (sym (c .before .before .name-at .ensures)) ∙ sym (c .before .has-name .ensures x ex)
+    ∙ not-true _ (c .if1 .taken))))
 
 add-i : tie.Need-add-i Inv-loop μ-loop
 add-i c = search needs
@@ -73,15 +86,23 @@ loop-less c = search needs
 
 loop-again : tie.Need-loop-again Inv-loop μ-loop
 unfolding nameOf
-loop-again c = let a = c .before .before .before .before .before .before .before .before .before .args in (
-  omega arith,
-  λ x ex. pass-on (λ w. mem w (x .names)) (nameOf (a .text .now) (a .words .now) (actorsFrom (a .k))) (c .before .before .before .before .loop .i) (c .before .before .before .before .loop .inv .1 x ex)
-      (ap (λ (w : Bytes). mem w (x .names)) (sym (c .before .before .name-at .ensures)) ∙ sym (c .before .has-name .ensures x ex) ∙ not-false _ (c .if1 .left)),
-)
+loop-again c =
+    let at-loop = c .before .before .before .before in
+    let at-args = at-loop .before .before .before .before .before in
+    let a = at-args .args in (
+      omega arith,
+      λ x ex. pass-on (λ w. mem w (x .names)) (nameOf (a .text .now) (a .words .now) (actorsFrom (a .k))) (at-loop .loop .i) (at-loop .loop .inv .1 x ex)
+          (ap (λ (w : Bytes). mem w (x .names)) (sym (c .before .before .name-at .ensures)) ∙ sym (c .before .has-name .ensures x ex)
+          ∙ not-false _ (c .if1 .left)),
+    )
 
 returns-2 : tie.Need-returns-2 Inv-loop μ-loop
 unfolding actorsAt namesAt
-returns-2 c = let a = c .before .before .before .before .before .before .args in let e : c .before .loop .i ≡ wordAt (a .words .now) (actorCountAt (a .k)) = omega arith in λ x ex. sym (ap not (ap (λ (n : ℕ). all (λ w. mem w (x .names)) (listed (nameOf (a .text .now) (a .words .now) (actorsFrom (a .k))) n)) (sym e) ∙ c .before .loop .inv .1 x ex))
+returns-2 c =
+    let at-args = c .before .before .before .before .before .before in
+    let a = at-args .args in let e : c .before .loop .i ≡ wordAt (a .words .now) (actorCountAt (a .k)) = omega arith in
+    λ x ex. sym (ap not (ap (λ (n : ℕ). all (λ w. mem w (x .names)) (listed (nameOf (a .text .now) (a .words .now) (actorsFrom (a .k))) n)) (sym e)
+    ∙ c .before .loop .inv .1 x ex))
 
 pub lacks-one-of-spec : {M : Type 1} → statement M
 lacks-one-of-spec =

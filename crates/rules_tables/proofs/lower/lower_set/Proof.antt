@@ -24,15 +24,28 @@ abbrev μ-loop : tie.MeasureT-loop
 with-requires : tie.Need-with-requires Inv-loop μ-loop
 with-requires c κs = omega (arith, c .before .before .pre .few)
 
-ranked : (c : tie.After-find-name Inv-loop μ-loop) → c .find-name .result ≡ rank (c .before .before .before .before .before .before .before .args .text .now) (c .before .before .before .before .before .before .before .args .words .now) (c .before .before .before .before .before .before .before .args .k) (nameOf (c .before .before .before .before .before .before .before .args .text .now) (c .before .before .before .before .before .before .before .args .words .now) (overFrom (c .before .before .before .before .before .before .before .args .k)) (c .before .before .before .loop .i))
+ranked : (c : tie.After-find-name Inv-loop μ-loop)
+    → c .find-name .result ≡ rank (c .before .before .before .before .before .before .before .args .text .now)
+    (c .before .before .before .before .before .before .before .args .words .now) (c .before .before .before .before .before .before .before .args .k)
+    (nameOf (c .before .before .before .before .before .before .before .args .text .now)
+    (c .before .before .before .before .before .before .before .args .words .now)
+    (overFrom (c .before .before .before .before .before .before .before .args .k)) (c .before .before .before .loop .i))
 unfolding nameOf
-ranked c = c .find-name .ensures ∙ ap (λ (w : Bytes). place w (namesAt (c .before .before .before .before .before .before .before .args .text .now) (c .before .before .before .before .before .before .before .args .words .now) names (c .before .before .before .before .before .before .before .args .k))) (c .before .name-at .ensures)
+ranked c =
+    let at-args = c .before .before .before .before .before .before .before in
+    c .find-name .ensures ∙ ap (λ (w : Bytes). place w (namesAt (at-args .args .text .now) (at-args .args .words .now) names (at-args .args .k)))
+    (c .before .name-at .ensures)
 
 earlier : (c : tie.After-find-name Inv-loop μ-loop) → c .find-name .result < 16
-earlier c = let e = ranked c in let h = c .before .before .before .before .before .before .before .pre .earlier (c .before .before .before .loop .i) (c .before .before .loop-test .taken) in omega (arith, c .before .before .before .before .before .before .before .pre .few)
+earlier c =
+    let at-pre = c .before .before .before .before .before .before .before in
+    let e = ranked c in let h = at-pre .pre .earlier (c .before .before .before .loop .i) (c .before .before .loop-test .taken) in
+    omega (arith, at-pre .pre .few)
 
 loop-holds : tie.Need-loop-holds Inv-loop μ-loop
-loop-holds c = (omega arith, λ m. ap (λ (w : ℕ). bit w m) (c .with .ensures) ∙ union-none (c .before .before .before .args .text .now) (c .before .before .before .args .words .now) (c .before .before .before .args .k) m)
+loop-holds c =
+    let at-args = c .before .before .before in
+    (omega arith, λ m. ap (λ (w : ℕ). bit w m) (c .with .ensures) ∙ union-none (at-args .args .text .now) (at-args .args .words .now) (at-args .args .k) m)
 
 mul-name-at : tie.Need-mul-name-at Inv-loop μ-loop
 mul-name-at c = omega (arith, c .before .before .before .before .before .pre .few)
@@ -47,10 +60,14 @@ add-name-at-3 : tie.Need-add-name-at-3 Inv-loop μ-loop
 add-name-at-3 c = omega (arith, c .before .before .before .before .before .pre .few, c .before .before .before .before .before .pre .few-over)
 
 name-at-requires : tie.Need-name-at-requires Inv-loop μ-loop
-name-at-requires c κs = (omega (arith, c .before .before .before .before .before .pre .few, c .before .before .before .before .before .pre .few-over, c .before .before .before .before .before .pre .room), c .before .before .before .before .before .pre .listed .inside (c .before .loop .i) (c .loop-test .taken))
+name-at-requires c κs =
+    let at-pre = c .before .before .before .before .before in
+    (omega (arith, at-pre .pre .few, at-pre .pre .few-over, at-pre .pre .room), at-pre .pre .listed .inside (c .before .loop .i) (c .loop-test .taken))
 
 find-name-requires : tie.Need-find-name-requires Inv-loop μ-loop
-find-name-requires c κs = (c .before .before .before .before .before .before .pre .named, omega (arith, c .before .before .before .before .before .before .pre .few, c .before .before .before .before .before .before .pre .room))
+find-name-requires c κs =
+    let at-pre = c .before .before .before .before .before .before in
+    (at-pre .pre .named, omega (arith, at-pre .pre .few, at-pre .pre .room))
 
 mul-set : tie.Need-mul-set Inv-loop μ-loop
 mul-set c = omega (arith, earlier c)
@@ -74,10 +91,21 @@ loop-less : tie.Need-loop-less Inv-loop μ-loop
 loop-less c = search needs
 
 loop-again : tie.Need-loop-again Inv-loop μ-loop
-loop-again c = (omega arith, union-more (c .before .before .before .before .before .before .before .before .args .text .now) (c .before .before .before .before .before .before .before .before .args .words .now) (c .before .before .before .before .before .before .before .before .args .k) (c .before .before .before .before .loop .set) (c .before .before .before .before .loop .i) (c .before .find-name .result) (ranked (c .before)) (c .before .before .before .before .loop .inv .1))
+loop-again c =
+    let at-loop = c .before .before .before .before in
+    let at-args = at-loop .before .before .before .before in (
+      omega arith,
+      union-more (at-args .args .text .now) (at-args .args .words .now) (at-args .args .k) (at-loop .loop .set) (at-loop .loop .i)
+          (c .before .find-name .result) (ranked (c .before)) (at-loop .loop .inv .1),
+    )
 
 returns : tie.Need-returns Inv-loop μ-loop
-returns c = let e : c .before .loop .i ≡ c .before .before .before .before .before .args .over = omega arith in λ m. c .before .loop .inv .1 m ∙ ap (λ (n : ℕ). eqb m (c .before .before .before .before .before .args .k) || belowSome (c .before .before .before .before .before .args .text .now) (c .before .before .before .before .before .args .words .now) (c .before .before .before .before .before .args .k) m (namesAt (c .before .before .before .before .before .args .text .now) (c .before .before .before .before .before .args .words .now) (overFrom (c .before .before .before .before .before .args .k)) n)) e
+returns c =
+    let at-args = c .before .before .before .before .before in
+    let e : c .before .loop .i ≡ at-args .args .over = omega arith in
+    λ m. c .before .loop .inv .1 m ∙ ap (λ (n : ℕ). eqb m (at-args .args .k)
+    || belowSome (at-args .args .text .now) (at-args .args .words .now) (at-args .args .k) m
+    (namesAt (at-args .args .text .now) (at-args .args .words .now) (overFrom (at-args .args .k)) n)) e
 
 pub lower-set-spec : {M : Type 1} → statement M
 lower-set-spec =

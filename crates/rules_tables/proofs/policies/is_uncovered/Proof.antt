@@ -25,7 +25,10 @@ lacks-policy-requires c κs = (c .before .before .before .pre, omega (arith, c .
 
 returns : tie.Need-returns Inv-loop μ-loop
 unfolding uncoveredIn
-returns c = sym (scan-found (uncovered (c .before .before .before .before .before .args .words .now) (c .before .before .before .before .before .args .counts)) (λ i. i) (c .before .before .before .before .before .args .counts .categories) (c .before .before .before .loop .k) (c .before .before .loop-test .taken) (sym (c .before .lacks-policy .ensures) ∙ c .if1 .taken))
+returns c =
+    let at-args = c .before .before .before .before .before in
+    sym (scan-found (uncovered (at-args .args .words .now) (at-args .args .counts)) (λ i. i) (at-args .args .counts .categories)
+    (c .before .before .before .loop .k) (c .before .before .loop-test .taken) (sym (c .before .lacks-policy .ensures) ∙ c .if1 .taken))
 
 add-k : tie.Need-add-k Inv-loop μ-loop
 add-k c = search needs
@@ -34,7 +37,12 @@ loop-less : tie.Need-loop-less Inv-loop μ-loop
 loop-less c = search needs
 
 loop-again : tie.Need-loop-again Inv-loop μ-loop
-loop-again c = (omega arith, scan-on (uncovered (c .before .before .before .before .before .args .words .now) (c .before .before .before .before .before .args .counts)) (λ i. i) (c .before .before .before .loop .k) (c .before .before .before .loop .inv .1) (sym (c .before .lacks-policy .ensures) ∙ c .if1 .left))
+loop-again c =
+    let at-args = c .before .before .before .before .before in (
+      omega arith,
+      scan-on (uncovered (at-args .args .words .now) (at-args .args .counts)) (λ i. i) (c .before .before .before .loop .k)
+          (c .before .before .before .loop .inv .1) (sym (c .before .lacks-policy .ensures) ∙ c .if1 .left),
+    )
 
 returns-2 : tie.Need-returns-2 Inv-loop μ-loop
 unfolding uncoveredIn

@@ -27,7 +27,10 @@ policy-place-requires : tie.Need-policy-place-requires
 policy-place-requires c κs = search needs
 
 returns : tie.Need-returns
-returns c = at-least (c .before .before .before .before .before .args .counts .policies) (c .before .policy-place .result) ∙ rw (c .before .policy-place .ensures, eq-eqb (wordAt (c .before .before .before .before .before .args .words .now) (overCountAt (c .before .before .before .before .before .args .k))) 0 (c .before .before .if1 .taken))
+returns c =
+    let at-args = c .before .before .before .before .before in
+    at-least (at-args .args .counts .policies) (c .before .policy-place .result)
+    ∙ rw (c .before .policy-place .ensures, eq-eqb (wordAt (at-args .args .words .now) (overCountAt (at-args .args .k))) 0 (c .before .before .if1 .taken))
 
 returns-2 : tie.Need-returns-2
 returns-2 c = rw (ne-eqb (wordAt (c .before .before .before .args .words .now) (overCountAt (c .before .before .before .args .k))) 0 (c .if1 .left))

@@ -40,7 +40,10 @@ cast-if1 c = omega (arith, c .shared-slice-known .given (448 + 3 * c .before .be
 
 returns : tie.Need-returns Inv-loop μ-loop
 unfolding policyPlace
-returns c = sym (scan-place (λ w. eqb w (c .before .before .before .before .args .m)) (policyCategory (c .before .before .before .before .args .words .now)) (c .before .before .before .before .args .counts .policies) (c .before .before .before .loop .i) (c .before .before .loop-test .taken) (c .before .before .before .loop .inv .1) (eq-eqb _ _ (c .if1 .taken)))
+returns c =
+    let at-args = c .before .before .before .before in
+    sym (scan-place (λ w. eqb w (at-args .args .m)) (policyCategory (at-args .args .words .now)) (at-args .args .counts .policies)
+    (c .before .before .before .loop .i) (c .before .before .loop-test .taken) (c .before .before .before .loop .inv .1) (eq-eqb _ _ (c .if1 .taken)))
 
 add-i : tie.Need-add-i Inv-loop μ-loop
 add-i c = search needs
@@ -49,11 +52,20 @@ loop-less : tie.Need-loop-less Inv-loop μ-loop
 loop-less c = search needs
 
 loop-again : tie.Need-loop-again Inv-loop μ-loop
-loop-again c = (omega arith, scan-on (λ w. eqb w (c .before .before .before .before .args .m)) (policyCategory (c .before .before .before .before .args .words .now)) (c .before .before .before .loop .i) (c .before .before .before .loop .inv .1) (ne-eqb _ _ (c .if1 .left)))
+loop-again c =
+    let at-args = c .before .before .before .before in (
+      omega arith,
+      scan-on (λ w. eqb w (at-args .args .m)) (policyCategory (at-args .args .words .now)) (c .before .before .before .loop .i)
+          (c .before .before .before .loop .inv .1) (ne-eqb _ _ (c .if1 .left)),
+    )
 
 returns-2 : tie.Need-returns-2 Inv-loop μ-loop
 unfolding policyPlace
-returns-2 c = let e : c .before .loop .i ≡ c .before .before .args .counts .policies = omega arith in sym (scan-absent (λ w. eqb w (c .before .before .args .m)) (policyCategory (c .before .before .args .words .now)) (c .before .before .args .counts .policies) (rw e at (c .before .loop .inv .1)))
+returns-2 c =
+    let at-args = c .before .before in
+    let e : c .before .loop .i ≡ at-args .args .counts .policies = omega arith in
+    sym (scan-absent (λ w. eqb w (at-args .args .m)) (policyCategory (at-args .args .words .now)) (at-args .args .counts .policies)
+    (rw e at (c .before .loop .inv .1)))
 
 pub policy-place-spec : {M : Type 1} → statement M
 policy-place-spec =

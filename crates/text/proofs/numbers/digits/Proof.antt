@@ -51,7 +51,8 @@ returns c =
       at-loop .loop .inv .0,
       decimal-step (at-args .args .s .now) (at-loop .loop .i) d (at-loop .loop .v),
       decimal-least
-          (at-loop .loop .v * 10 + (getD (at-args .args .s .now) (at-loop .loop .i) 0 - 48)) (run isDigit (drop (at-loop .loop .i + 1) (at-args .args .s .now))),
+          (at-loop .loop .v * 10 + (getD (at-args .args .s .now) (at-loop .loop .i) 0 - 48))
+          (run isDigit (drop (at-loop .loop .i + 1) (at-args .args .s .now))),
     ))
 
 mul-v : tie.Need-mul-v Inv-loop μ-loop
