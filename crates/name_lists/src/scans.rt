@@ -1,8 +1,10 @@
 // The names of a list of a line: where they end, whether one stands among them or twice, how many they are.
 ghost use mathlib.Core.Path.{_≡_};
+ghost use mathlib.Core.List.{[]};
 ghost use lib.ListN.{length};
 ghost use Rattle.model.specs.Choice.{just};
 ghost use Rattle.model.specs.Names.{mem, twice};
+ghost use Rattle.names_met.specs.Table.{Holds};
 ghost use Rattle.name_lists.specs.Names.{NamesRead, namesBehind, namesEnd};
 use crate::LIST_DEPTH;
 use items::Piece;
@@ -83,11 +85,12 @@ fn has_twice_short(s: &[u8], from: usize) -> bool
     has_twice_with(s, from, &mut table)
 }
 
-// The same with a lent table of any length for the names met: each is looked up among those before it. Where the table is full, behind itself.
+// The same with a lent table, empty and of any length, for the names met: each is looked up among those before it. Where the table is full, behind itself.
 fn has_twice_with(s: &[u8], from: usize, table: &mut [u32]) -> bool
+    requires { ⌜ Holds (now s) (now table) 0 [] ⌝ }
     ensures { λ r. ⌜ ((x : NamesRead) → namesBehind (now (s .entry)) from ≡ just x → r ≡ twice (x .names)) ⌝ }
 {
-    let mut n = names_met::cleared(table);
+    let mut n = 0;
     let mut i = from;
     while i < s.len() {
         let Piece::At(p, q) = places::next_name(s, i, LIST_DEPTH) else {

@@ -1,19 +1,19 @@
--- Laws of the names in a table: none after clearing, one more, and how a walk along the chain of a name's slot goes. Assumes nothing.
+-- Laws of the names in a table: none in zeros, one more, and how a walk along the chain of a name's slot goes. Assumes nothing.
 use Prim.Native.Nat.{ℕ, suc, _+_, _*_, _-_, _≤_, _<_}
 use mathlib.Core.Path.{_≡_, sym, ap, ap₂, _∙_}
 use mathlib.Core.List.{List, [], _∷_, _++_, append-nil}
 use mathlib.Core.Bool.{Bool, true, false}
 use native.Mathlib.Omega.{arith}
-use lib.ListN.{length, set, length-set, take, drop}
+use lib.ListN.{length, set, length-set, take, drop, replicate, length-replicate, getD-replicate}
 use lib.Seq.{getD-set-same, getD-set-other}
 use Rattle.logic.specs.Tests.{either, equal-or-not}
 use Rattle.model.specs.Bytes.{Bytes, same}
 use Rattle.model.specs.Names.{mem}
 use Rattle.model.specs.Answers.{partOf, nameAt}
 use Rattle.model.specs.declared.Part.{Part}
-use Rattle.chains.specs.Chains.{cleared, linked, Walked}
+use Rattle.chains.specs.Chains.{lastOf, linked, Walked}
 use Rattle.chains.specs.Slots.{slotOf}
-use Rattle.chains.proofs.ChainLaws.{length-cleared, cleared-chained, chained-kept, length-linked, linked-apart, linked-chained}
+use Rattle.chains.proofs.ChainLaws.{chained-kept, length-linked, linked-apart, linked-chained}
 use Rattle.chains.proofs.ChainLaws.{walk-first, walk-inside, walk-next, walk-falls, walk-over}
 use Rattle.chains.proofs.SlotLaws.{slot-small}
 use Rattle.book_tables.specs.View.{wordAt, nameIn, nameOf, namesAt}
@@ -28,18 +28,18 @@ holds-full s table names = record { inside = omega arith; lists = λ l. absurd (
 pub holds-same : (s : Bytes) (table : List ℕ) (n : ℕ) (names : Names) → Holds s table n names → Holds s table n (names ++ [])
 holds-same s table n names h = rw (append-nil names) h
 
--- a table that was cleared has no name
-pub holds-none : (s : Bytes) (table : List ℕ) → 256 ≤ length table → Holds s (cleared table 0 256) 0 []
-unfolding namesAt
-holds-none s table l = record {
+-- a table of zeros has no name
+pub holds-none : (s : Bytes) (size : ℕ) → 256 ≤ size → Holds s (replicate size 0) 0 []
+unfolding namesAt lastOf
+holds-none s size l = record {
   inside = omega arith;
   lists = λ u. record {
     has = record {
-      room = omega (arith, length-cleared table 0 256);
+      room = omega (arith, length-replicate {A = ℕ} size 0);
       inside = λ k b. absurd (omega arith);
-      chains = cleared-chained table 0 256 256 (slotMet s (cleared table 0 256)) l;
+      chains = record { firsts = λ k b. getD-replicate size (0 + k) 0 0 (omega arith); nexts = λ i b. absurd (omega arith) };
     };
-    are = listed-none (nameMet s (cleared table 0 256));
+    are = listed-none (nameMet s (replicate size 0));
   };
 }
 

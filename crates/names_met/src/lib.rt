@@ -1,4 +1,5 @@
 // The names met in a text, in a table of words: 256 heads of chains by the names' slots, a link for each name, and each name's word (its start and length).
+// A table of zeros has no name.
 ghost use mathlib.Core.Path.{_≡_};
 ghost use mathlib.Core.List.{[], _∷_, _++_};
 ghost use Prim.Native.Nat.{_≤_};
@@ -16,17 +17,6 @@ use text::compare;
 pub const STARTS: usize = 134217728;
 
 pub const MAX_ENTRIES: usize = 65536;
-
-// Empties a table, and answers that it has no name; or its length, where it is too short for the chains.
-pub fn cleared(table: &mut [u32]) -> usize
-    ensures { λ r. ⌜ ((s : Bytes) → Holds s (now (table .exit)) r []) ⌝ }
-{
-    if table.len() < SLOTS {
-        return table.len();
-    }
-    chains::clear(table, 0, SLOTS);
-    0
-}
 
 // Where the names' words begin in a table of so many words: behind the links, which have half of what the heads leave.
 fn words_from(size: usize) -> usize

@@ -1,5 +1,6 @@
 // One walk over the pieces of a text, to its lowest fault.
 ghost use mathlib.Core.Path.{_≡_};
+ghost use mathlib.Core.List.{[]};
 ghost use lib.ListN.{take};
 ghost use Rattle.model.specs.Answers.{nameAt};
 ghost use Rattle.model.specs.Grammar.{goes, comes};
@@ -38,7 +39,9 @@ fn link_passed(
 ) -> Passed
     requires { ⌜ Fits (now book) (now words) counts × Known (now s) (now vertices) (now edges) (before .met) (take i (textPieces (now s))) ⌝ }
     ensures { λ r. ⌜ ((returned : Table) → Holds (now (s .entry)) returned (before .met .returned) (namesIn Returned (take i (textPieces (now (s .entry)))))
-        → Behind (bookAt (now (book .entry)) (now (words .entry)) counts) (now (s .entry)) (take i (textPieces (now (s .entry)))) (before .survey) (goes (nameAt (now (s .entry)) (l .edge)) (nameAt (now (s .entry)) (l .label)) (nameAt (now (s .entry)) (l .vertex))) (now (vertices .exit)) (now (edges .exit)) returned r
+        → Behind (bookAt (now (book .entry)) (now (words .entry)) counts) (now (s .entry)) (take i (textPieces (now (s .entry)))) (before .survey)
+        (goes (nameAt (now (s .entry)) (l .edge)) (nameAt (now (s .entry)) (l .label)) (nameAt (now (s .entry)) (l .vertex))) (now (vertices .exit))
+        (now (edges .exit)) returned r
         × Behind (bookAt (now (book .entry)) (now (words .entry)) counts) (now (s .entry)) (take i (textPieces (now (s .entry)))) (before .survey) (comes (nameAt (now (s .entry)) (l .edge)) (nameAt (now (s .entry)) (l .label)) (nameAt (now (s .entry)) (l .vertex))) (now (vertices .exit)) (now (edges .exit)) returned r) ⌝ }
 {
     let mut met = before.met;
@@ -62,8 +65,10 @@ fn piece_passed(
     before: Passed,
     p: Piece,
 ) -> Passed
-    requires { ⌜ Fits (now book) (now words) counts × Known (now s) (now vertices) (now edges) (before .met) (take i (textPieces (now s))) × Holds (now s) (now returned) (before .met .returned) (namesIn Returned (take i (textPieces (now s)))) ⌝ }
-    ensures { λ r. ⌜ Behind (bookAt (now (book .entry)) (now (words .entry)) counts) (now (s .entry)) (take i (textPieces (now (s .entry)))) (before .survey) (pieceOf (now (s .entry)) p) (now (vertices .exit)) (now (edges .exit)) (now (returned .exit)) r ⌝ }
+    requires { ⌜ Fits (now book) (now words) counts × Known (now s) (now vertices) (now edges) (before .met) (take i (textPieces (now s)))
+        × Holds (now s) (now returned) (before .met .returned) (namesIn Returned (take i (textPieces (now s)))) ⌝ }
+    ensures { λ r. ⌜ Behind (bookAt (now (book .entry)) (now (words .entry)) counts) (now (s .entry)) (take i (textPieces (now (s .entry))))
+        (before .survey) (pieceOf (now (s .entry)) p) (now (vertices .exit)) (now (edges .exit)) (now (returned .exit)) r ⌝ }
 {
     let mut met = before.met;
     let t = before.survey;
@@ -109,7 +114,7 @@ fn is_whole_from(s: &[u8], from: Place) -> bool
     }
 }
 
-// The number of the lowest fault of a text, 3 to 8; 0 if it has none. The names met are listed in three tables of any length.
+// The number of the lowest fault of a text, 3 to 8; 0 if it has none. The names met are listed in three tables, empty and of any length.
 pub fn fault_with(
     book: &[u8],
     words: &[u32],
@@ -119,15 +124,15 @@ pub fn fault_with(
     edges: &mut [u32],
     returned: &mut [u32],
 ) -> u32
-    requires { ⌜ Fits (now book) (now words) counts ⌝ }
+    requires { ⌜ Fits (now book) (now words) counts × Holds (now s) (now vertices) 0 [] × Holds (now s) (now edges) 0 [] × Holds (now s) (now returned) 0 [] ⌝ }
     ensures { λ r. ⌜ r ≡ textFault (bookAt (now (book .entry)) (now (words .entry)) counts) (now (s .entry)) ⌝ }
 {
     let mut place = scan::text_start();
     let mut i = 0;
     let met = Met {
-        vertices: names_met::cleared(vertices),
-        edges: names_met::cleared(edges),
-        returned: names_met::cleared(returned),
+        vertices: 0,
+        edges: 0,
+        returned: 0,
     };
     let survey = tallies::nothing_seen();
     let mut t = Passed { survey, met };

@@ -1,4 +1,4 @@
--- `lists::scans::has_twice_with` meets its contract. The loop's invariant: the table has the names before the place. Assumes nothing.
+-- `name_lists::scans::has_twice_with` meets its contract. The loop's invariant: the table has the names before the place. Assumes nothing.
 use Prim.Native.Nat.{_-_}
 use mathlib.Core.Path.{_≡_, refl, sym, _∙_}
 use native.Mathlib.Omega.{arith}
@@ -17,13 +17,9 @@ Inv-loop s from table₀ n₀ i₀ table n i = MetBefore s table from n i × (le
 abbrev μ-loop : tie.MeasureT-loop
 μ-loop s from table₀ n₀ i₀ table n i = length s - i
 
-cleared-requires : tie.Need-cleared-requires Inv-loop μ-loop
-cleared-requires c κs = search needs
-
 loop-holds : tie.Need-loop-holds Inv-loop μ-loop
 loop-holds c =
-    let a = c .before .before .before .before .before .before .args in
-    (met-start (a .s .now) _ (a .from) _ (c .before .before .cleared .ensures (a .s .now)), refl)
+    (met-start (c .before .before .args .s .now) _ (c .before .before .args .from) _ (c .before .before .pre), refl)
 
 next-name-requires : tie.Need-next-name-requires Inv-loop μ-loop
 next-name-requires c κs = search needs
@@ -35,12 +31,12 @@ enum-told : tie.Need-enum-told Inv-loop μ-loop
 enum-told c = search needs
 
 same-length : tie.Need-same-length Inv-loop μ-loop
-same-length c = c .before .before .before .before .loop .inv .1 ∙ c .before .before .before .before .before .before .table .given
+same-length c = c .before .before .before .before .loop .inv .1
 
 returns : tie.Need-returns Inv-loop μ-loop
 returns c =
     let at-loop = c .before .before .before .before in
-    let at-args = at-loop .before .before .before .before .before .before .before in
+    let at-args = at-loop .before .before .before in
     let a = at-args .args in let l = at-loop .loop in
     met-done (a .s .now) (l .table) (a .from) (l .n) (l .i) (l .inv .0) (sym (c .enum-told .given .1) ∙ c .before .before .next-name .ensures .is)
 
@@ -50,8 +46,7 @@ has-again-requires c κs = search needs
 same-length-2 : tie.Need-same-length-2 Inv-loop μ-loop
 same-length-2 c =
     let at-loop = c .before .before .before .before .before .before .before in
-    let at-table = at-loop .before .before in
-    at-loop .loop .inv .1 ∙ at-table .table .given
+    at-loop .loop .inv .1
 
 returns-2 : tie.Need-returns-2 Inv-loop μ-loop
 returns-2 c = c .has-again .ensures
@@ -60,7 +55,7 @@ sub-is-listed : tie.Need-sub-is-listed Inv-loop μ-loop
 sub-is-listed c =
     let at-next-name = c .before .before .before .before .before in
     let at-loop = at-next-name .before .before in
-    let at-args = at-loop .before .before .before .before .before .before .before in
+    let at-args = at-loop .before .before .before in
     let h = placed-at (at-args .args .s .now) (at-loop .loop .i) _ (c .before .before .before .p .given .1) (at-next-name .next-name .ensures .placed) in
     omega (arith, h .some)
 
@@ -68,7 +63,7 @@ part-is-listed-start : tie.Need-part-is-listed-start Inv-loop μ-loop
 part-is-listed-start c =
     let at-next-name = c .before .before .before .before .before in
     let at-loop = at-next-name .before .before in
-    let at-args = at-loop .before .before .before .before .before .before .before in
+    let at-args = at-loop .before .before .before in
     let h = placed-at (at-args .args .s .now) (at-loop .loop .i) _ (c .before .before .before .p .given .1) (at-next-name .next-name .ensures .placed) in
     omega (arith, h .some)
 
@@ -76,7 +71,7 @@ part-is-listed-end : tie.Need-part-is-listed-end Inv-loop μ-loop
 part-is-listed-end c =
     let at-next-name = c .before .before .before .before .before in
     let at-loop = at-next-name .before .before in
-    let at-args = at-loop .before .before .before .before .before .before .before in
+    let at-args = at-loop .before .before .before in
     let h = placed-at (at-args .args .s .now) (at-loop .loop .i) _ (c .before .before .before .p .given .1) (at-next-name .next-name .ensures .placed) in
     omega (arith, h .inside)
 
@@ -86,8 +81,7 @@ is-listed-requires c κs = c .before .before .before .before .before .before .be
 same-length-3 : tie.Need-same-length-3 Inv-loop μ-loop
 same-length-3 c =
     let at-loop = c .before .before .before .before .before .before .before .before .before .before in
-    let at-table = at-loop .before .before in
-    at-loop .loop .inv .1 ∙ at-table .table .given
+    at-loop .loop .inv .1
 
 returns-3 : tie.Need-returns-3 Inv-loop μ-loop
 unfolding partOf
@@ -96,17 +90,17 @@ returns-3 c =
     let at-p = at-if1 .before .before in
     let at-next-name = at-p .before .before in
     let at-loop = at-next-name .before .before in
-    let at-args = at-loop .before .before .before .before .before .before .before in
+    let at-args = at-loop .before .before .before in
     let a = at-args .args in let l = at-loop .loop in
     met-again (a .s .now) (l .table) (a .from) (l .n) (l .i) (l .inv .0) _ _ (sym (at-p .p .given .1) ∙ at-next-name .next-name .ensures .is)
     (at-if1 .if1 .left) _ (c .before .is-listed .ensures) (c .if2 .taken)
 
-sub-t11 : tie.Need-sub-t11 Inv-loop μ-loop
-sub-t11 c =
+sub-t9 : tie.Need-sub-t9 Inv-loop μ-loop
+sub-t9 c =
     let at-p = c .before .before .before .before .before .before in
     let at-next-name = at-p .before .before in
     let at-loop = at-next-name .before .before in
-    let at-args = at-loop .before .before .before .before .before .before .before in
+    let at-args = at-loop .before .before .before in
     let h = placed-at (at-args .args .s .now) (at-loop .loop .i) _ (at-p .p .given .1) (at-next-name .next-name .ensures .placed) in omega (arith, h .some)
 
 with-name-requires : tie.Need-with-name-requires Inv-loop μ-loop
@@ -117,7 +111,7 @@ loop-less c =
     let at-p = c .before .before .before .before .before .before .before .before .before .before in
     let at-next-name = at-p .before .before in
     let at-loop = at-next-name .before .before in
-    let at-args = at-loop .before .before .before .before .before .before .before in
+    let at-args = at-loop .before .before .before in
     let h = placed-at (at-args .args .s .now) (at-loop .loop .i) _ (at-p .p .given .1) (at-next-name .next-name .ensures .placed) in
     omega (arith, h .after, h .some)
 
@@ -130,20 +124,20 @@ loop-again c =
     let at-p = at-if1 .before .before in
     let at-next-name = at-p .before .before in
     let at-loop = at-next-name .before .before in
-    let at-args = at-loop .before .before .before .before .before .before .before in
+    let at-args = at-loop .before .before .before in
     let a = at-args .args in let l = at-loop .loop in (
       met-more (a .s .now) (l .table) (a .from) (l .n) (l .i) (l .inv .0) _ _ (sym (at-p .p .given .1) ∙ at-next-name .next-name .ensures .is)
           (at-if1 .if1 .left) _ (at-is-listed .is-listed .ensures) (at-if2 .if2 .left) _ _ (c .before .before .with-name .ensures),
-      c .before .table2 .given
+      c .before .table .given
           ∙ l .inv .1,
     )
 
 same-length-4 : tie.Need-same-length-4 Inv-loop μ-loop
-same-length-4 c = c .before .loop .inv .1 ∙ c .before .before .before .table .given
+same-length-4 c = c .before .loop .inv .1
 
 returns-4 : tie.Need-returns-4 Inv-loop μ-loop
 returns-4 c =
-    let a = c .before .before .before .before .before .before .before .before .args in let l = c .before .loop in
+    let a = c .before .before .before .before .args in let l = c .before .loop in
     λ x e. left-over _ _ (a .s .now) (a .from) (l .i) (l .inv .0 .left) (c .loop-test .left) x e
 
 pub has-twice-with-spec : {M : Type 1} → statement M
@@ -152,7 +146,6 @@ has-twice-with-spec =
     (tie.spec
     Inv-loop
     μ-loop
-    cleared-requires
     loop-holds
     next-name-requires
     enum-known-p
@@ -168,7 +161,7 @@ has-twice-with-spec =
     is-listed-requires
     same-length-3
     returns-3
-    sub-t11
+    sub-t9
     with-name-requires
     loop-less
     loop-again

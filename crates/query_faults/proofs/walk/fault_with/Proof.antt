@@ -1,4 +1,4 @@
--- `faults::walk::fault_with` meets its contract. Assumes nothing.
+-- `query_faults::walk::fault_with` meets its contract. Assumes nothing.
 use mathlib.Core.Path.{_≡_, refl, ap, _∙_}
 use native.Mathlib.Omega.{arith}
 use lib.ListN.{length}
@@ -11,7 +11,8 @@ use Rattle.query_faults.proofs.walk.fault_with.Statement.{statement}
 use Rattle.query_faults.proofs.walk.fault_with.Tie as tie
 
 abbrev Inv-loop : tie.InvT-loop
-Inv-loop book words counts s vertices₀ edges₀ returned₀ place₀ i₀ t₀ vertices edges returned place i t = Walked (bookAt book words counts) s vertices edges returned place i t × (length vertices ≡ length vertices₀) × (length edges ≡ length edges₀) × (length returned ≡ length returned₀)
+Inv-loop book words counts s vertices₀ edges₀ returned₀ place₀ i₀ t₀ vertices edges returned place i t = Walked (bookAt book words counts) s vertices edges
+    returned place i t × (length vertices ≡ length vertices₀) × (length edges ≡ length edges₀) × (length returned ≡ length returned₀)
 
 abbrev μ-loop : tie.MeasureT-loop
 μ-loop book words counts s vertices₀ edges₀ returned₀ place₀ i₀ t₀ vertices edges returned place i t = length (foundAt s place)
@@ -19,20 +20,13 @@ abbrev μ-loop : tie.MeasureT-loop
 text-start-requires : tie.Need-text-start-requires Inv-loop μ-loop
 text-start-requires c κs = search needs
 
-cleared-requires : tie.Need-cleared-requires Inv-loop μ-loop
-cleared-requires c κs = search needs
-
-cleared-requires-2 : tie.Need-cleared-requires-2 Inv-loop μ-loop
-cleared-requires-2 c κs = search needs
-
-cleared-requires-3 : tie.Need-cleared-requires-3 Inv-loop μ-loop
-cleared-requires-3 c κs = search needs
-
 nothing-seen-requires : tie.Need-nothing-seen-requires Inv-loop μ-loop
 nothing-seen-requires c κs = search needs
 
 loop-holds : tie.Need-loop-holds Inv-loop μ-loop
-loop-holds c = (rw (c .before .before .before .before .before .before .before .before .before .before .before .before .before .text-start .ensures, c .nothing-seen .ensures) (walked-start _ _ _ _ _ _ (c .before .before .before .before .before .before .before .before .before .before .before .cleared .ensures _) (c .before .before .before .before .before .before .before .cleared2 .ensures _) (c .before .before .before .cleared3 .ensures _)), refl, refl, refl)
+loop-holds c =
+    let start = c .before .before .before .before .before .before .before .before in
+    (rw (c .before .text-start .ensures, c .nothing-seen .ensures) (walked-start _ _ _ _ _ _ (start .pre .1) (start .pre .2) (start .pre .3)), refl, refl, refl)
 
 next-piece-requires : tie.Need-next-piece-requires Inv-loop μ-loop
 next-piece-requires c κs = search needs
@@ -41,7 +35,13 @@ enum-known-x : tie.Need-enum-known-x Inv-loop μ-loop
 enum-known-x c = search needs
 
 piece-passed-requires : tie.Need-piece-passed-requires Inv-loop μ-loop
-piece-passed-requires c κs = (c .before .before .before .before .before .before .before .before .before .before .before .before .before .before .before .before .before .before .before .before .before .before .before .before .before .before .before .before .before .pre, record { vertex-names = c .before .before .before .before .before .before .before .before .loop .inv .0 .vertex-names; edge-names = c .before .before .before .before .before .before .before .before .loop .inv .0 .edge-names }, c .before .before .before .before .before .before .before .before .loop .inv .0 .return-names)
+piece-passed-requires c κs =
+    let at-loop = c .before .before .before .before .before .before .before .before in
+    let at-pre = at-loop .before .before .before .before .before .before .before .before .before in (
+      at-pre .pre .0,
+      record { vertex-names = at-loop .loop .inv .0 .vertex-names; edge-names = at-loop .loop .inv .0 .edge-names },
+      at-loop .loop .inv .0 .return-names,
+    )
 
 is-whole-from-requires : tie.Need-is-whole-from-requires Inv-loop μ-loop
 is-whole-from-requires c κs = search needs
@@ -50,25 +50,63 @@ fault-at-end-requires : tie.Need-fault-at-end-requires Inv-loop μ-loop
 fault-at-end-requires c κs = search needs
 
 same-length : tie.Need-same-length Inv-loop μ-loop
-same-length c = omega (arith, c .before .before .before .before .before .before .before .before .vertices2 .given, c .before .before .before .before .before .before .before .before .before .before .before .before .before .before .before .before .before .before .loop .inv .1, c .before .before .before .before .before .before .before .before .before .before .before .before .before .before .before .before .before .before .before .before .before .before .before .before .before .before .before .before .before .vertices .given)
+same-length c =
+    let at-vertices = c .before .before .before .before .before .before .before .before in
+    let at-loop = at-vertices .before .before .before .before .before .before .before .before .before .before in
+    omega (arith, at-vertices .vertices .given, at-loop .loop .inv .1)
 
 same-length-2 : tie.Need-same-length-2 Inv-loop μ-loop
-same-length-2 c = omega (arith, c .before .before .before .before .before .before .edges2 .given, c .before .before .before .before .before .before .before .before .before .before .before .before .before .before .before .before .before .before .loop .inv .2, c .before .before .before .before .before .before .before .before .before .before .before .before .before .before .before .before .before .before .before .before .before .before .before .before .before .edges .given)
+same-length-2 c =
+    let at-edges = c .before .before .before .before .before .before in
+    let at-loop = at-edges .before .before .before .before .before .before .before .before .before .before .before .before in
+    omega (arith, at-edges .edges .given, at-loop .loop .inv .2)
 
 same-length-3 : tie.Need-same-length-3 Inv-loop μ-loop
-same-length-3 c = omega (arith, c .before .before .before .before .returned2 .given, c .before .before .before .before .before .before .before .before .before .before .before .before .before .before .before .before .before .before .loop .inv .3, c .before .before .before .before .before .before .before .before .before .before .before .before .before .before .before .before .before .before .before .before .before .returned .given)
+same-length-3 c =
+    let at-returned = c .before .before .before .before in
+    let at-loop = at-returned .before .before .before .before .before .before .before .before .before .before .before .before .before .before in
+    omega (arith, at-returned .returned .given, at-loop .loop .inv .3)
 
 returns : tie.Need-returns Inv-loop μ-loop
-returns c = c .fault-at-end .ensures ∙ ap (λ w. verdict w (c .before .before .before .before .before .before .before .before .before .piece-passed .result .survey)) (c .before .is-whole-from .ensures) ∙ walked-undeclared _ _ _ _ _ _ _ _ (c .before .before .before .before .before .before .before .before .before .before .before .before .before .before .before .before .before .before .loop .inv .0) _ (c .before .before .before .before .before .before .before .before .before .before .before .before .before .before .before .before .before .next-piece .ensures) _ (c .before .before .before .before .before .before .before .before .before .before .before .before .before .before .before .x .given .1) _ _ _ _ (c .before .before .before .before .before .before .before .before .before .piece-passed .ensures) (c .before .before .if1 .taken)
+returns c =
+    let at-piece-passed = c .before .before .before .before .before .before .before .before .before in
+    let at-x = at-piece-passed .before .before .before .before .before .before in
+    let at-next-piece = at-x .before .before in
+    let at-loop = at-next-piece .before in
+    c .fault-at-end .ensures ∙ ap (λ w. verdict w (at-piece-passed .piece-passed .result .survey)) (c .before .is-whole-from .ensures)
+    ∙ walked-undeclared _ _ _ _ _ _ _ _ (at-loop .loop .inv .0) _ (at-next-piece .next-piece .ensures) _ (at-x .x .given .1) _ _ _ _
+    (at-piece-passed .piece-passed .ensures) (c .before .before .if1 .taken)
 
 add-i : tie.Need-add-i Inv-loop μ-loop
-add-i c = omega (arith, walked-below _ _ _ _ _ _ _ _ (c .before .before .before .before .before .before .before .before .before .before .before .before .before .before .before .before .loop .inv .0) _ (c .before .before .before .before .before .before .before .before .before .before .before .before .before .before .before .next-piece .ensures) _ (c .before .before .before .before .before .before .before .before .before .before .before .before .before .x .given .1), c .before .before .before .before .before .before .before .before .before .before .before .before .before .before .before .before .before .before .before .before .before .before .before .before .before .before .before .before .before .before .before .before .before .before .before .before .before .good)
+add-i c =
+    let at-x = c .before .before .before .before .before .before .before .before .before .before .before .before .before in
+    let at-next-piece = at-x .before .before in
+    let at-loop = at-next-piece .before in
+    let at-good = at-loop .before .before .before .before .before .before .before .before .before in
+    omega (arith, walked-below _ _ _ _ _ _ _ _ (at-loop .loop .inv .0) _ (at-next-piece .next-piece .ensures) _ (at-x .x .given .1), at-good .good)
 
 loop-less : tie.Need-loop-less Inv-loop μ-loop
-loop-less c = walked-less _ _ _ _ _ _ _ _ (c .before .before .before .before .before .before .before .before .before .before .before .before .before .before .before .before .loop .inv .0) _ (c .before .before .before .before .before .before .before .before .before .before .before .before .before .before .before .next-piece .ensures) _ (c .before .before .before .before .before .before .before .before .before .before .before .before .before .x .given .1)
+loop-less c =
+    let at-x = c .before .before .before .before .before .before .before .before .before .before .before .before .before in
+    let at-next-piece = at-x .before .before in
+    let at-loop = at-next-piece .before in
+    walked-less _ _ _ _ _ _ _ _ (at-loop .loop .inv .0) _ (at-next-piece .next-piece .ensures) _ (at-x .x .given .1)
 
 loop-again : tie.Need-loop-again Inv-loop μ-loop
-loop-again c = (walked-on _ _ _ _ _ _ _ _ (c .before .before .before .before .before .before .before .before .before .before .before .before .before .before .before .before .loop .inv .0) _ (c .before .before .before .before .before .before .before .before .before .before .before .before .before .before .before .next-piece .ensures) _ (c .before .before .before .before .before .before .before .before .before .before .before .before .before .x .given .1) _ _ _ _ (c .before .before .before .before .before .before .before .piece-passed .ensures), omega (arith, c .before .before .before .before .before .before .vertices2 .given, c .before .before .before .before .before .before .before .before .before .before .before .before .before .before .before .before .loop .inv .1), omega (arith, c .before .before .before .before .edges2 .given, c .before .before .before .before .before .before .before .before .before .before .before .before .before .before .before .before .loop .inv .2), omega (arith, c .before .before .returned2 .given, c .before .before .before .before .before .before .before .before .before .before .before .before .before .before .before .before .loop .inv .3))
+loop-again c =
+    let at-edges = c .before .before .before .before in
+    let at-vertices = at-edges .before .before in
+    let at-piece-passed = at-vertices .before in
+    let at-x = at-piece-passed .before .before .before .before .before .before in
+    let at-next-piece = at-x .before .before in
+    let at-loop = at-next-piece .before in (
+      walked-on _ _ _ _ _ _ _ _ (at-loop .loop .inv .0) _ (at-next-piece .next-piece .ensures) _ (at-x .x .given .1) _ _ _ _
+          (at-piece-passed .piece-passed .ensures),
+      omega (arith, at-vertices .vertices .given, at-loop .loop .inv .1),
+      omega
+          (arith, at-edges .edges .given, at-loop .loop .inv .2),
+      omega (arith, c .before .before .returned .given, at-loop .loop .inv .3),
+    )
 
 enum-known-w : tie.Need-enum-known-w Inv-loop μ-loop
 enum-known-w c = search needs
@@ -77,16 +115,19 @@ fault-at-end-requires-2 : tie.Need-fault-at-end-requires-2 Inv-loop μ-loop
 fault-at-end-requires-2 c κs = search needs
 
 same-length-4 : tie.Need-same-length-4 Inv-loop μ-loop
-same-length-4 c = omega (arith, c .before .before .before .before .before .loop .inv .1, c .before .before .before .before .before .before .before .before .before .before .before .before .before .before .before .before .vertices .given)
+same-length-4 c = c .before .before .before .before .before .loop .inv .1
 
 same-length-5 : tie.Need-same-length-5 Inv-loop μ-loop
-same-length-5 c = omega (arith, c .before .before .before .before .before .loop .inv .2, c .before .before .before .before .before .before .before .before .before .before .before .before .edges .given)
+same-length-5 c = c .before .before .before .before .before .loop .inv .2
 
 same-length-6 : tie.Need-same-length-6 Inv-loop μ-loop
-same-length-6 c = omega (arith, c .before .before .before .before .before .loop .inv .3, c .before .before .before .before .before .before .before .before .returned .given)
+same-length-6 c = c .before .before .before .before .before .loop .inv .3
 
 returns-2 : tie.Need-returns-2 Inv-loop μ-loop
-returns-2 c = c .fault-at-end2 .ensures ∙ walked-end _ _ _ _ _ _ _ _ (c .before .before .before .before .before .loop .inv .0) _ (c .before .before .before .before .next-piece .ensures) _ (c .before .before .w .given .1)
+returns-2 c =
+    let at-next-piece = c .before .before .before .before in
+    let at-loop = at-next-piece .before in
+    c .fault-at-end2 .ensures ∙ walked-end _ _ _ _ _ _ _ _ (at-loop .loop .inv .0) _ (at-next-piece .next-piece .ensures) _ (c .before .before .w .given .1)
 
 pub fault-with-spec : {M : Type 1} → statement M
 fault-with-spec =
@@ -95,9 +136,6 @@ fault-with-spec =
     Inv-loop
     μ-loop
     text-start-requires
-    cleared-requires
-    cleared-requires-2
-    cleared-requires-3
     nothing-seen-requires
     loop-holds
     next-piece-requires
