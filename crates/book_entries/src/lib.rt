@@ -5,11 +5,11 @@ ghost use Prim.Native.Nat.{_<_};
 ghost use lib.ListN.{length};
 ghost use Rattle.book_entries.specs.Faults.{entryFault, lower};
 ghost use Rattle.book_entries.specs.Known.{EntryAsked, EntryAdded, EntryPutAsked, EntryPut};
+use book_tables::BookCounts;
 use model::Part;
 use model::Value;
 use model::limits::MAX_DECLARED;
 use model::limits::MAX_ENTRIES;
-use book_tables::BookCounts;
 
 // The faults of an entry, in the paper's numbers: "a name is not declared", "given a second time", "value not of the declared type".
 pub const NOT_DECLARED: u32 = 4;

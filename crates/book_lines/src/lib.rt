@@ -5,8 +5,9 @@ pub mod pieces;
 pub mod steps;
 
 use book_entries::EntriesRead;
-use model::Part;
 use book_tables::BookCounts;
+use book_tables::Owner;
+use model::Part;
 
 // What one line gives: its fault, in the paper's numbers, or the counts with it.
 pub enum LineStep {
@@ -14,10 +15,9 @@ pub enum LineStep {
     Known(BookCounts),
 }
 
-// The first word of a line.
+// The first word of a line; vattr and eattr by the owner of the attribute.
 pub enum Head {
-    Vattr,
-    Eattr,
+    Attr(Owner),
     Label,
     Node,
     Rel,

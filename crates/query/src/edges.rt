@@ -6,14 +6,14 @@ ghost use Rattle.model.specs.Answers.{nameAt};
 ghost use Rattle.book_tables.specs.View.{bookAt};
 ghost use Rattle.book_tables.specs.Fits.{Fits};
 ghost use Rattle.query.specs.Edges.{edgeNamesOf, noEdges, edgeMade};
-use query_faults::scan;
+use book_tables::BookCounts;
+use book_tables::names;
 use model::Edge;
 use model::Part;
 use model::limits::MAX_EDGES;
+use query_faults::scan;
 use query_pieces::Link;
 use query_signs::expected;
-use book_tables::BookCounts;
-use book_tables::names;
 
 // The edges found so far, in the order of the text.
 pub struct Edges {

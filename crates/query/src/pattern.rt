@@ -11,7 +11,7 @@ use crate::returns;
 use crate::returns::Returns;
 use crate::vertices;
 use crate::vertices::Vertices;
-use query_faults::scan;
+use book_tables::BookCounts;
 use model::Clause;
 use model::Condition;
 use model::Counts;
@@ -22,10 +22,10 @@ use model::limits::MAX_CONDITIONS;
 use model::limits::MAX_EDGES;
 use model::limits::MAX_RETURNS;
 use model::limits::MAX_VERTICES;
+use query_faults::scan;
 use query_pieces::Piece;
 use query_pieces::PieceRead;
 use query_pieces::reading;
-use book_tables::BookCounts;
 
 // The empty pattern.
 pub fn empty() -> Pattern

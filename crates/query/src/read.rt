@@ -3,12 +3,12 @@ ghost use Rattle.book_tables.specs.View.{bookAt};
 ghost use Rattle.book_tables.specs.Fits.{Fits};
 ghost use Rattle.query.specs.QueryReads.{QueryReads, TextAsked, RefusedWith};
 use crate::pattern;
-use query_faults::faulty;
+use book_tables::BookCounts;
 use model::QueryRead;
 use model::Refusal;
 use model::Verdict;
 use model::limits::MAX_QUERY_BYTES;
-use book_tables::BookCounts;
+use query_faults::faulty;
 use text::BytesRead;
 use text::lines;
 

@@ -4,9 +4,9 @@ ghost use Prim.Native.Nat.{_<_, _≤_};
 ghost use Rattle.model.specs.Names.{place};
 ghost use Rattle.model.specs.Answers.{nameAt};
 ghost use Rattle.query.specs.Vertices.{namesOf, noVertices, Placed};
-use query_faults::scan;
 use model::Part;
 use model::limits::MAX_VERTICES;
+use query_faults::scan;
 
 // The vertices found so far, by first appearance.
 pub struct Vertices {

@@ -23,9 +23,9 @@ use crate::declared;
 use crate::scan;
 use crate::table;
 use crate::tallies;
+use book_tables::BookCounts;
 use model::Part;
 use query_pieces::Link;
-use book_tables::BookCounts;
 
 // What is left of the vertices behind one more: one less if it stands in none of the i pieces before.
 fn vertices_left(s: &[u8], table: &[u32], n: usize, i: usize, name: Part, left: u32) -> u32

@@ -17,12 +17,12 @@ use crate::conditions;
 use crate::links;
 use crate::scan;
 use crate::tallies;
+use book_tables::BookCounts;
 use query_pieces::Link;
 use query_pieces::Piece;
 use query_pieces::PieceRead;
 use query_pieces::Place;
 use query_pieces::reading;
-use book_tables::BookCounts;
 
 // Behind an edge with its vertex, whichever way it points: the survey, and both names in their tables.
 fn link_passed(
