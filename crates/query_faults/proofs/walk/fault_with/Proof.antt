@@ -16,38 +16,11 @@ Inv-loop book words counts s vertices₀ edges₀ returned₀ place₀ i₀ t₀
 abbrev μ-loop : tie.MeasureT-loop
 μ-loop book words counts s vertices₀ edges₀ returned₀ place₀ i₀ t₀ vertices edges returned place i t = length (foundAt s place)
 
-text-start-requires : tie.Need-text-start-requires Inv-loop μ-loop
-text-start-requires c κs = search needs
-
-cleared-requires : tie.Need-cleared-requires Inv-loop μ-loop
-cleared-requires c κs = search needs
-
-cleared-requires-2 : tie.Need-cleared-requires-2 Inv-loop μ-loop
-cleared-requires-2 c κs = search needs
-
-cleared-requires-3 : tie.Need-cleared-requires-3 Inv-loop μ-loop
-cleared-requires-3 c κs = search needs
-
-nothing-seen-requires : tie.Need-nothing-seen-requires Inv-loop μ-loop
-nothing-seen-requires c κs = search needs
-
 loop-holds : tie.Need-loop-holds Inv-loop μ-loop
 loop-holds c = (rw (c .before .before .before .before .before .before .before .before .before .before .before .before .before .text-start .ensures, c .nothing-seen .ensures) (walked-start _ _ _ _ _ _ (c .before .before .before .before .before .before .before .before .before .before .before .cleared .ensures _) (c .before .before .before .before .before .before .before .cleared2 .ensures _) (c .before .before .before .cleared3 .ensures _)), refl, refl, refl)
 
-next-piece-requires : tie.Need-next-piece-requires Inv-loop μ-loop
-next-piece-requires c κs = search needs
-
-enum-known-x : tie.Need-enum-known-x Inv-loop μ-loop
-enum-known-x c = search needs
-
 piece-passed-requires : tie.Need-piece-passed-requires Inv-loop μ-loop
 piece-passed-requires c κs = (c .before .before .before .before .before .before .before .before .before .before .before .before .before .before .before .before .before .before .before .before .before .before .before .before .before .before .before .before .before .pre, record { vertex-names = c .before .before .before .before .before .before .before .before .loop .inv .0 .vertex-names; edge-names = c .before .before .before .before .before .before .before .before .loop .inv .0 .edge-names }, c .before .before .before .before .before .before .before .before .loop .inv .0 .return-names)
-
-is-whole-from-requires : tie.Need-is-whole-from-requires Inv-loop μ-loop
-is-whole-from-requires c κs = search needs
-
-fault-at-end-requires : tie.Need-fault-at-end-requires Inv-loop μ-loop
-fault-at-end-requires c κs = search needs
 
 same-length : tie.Need-same-length Inv-loop μ-loop
 same-length c = omega (arith, c .before .before .before .before .before .before .before .before .vertices2 .given, c .before .before .before .before .before .before .before .before .before .before .before .before .before .before .before .before .before .before .loop .inv .1, c .before .before .before .before .before .before .before .before .before .before .before .before .before .before .before .before .before .before .before .before .before .before .before .before .before .before .before .before .before .vertices .given)
@@ -70,12 +43,6 @@ loop-less c = walked-less _ _ _ _ _ _ _ _ (c .before .before .before .before .be
 loop-again : tie.Need-loop-again Inv-loop μ-loop
 loop-again c = (walked-on _ _ _ _ _ _ _ _ (c .before .before .before .before .before .before .before .before .before .before .before .before .before .before .before .before .loop .inv .0) _ (c .before .before .before .before .before .before .before .before .before .before .before .before .before .before .before .next-piece .ensures) _ (c .before .before .before .before .before .before .before .before .before .before .before .before .before .x .given .1) _ _ _ _ (c .before .before .before .before .before .before .before .piece-passed .ensures), omega (arith, c .before .before .before .before .before .before .vertices2 .given, c .before .before .before .before .before .before .before .before .before .before .before .before .before .before .before .before .loop .inv .1), omega (arith, c .before .before .before .before .edges2 .given, c .before .before .before .before .before .before .before .before .before .before .before .before .before .before .before .before .loop .inv .2), omega (arith, c .before .before .returned2 .given, c .before .before .before .before .before .before .before .before .before .before .before .before .before .before .before .before .loop .inv .3))
 
-enum-known-w : tie.Need-enum-known-w Inv-loop μ-loop
-enum-known-w c = search needs
-
-fault-at-end-requires-2 : tie.Need-fault-at-end-requires-2 Inv-loop μ-loop
-fault-at-end-requires-2 c κs = search needs
-
 same-length-4 : tie.Need-same-length-4 Inv-loop μ-loop
 same-length-4 c = omega (arith, c .before .before .before .before .before .loop .inv .1, c .before .before .before .before .before .before .before .before .before .before .before .before .before .before .before .before .vertices .given)
 
@@ -94,17 +61,17 @@ fault-with-spec =
     (tie.spec
     Inv-loop
     μ-loop
-    text-start-requires
-    cleared-requires
-    cleared-requires-2
-    cleared-requires-3
-    nothing-seen-requires
+    (λ c κs. search needs)
+    (λ c κs. search needs)
+    (λ c κs. search needs)
+    (λ c κs. search needs)
+    (λ c κs. search needs)
     loop-holds
-    next-piece-requires
-    enum-known-x
+    (λ c κs. search needs)
+    (λ c. search needs)
     piece-passed-requires
-    is-whole-from-requires
-    fault-at-end-requires
+    (λ c κs. search needs)
+    (λ c κs. search needs)
     same-length
     same-length-2
     same-length-3
@@ -112,8 +79,8 @@ fault-with-spec =
     add-i
     loop-less
     loop-again
-    enum-known-w
-    fault-at-end-requires-2
+    (λ c. search needs)
+    (λ c κs. search needs)
     same-length-4
     same-length-5
     same-length-6
