@@ -19,7 +19,7 @@ use Rattle.book_tables.specs.Layout.{typesBehind}
 use Rattle.book_tables.specs.View.{wordAt, nameOf, namesAt, kindIn, attrsAt}
 use Rattle.book_tables.proofs.AgreeLaws.{agree-same, name-kept, attrs-kept}
 use Rattle.book_tables.proofs.NameLaws.{attr-names, place-named, place-mem, place-out}
-use Rattle.book_tables.proofs.Owners.{agree-counted}
+use Rattle.book_tables.proofs.OwnerAdded.{agree-counted}
 use Rattle.book_entries.specs.declared.EntriesRead.{EntriesRead}
 use Rattle.book_entries.specs.Faults.{entriesFault, entryFault, lower}
 use Rattle.book_entries.specs.Known.{EntryAsked, EntriesKnown, EntryAdded, EntryPut, entryRead}

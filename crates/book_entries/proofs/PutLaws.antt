@@ -23,7 +23,7 @@ use Rattle.book_tables.specs.Stores.{withEntry, EntriesStored}
 use Rattle.book_tables.specs.ValueWords.{EndsBefore}
 use Rattle.book_tables.proofs.AgreeLaws.{set-agrees, agree-same, agree-trans}
 use Rattle.book_tables.proofs.Grow.{stored-more}
-use Rattle.book_tables.proofs.Owners.{pending, stored-kept}
+use Rattle.book_tables.proofs.OwnerAdded.{pending, stored-kept}
 use Rattle.book_entries.specs.Known.{EntryPut}
 
 -- the three words of entry k

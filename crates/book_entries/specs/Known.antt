@@ -16,18 +16,13 @@ use Rattle.book_tables.specs.declared.BookCounts.{BookCounts}
 use Rattle.book_tables.specs.declared.ValueWords.{ValueWords}
 use Rattle.book_tables.specs.Layout.{bookWords}
 use Rattle.book_tables.specs.View.{nameOf, attrsAt}
-use Rattle.book_tables.specs.Fits.{Inside, NamesFit, Fits}
+use Rattle.book_tables.specs.Fits.{Inside, Fits}
+use Rattle.book_tables.specs.Owners.{AttrTable}
 use Rattle.book_tables.specs.Agree.{Agree}
 use Rattle.book_tables.specs.Stores.{withEntry, EntriesStored}
 use Rattle.book_tables.specs.ValueWords.{EndsBefore, Says}
 use Rattle.book_entries.specs.declared.EntriesRead.{EntriesRead}
 use Rattle.book_entries.specs.Faults.{entriesFault}
-
--- the attributes declared at an offset, of nodes or of relationships
-pub record AttrTable (text : Bytes) (words : List ℕ) (offset declared : ℕ) : Type 0 where
-  pub low : offset ≤ 64
-  pub few : declared ≤ 32
-  pub names : NamesFit text words offset declared
 
 -- after the entries es: their number, their lowest fault, which attributes stand among them; and without a fault, where there is room, they are stored
 pub record EntriesKnown (text : Bytes) (words : List ℕ) (c : BookCounts) (offset declared : ℕ) (es : List Entry) (known : EntriesRead) : Type 0 where

@@ -5,7 +5,6 @@ use mathlib.Core.List.{List, [], _∷_, _++_, append-assoc, append-nil}
 use mathlib.Core.Bool.{Bool, true, false}
 use native.Mathlib.Omega.{arith}
 use lib.ListN.{length}
-use Rattle.logic.specs.Tests.{either}
 use Rattle.bits.specs.WordLaws.{bit-zero}
 use Rattle.model.specs.Bytes.{Bytes}
 use Rattle.model.specs.Choice.{pick, Maybe, nothing, andThen}
@@ -26,21 +25,14 @@ use Rattle.items.proofs.ListLaws.{form-entries}
 use Rattle.book_tables.specs.declared.BookCounts.{BookCounts}
 use Rattle.book_tables.specs.Listed.{listed}
 use Rattle.book_tables.specs.View.{entriesFrom}
-use Rattle.book_tables.specs.Fits.{Fits}
 use Rattle.book_tables.specs.Agree.{Agree}
 use Rattle.book_tables.proofs.AgreeLaws.{agree-same, agree-trans}
 use Rattle.book_entries.specs.declared.EntriesRead.{EntriesRead}
 use Rattle.book_entries.specs.Faults.{entriesFault}
-use Rattle.book_entries.specs.Known.{AttrTable, EntriesKnown, EntryAdded, entryRead}
+use Rattle.book_entries.specs.Known.{EntriesKnown, EntryAdded, entryRead}
 use Rattle.book_lines.specs.Forms.{FormAsked}
-use Rattle.book_lines.specs.Entries.{shift, Declares, entriesForm, EntriesGot}
+use Rattle.book_lines.specs.Entries.{shift, entriesForm, EntriesGot}
 use Rattle.book_lines.proofs.PieceLaws.{part-moved, value-moved}
-
--- the attributes that entries may have
-pub table-of : (text : Bytes) (words : List ℕ) (c : BookCounts) (offset declared : ℕ) → Fits text words c → Declares c offset declared → AttrTable text words offset declared
-table-of text words c offset declared f d = either d
-    (λ e. rw (e .0, e .1) (record { low = omega arith; few = f .within .vattrs; names = f .vattrs }))
-    (λ e. rw (e .0, e .1) (record { low = omega arith; few = f .within .eattrs; names = f .eattrs }))
 
 -- the rest of a line, by the next entry
 abbrev restForm : Bytes → ℕ → (List Entry → Maybe BookLine) → Maybe BookLine

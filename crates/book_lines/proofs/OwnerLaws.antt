@@ -21,13 +21,15 @@ use Rattle.model.specs.ReadBook.{suits, undeclared, nodeFault, lineFault, addLi
 use Rattle.model.specs.Answers.{nameAt}
 use Rattle.model.specs.declared.Part.{Part}
 use Rattle.book_tables.specs.declared.BookCounts.{BookCounts}
+use Rattle.book_tables.specs.declared.Owner.the-variants.{Node}
 use Rattle.book_tables.specs.Layout.{vattrNames, nodeNames as nodesAt}
-use Rattle.book_tables.specs.View.{nodeOf, relOf, bookAt}
+use Rattle.book_tables.specs.View.{slotIn, nodeOf, relOf, bookAt}
 use Rattle.book_tables.specs.Fits.{Fits, Holds}
-use Rattle.book_tables.specs.Stores.{moreNodes, withNode}
+use Rattle.book_tables.specs.Owners.{moreOwners}
+use Rattle.book_tables.specs.Stores.{withOwner}
 use Rattle.book_tables.proofs.ListedLaws.{length-listed}
 use Rattle.book_tables.proofs.NameLaws.{mem-place, length-names, node-names}
-use Rattle.book_tables.proofs.Owners.{node-added}
+use Rattle.book_tables.proofs.OwnerAdded.{node-added}
 use Rattle.book_entries.specs.declared.EntriesRead.{EntriesRead}
 use Rattle.book_entries.specs.Faults.{entriesFault}
 use Rattle.book_entries.specs.Known.{EntriesKnown}
@@ -118,8 +120,8 @@ module _ (text : Bytes) (words : List ℕ) (c : BookCounts) (fits : Fits text wo
     node-refused n e h = step-fault book (node (nameAt text name) es) n (node-fault ∙ rw (← e) (numbered-fault n h))
 
     pub node-fine : ownerFault (ltb a (c .nodes)) (read .fault) full ≡ 0
-        → (stepOf book (node (nameAt text name) es) ≡ known (bookAt text (withNode text words c (name .start * 32 + name .length) (read .count)) (moreNodes c (read .count))))
-        × Fits text (withNode text words c (name .start * 32 + name .length) (read .count)) (moreNodes c (read .count))
+        → (stepOf book (node (nameAt text name) es) ≡ known (bookAt text (withOwner words c Node (name .start * 32 + name .length) (slotIn text (name .start * 32 + name .length)) (read .count)) (moreOwners Node c (read .count))))
+        × Fits text (withOwner words c Node (name .start * 32 + name .length) (slotIn text (name .start * 32 + name .length)) (read .count)) (moreOwners Node c (read .count))
     node-fine z =
         let ok = owner-fine (ltb a (c .nodes)) (read .fault) full z in
         let r = or-false (leb 256 (c .nodes)) (ltb 2048 (c .entries + read .count)) (ok .room) in

@@ -26,6 +26,7 @@ use Rattle.book_tables.specs.declared.BookCounts.{BookCounts}
 use Rattle.book_tables.specs.View.{kindIn}
 use Rattle.book_tables.specs.ValueWords.{EndsBefore}
 use Rattle.book_lines.specs.declared.Head.{Head}
+use Rattle.book_tables.specs.declared.Owner.the-variants.{Node, Relationship}
 use Rattle.book_lines.specs.declared.Head.the-variants as head
 use Rattle.book_lines.specs.declared.KindRead.{KindRead}
 use Rattle.book_lines.specs.declared.KindRead.the-variants as kind
@@ -114,7 +115,7 @@ line-head w is = go (same w (bytesOf "vattr")) (same w (bytesOf "eattr")) (same 
   where
     go : (a b c d e : Bool)
         → pick a (attrLine vattr is) (pick b (attrLine eattr is) (pick c (labelLine is) (pick d (nodeLine is) (pick e (relLine is) nothing))))
-        ≡ lineOf (pick a head.Vattr (pick b head.Eattr (pick c head.Label (pick d head.Node (pick e head.Rel head.Other))))) is
+        ≡ lineOf (pick a (head.Attr Node) (pick b (head.Attr Relationship) (pick c head.Label (pick d head.Node (pick e head.Rel head.Other))))) is
     go true b c d e = refl
     go false true c d e = refl
     go false false true d e = refl

@@ -16,12 +16,14 @@ use Rattle.model.specs.Book.{Book, nodeNames}
 use Rattle.model.specs.BookLines.{rel}
 use Rattle.model.specs.ReadBook.{suits, undeclared, related, relFault, lineFault}
 use Rattle.book_tables.specs.declared.BookCounts.{BookCounts}
+use Rattle.book_tables.specs.declared.Owner.the-variants.{Relationship}
 use Rattle.book_tables.specs.Layout.{eattrNames, labelNames}
 use Rattle.book_tables.specs.View.{nameOf, bookAt}
 use Rattle.book_tables.specs.Fits.{Fits}
-use Rattle.book_tables.specs.Stores.{moreRels, withRel}
+use Rattle.book_tables.specs.Owners.{moreOwners}
+use Rattle.book_tables.specs.Stores.{withOwner}
 use Rattle.book_tables.proofs.NameLaws.{mem-place, length-names, place-named}
-use Rattle.book_tables.proofs.Owners.{rel-added}
+use Rattle.book_tables.proofs.OwnerAdded.{rel-added}
 use Rattle.book_entries.specs.declared.EntriesRead.{EntriesRead}
 use Rattle.book_entries.specs.Faults.{entriesFault}
 use Rattle.book_entries.specs.Known.{EntriesKnown}
@@ -106,8 +108,8 @@ module _ (text : Bytes) (words : List ℕ) (c : BookCounts) (fits : Fits text wo
       rel-refused n e h = step-fault book (rel label from to es) n (rel-fault ∙ rw (← e) (numbered-fault n h))
 
       pub rel-fine : ownerFault there (read .fault) full ≡ 0
-          → (stepOf book (rel label from to es) ≡ known (bookAt text (withRel words c (l * 65536 + x * 256 + y) (read .count)) (moreRels c (read .count))))
-          × Fits text (withRel words c (l * 65536 + x * 256 + y) (read .count)) (moreRels c (read .count))
+          → (stepOf book (rel label from to es) ≡ known (bookAt text (withOwner words c Relationship (l * 65536 + x * 256 + y) x (read .count)) (moreOwners Relationship c (read .count))))
+          × Fits text (withOwner words c Relationship (l * 65536 + x * 256 + y) x (read .count)) (moreOwners Relationship c (read .count))
       rel-fine z =
           let ok = owner-fine there (read .fault) full z in
           let r = or-false (leb 1024 (c .relationships)) (ltb 2048 (c .entries + read .count)) (ok .room) in

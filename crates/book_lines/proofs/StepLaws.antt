@@ -11,18 +11,23 @@ use Rattle.model.specs.Choice.{nothing, just}
 use Rattle.model.specs.Names.{mem, place}
 use Rattle.model.specs.Refusal.{lowest}
 use Rattle.model.specs.Lines.{fault, known, faultOr}
+use Rattle.model.specs.Values.{Kind}
 use Rattle.model.specs.Book.{Book, attrNames}
-use Rattle.model.specs.BookLines.{BookLine, label, vattr, eattr}
+use Rattle.model.specs.BookLines.{BookLine, label}
 use Rattle.model.specs.ReadBook.{nameFault, lineFault, addLine}
 use Rattle.model.specs.Answers.{partOf, nameAt}
 use Rattle.model.specs.declared.Part.{Part}
 use Rattle.book_tables.specs.declared.BookCounts.{BookCounts}
-use Rattle.book_tables.specs.Layout.{vattrNames, eattrNames, labelNames}
+use Rattle.book_tables.specs.declared.Owner.{Owner}
+use Rattle.book_tables.specs.declared.Owner.the-variants.{Node, Relationship}
+use Rattle.book_tables.specs.Layout.{labelNames}
 use Rattle.book_tables.specs.View.{nameIn, kindIn, bookAt}
 use Rattle.book_tables.specs.Fits.{Fits, Holds}
-use Rattle.book_tables.specs.Stores.{moreVattrs, moreEattrs, moreLabels, withAttr, withLabel}
-use Rattle.book_tables.proofs.NameLaws.{mem-place, length-names, attr-names}
-use Rattle.book_tables.proofs.Added.{NewName, label-added, vattr-added, eattr-added}
+use Rattle.book_tables.specs.Owners.{tablesOf, attrsOf, declares, moreAttrs}
+use Rattle.book_tables.specs.Stores.{moreLabels, withAttr, withLabel}
+use Rattle.book_tables.proofs.NameLaws.{mem-place, length-names}
+use Rattle.book_tables.proofs.OwnerLaws.{owner-declared}
+use Rattle.book_tables.proofs.Added.{NewName, label-added, attr-added}
 use Rattle.book_lines.specs.Steps.{stepOf, NameAsked}
 
 -- a name among names declared already: 5
@@ -50,6 +55,12 @@ step-fault b line n e = rw e
 pub step-added : (b : Book) (line : BookLine) (b′ : Book) → lineFault b line ≡ nothing → b′ ≡ addLine b line → stepOf b line ≡ known b′
 unfolding stepOf faultOr
 step-added b line b′ e q = rw (e, q)
+
+-- the fault of a declared attribute is that of its name
+declared-fault : (b : Book) (o : Owner) (n : Bytes) (k : Kind) → lineFault b (declares o n k) ≡ nameFault n (attrNames (attrsOf o b))
+unfolding lineFault
+declared-fault b Node n k = refl
+declared-fault b Relationship n k = refl
 
 -- a name's word, and its slice
 module _ (text : Bytes) (name : Part) where
@@ -92,14 +103,6 @@ module _ (text : Bytes) (words : List ℕ) (c : BookCounts) (name : Part) (asked
   unfolding bookAt
   labels-length = length-names text words labelNames (c .labels)
 
-  vattrs-length : length (attrNames (book .vattrs)) ≡ c .vattrs
-  unfolding bookAt
-  vattrs-length = ap length (attr-names text words vattrNames (c .vattrs)) ∙ length-names text words vattrNames (c .vattrs)
-
-  eattrs-length : length (attrNames (book .eattrs)) ≡ c .eattrs
-  unfolding bookAt
-  eattrs-length = ap length (attr-names text words eattrNames (c .eattrs)) ∙ length-names text words eattrNames (c .eattrs)
-
   module _ (a : ℕ) (found : a ≡ place (nameAt text name) (book .labels)) where
     pub label-twice : a < c .labels → stepOf book (label (nameAt text name)) ≡ fault 5
     unfolding lineFault
@@ -119,42 +122,30 @@ module _ (text : Bytes) (words : List ℕ) (c : BookCounts) (name : Part) (asked
           h .fits,
         )
 
-  module _ (kind a : ℕ) (found : a ≡ place (nameAt text name) (attrNames (book .vattrs))) where
-    pub vattr-twice : a < c .vattrs → stepOf book (vattr (nameAt text name) (kindIn kind)) ≡ fault 5
-    unfolding lineFault
-    vattr-twice l = step-fault book (vattr (nameAt text name) (kindIn kind)) 5 (name-twice (nameAt text name) (attrNames (book .vattrs)) (c .vattrs) vattrs-length (rw (← found) l))
+  module _ (o : Owner) (kind a : ℕ) (found : a ≡ place (nameAt text name) (attrNames (attrsOf o book))) where
+    abbrev names : List Bytes
+    names = attrNames (attrsOf o book)
 
-    pub vattr-full : c .vattrs ≤ a → 32 ≤ c .vattrs → stepOf book (vattr (nameAt text name) (kindIn kind)) ≡ fault 7
-    unfolding lineFault
-    vattr-full l m = step-fault book (vattr (nameAt text name) (kindIn kind)) 7 (name-full (nameAt text name) (attrNames (book .vattrs)) (c .vattrs) vattrs-length (rw (← found) l) m)
+    abbrev line : BookLine
+    line = declares o (nameAt text name) (kindIn kind)
 
-    pub vattr-fine : c .vattrs ≤ a → c .vattrs < 32
-        → (stepOf book (vattr (nameAt text name) (kindIn kind)) ≡ known (bookAt text (withAttr words vattrNames (c .vattrs) word kind) (moreVattrs c)))
-        × Fits text (withAttr words vattrNames (c .vattrs) word kind) (moreVattrs c)
-    unfolding lineFault
-    vattr-fine l m =
-        let h = vattr-added text words c book holds word kind m (word-new text name asked (attrNames (book .vattrs)) (c .vattrs) vattrs-length (rw (← found) l)) in (
-          step-added book (vattr (nameAt text name) (kindIn kind)) _ (name-fine (nameAt text name) (attrNames (book .vattrs)) (c .vattrs) vattrs-length (rw (← found) l) m)
-              (h .is ∙ ap (λ (n : Bytes). addLine book (vattr n (kindIn kind))) (word-name text name asked)),
-          h .fits,
-        )
+    size : length names ≡ tablesOf o c .declared
+    size = owner-declared text words c o
 
-  module _ (kind a : ℕ) (found : a ≡ place (nameAt text name) (attrNames (book .eattrs))) where
-    pub eattr-twice : a < c .eattrs → stepOf book (eattr (nameAt text name) (kindIn kind)) ≡ fault 5
-    unfolding lineFault
-    eattr-twice l = step-fault book (eattr (nameAt text name) (kindIn kind)) 5 (name-twice (nameAt text name) (attrNames (book .eattrs)) (c .eattrs) eattrs-length (rw (← found) l))
+    pub attr-twice : a < tablesOf o c .declared → stepOf book line ≡ fault 5
+    attr-twice l = step-fault book line 5 (declared-fault book o (nameAt text name) (kindIn kind) ∙ name-twice (nameAt text name) names (tablesOf o c .declared) size (rw (← found) l))
 
-    pub eattr-full : c .eattrs ≤ a → 32 ≤ c .eattrs → stepOf book (eattr (nameAt text name) (kindIn kind)) ≡ fault 7
-    unfolding lineFault
-    eattr-full l m = step-fault book (eattr (nameAt text name) (kindIn kind)) 7 (name-full (nameAt text name) (attrNames (book .eattrs)) (c .eattrs) eattrs-length (rw (← found) l) m)
+    pub attr-full : tablesOf o c .declared ≤ a → 32 ≤ tablesOf o c .declared → stepOf book line ≡ fault 7
+    attr-full l m = step-fault book line 7 (declared-fault book o (nameAt text name) (kindIn kind) ∙ name-full (nameAt text name) names (tablesOf o c .declared) size (rw (← found) l) m)
 
-    pub eattr-fine : c .eattrs ≤ a → c .eattrs < 32
-        → (stepOf book (eattr (nameAt text name) (kindIn kind)) ≡ known (bookAt text (withAttr words eattrNames (c .eattrs) word kind) (moreEattrs c)))
-        × Fits text (withAttr words eattrNames (c .eattrs) word kind) (moreEattrs c)
-    unfolding lineFault
-    eattr-fine l m =
-        let h = eattr-added text words c book holds word kind m (word-new text name asked (attrNames (book .eattrs)) (c .eattrs) eattrs-length (rw (← found) l)) in (
-          step-added book (eattr (nameAt text name) (kindIn kind)) _ (name-fine (nameAt text name) (attrNames (book .eattrs)) (c .eattrs) eattrs-length (rw (← found) l) m)
-              (h .is ∙ ap (λ (n : Bytes). addLine book (eattr n (kindIn kind))) (word-name text name asked)),
+    abbrev stored : List ℕ
+    stored = withAttr words (tablesOf o c .attributes) (tablesOf o c .declared) word kind
+
+    pub attr-fine : tablesOf o c .declared ≤ a → tablesOf o c .declared < 32
+        → (stepOf book line ≡ known (bookAt text stored (moreAttrs o c))) × Fits text stored (moreAttrs o c)
+    attr-fine l m =
+        let h = attr-added text words c book holds o word kind m (word-new text name asked names (tablesOf o c .declared) size (rw (← found) l)) in (
+          step-added book line _ (declared-fault book o (nameAt text name) (kindIn kind) ∙ name-fine (nameAt text name) names (tablesOf o c .declared) size (rw (← found) l) m)
+              (h .is ∙ ap (λ (n : Bytes). addLine book (declares o n (kindIn kind))) (word-name text name asked)),
           h .fits,
         )

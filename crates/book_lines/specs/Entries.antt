@@ -1,7 +1,6 @@
 -- The entries at the end of a line, read by places of the line and stored behind those counted.
 use Prim.Native.Nat.{ℕ, _+_, _≤_}
 use mathlib.Core.Path.{_≡_}
-use mathlib.Core.Logic.{_⊎_}
 use mathlib.Core.List.{List}
 use mathlib.Core.Bool.{false}
 use Rattle.model.specs.Bytes.{Bytes}
@@ -14,7 +13,6 @@ use Rattle.model.specs.declared.Value.{Value}
 use Rattle.model.specs.declared.Value.the-variants.{Number, Text, Truth}
 use Rattle.items.specs.Rest.{formAt}
 use Rattle.book_tables.specs.declared.BookCounts.{BookCounts}
-use Rattle.book_tables.specs.Layout.{vattrNames, eattrNames}
 use Rattle.book_tables.specs.Agree.{Agree}
 use Rattle.book_entries.specs.declared.EntriesRead.{EntriesRead}
 use Rattle.book_entries.specs.Known.{EntriesKnown}
@@ -26,10 +24,6 @@ abbrev pub shift : ℕ → Value → Value
 shift base (Number n) = Number n
 shift base (Text start size) = Text (base + start) size
 shift base (Truth t) = Truth t
-
--- the attributes of nodes, or those of relationships
-abbrev pub Declares : BookCounts → ℕ → ℕ → Type 0
-Declares c offset declared = ((offset ≡ vattrNames) × (declared ≡ c .vattrs)) ⊎ ((offset ≡ eattrNames) × (declared ≡ c .eattrs))
 
 -- the rest of a line as entries
 abbrev pub entriesForm : Bytes → ℕ → (List Entry → Maybe BookLine) → Maybe BookLine

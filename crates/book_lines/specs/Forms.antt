@@ -9,11 +9,13 @@ use Rattle.model.specs.Items.{Item}
 use Rattle.model.specs.Lines.{Step, formStep}
 use Rattle.model.specs.Values.{Kind}
 use Rattle.model.specs.Book.{Book}
-use Rattle.model.specs.BookLines.{BookLine, vattr, eattr, attrLine, labelLine, nodeLine, relLine}
+use Rattle.model.specs.BookLines.{BookLine, attrLine, labelLine, nodeLine, relLine}
 use Rattle.model.specs.Answers.{partOf}
 use Rattle.items.specs.declared.Piece.{Piece}
 use Rattle.items.specs.declared.Piece.the-variants as piece
 use Rattle.book_tables.specs.declared.BookCounts.{BookCounts}
+use Rattle.book_tables.specs.declared.Owner.the-variants.{Node, Relationship}
+use Rattle.book_tables.specs.Owners.{declares}
 use Rattle.book_tables.specs.View.{kindIn}
 use Rattle.book_tables.specs.Fits.{Fits}
 use Rattle.book_lines.specs.declared.Head.{Head}
@@ -38,16 +40,15 @@ pub record FormAsked (text line : Bytes) (words : List ℕ) (c : BookCounts) (ba
 -- the first word of a line
 unfoldable pub headOf : Bytes → Head
 headOf w =
-    pick (same w (bytesOf "vattr")) head.Vattr
-    (pick (same w (bytesOf "eattr")) head.Eattr
+    pick (same w (bytesOf "vattr")) (head.Attr Node)
+    (pick (same w (bytesOf "eattr")) (head.Attr Relationship)
     (pick (same w (bytesOf "label")) head.Label
     (pick (same w (bytesOf "node")) head.Node
     (pick (same w (bytesOf "rel")) head.Rel head.Other))))
 
 -- the rest of a line, by its first word
 unfoldable pub lineOf : Head → List Item → Maybe BookLine
-lineOf head.Vattr is = attrLine vattr is
-lineOf head.Eattr is = attrLine eattr is
+lineOf (head.Attr o) is = attrLine (declares o) is
 lineOf head.Label is = labelLine is
 lineOf head.Node is = nodeLine is
 lineOf head.Rel is = relLine is

@@ -5,9 +5,10 @@ ghost use Rattle.model.specs.Bytes.{Bytes};
 ghost use Rattle.model.specs.Choice.{just, andThen};
 ghost use Rattle.model.specs.Items.{lineItems};
 ghost use Rattle.model.specs.Values.{Kind};
-ghost use Rattle.model.specs.BookLines.{BookLine, vattr, eattr, attrLine, labelLine, bookLine};
+ghost use Rattle.model.specs.BookLines.{BookLine, attrLine, labelLine, bookLine};
 ghost use Rattle.items.specs.Rest.{formAt};
 ghost use Rattle.book_tables.specs.View.{bookAt};
+ghost use Rattle.book_tables.specs.Owners.{declares};
 ghost use Rattle.book_lines.specs.Steps.{Stepped};
 ghost use Rattle.book_lines.specs.Forms.{formStepOf, FormAsked, lineOf, onAttr};
 ghost use Rattle.book_lines.specs.Names.{AttrFits};
@@ -19,6 +20,7 @@ use crate::owners;
 use crate::pieces;
 use crate::steps;
 use book_tables::BookCounts;
+use book_tables::Owner;
 use items::Piece;
 use items::places;
 use model::Part;
@@ -82,8 +84,7 @@ fn read_rest(
     ensures { λ r. ⌜ Stepped (now (text .entry)) (now (words .exit)) r (formStepOf (bookAt (now (text .entry)) (now (words .entry)) counts) (formAt false from (now (line .entry)) (lineOf head))) ⌝ }
 {
     match head {
-        Head::Vattr => vattr_line(text, line, base, from, words, counts),
-        Head::Eattr => eattr_line(text, line, base, from, words, counts),
+        Head::Attr(owner) => attr_line(text, line, base, from, owner, words, counts),
         Head::Label => label_line(text, line, base, from, words, counts),
         Head::Node => owners::node_line(text, line, base, from, words, counts),
         Head::Rel => owners::rel_line(text, line, base, from, words, counts),
@@ -110,50 +111,25 @@ fn read_attr(line: &[u8], from: usize) -> AttrRead
     }
 }
 
-// (vattr NAME TYPE)
-fn vattr_line(
+// (vattr NAME TYPE), (eattr NAME TYPE)
+fn attr_line(
     text: &[u8],
     line: &[u8],
     base: usize,
     from: usize,
+    owner: Owner,
     words: &mut [u32],
     counts: BookCounts,
 ) -> LineStep
     requires { ⌜ FormAsked (now text) (now line) (now words) counts base ⌝ }
-    ensures { λ r. ⌜ Stepped (now (text .entry)) (now (words .exit)) r (formStepOf (bookAt (now (text .entry)) (now (words .entry)) counts) (formAt false from (now (line .entry)) (attrLine vattr))) ⌝ }
+    ensures { λ r. ⌜ Stepped (now (text .entry)) (now (words .exit)) r (formStepOf (bookAt (now (text .entry)) (now (words .entry)) counts) (formAt false from (now (line .entry)) (attrLine (declares owner)))) ⌝ }
 {
     match read_attr(line, from) {
-        AttrRead::Attr(p, q, kind) => steps::add_vattr(
+        AttrRead::Attr(p, q, kind) => steps::add_attr(
             text,
             words,
             counts,
-            Part {
-                start: base + p,
-                length: q - p,
-            },
-            kind,
-        ),
-        AttrRead::None => LineStep::Fault(BROKEN),
-    }
-}
-
-// (eattr NAME TYPE)
-fn eattr_line(
-    text: &[u8],
-    line: &[u8],
-    base: usize,
-    from: usize,
-    words: &mut [u32],
-    counts: BookCounts,
-) -> LineStep
-    requires { ⌜ FormAsked (now text) (now line) (now words) counts base ⌝ }
-    ensures { λ r. ⌜ Stepped (now (text .entry)) (now (words .exit)) r (formStepOf (bookAt (now (text .entry)) (now (words .entry)) counts) (formAt false from (now (line .entry)) (attrLine eattr))) ⌝ }
-{
-    match read_attr(line, from) {
-        AttrRead::Attr(p, q, kind) => steps::add_eattr(
-            text,
-            words,
-            counts,
+            owner,
             Part {
                 start: base + p,
                 length: q - p,

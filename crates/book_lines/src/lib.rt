@@ -6,6 +6,7 @@ pub mod steps;
 
 use book_entries::EntriesRead;
 use book_tables::BookCounts;
+use book_tables::Owner;
 use model::Part;
 
 // What one line gives: its fault, in the paper's numbers, or the counts with it.
@@ -14,10 +15,9 @@ pub enum LineStep {
     Known(BookCounts),
 }
 
-// The first word of a line.
+// The first word of a line; vattr and eattr by the owner of the attribute.
 pub enum Head {
-    Vattr,
-    Eattr,
+    Attr(Owner),
     Label,
     Node,
     Rel,

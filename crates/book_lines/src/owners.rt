@@ -6,11 +6,12 @@ ghost use lib.ListN.{length};
 ghost use Rattle.model.specs.BookLines.{nodeLine, relLine};
 ghost use Rattle.items.specs.Rest.{formAt};
 ghost use Rattle.book_tables.specs.View.{bookAt};
+ghost use Rattle.book_tables.specs.Owners.{tablesOf};
 ghost use Rattle.book_lines.specs.Steps.{Stepped};
 ghost use Rattle.book_tables.specs.ValueWords.{EndsBefore};
 ghost use Rattle.book_lines.specs.Forms.{formStepOf, FormAsked};
 ghost use Rattle.book_lines.specs.Names.{movedPart, NamesTold};
-ghost use Rattle.book_lines.specs.Entries.{shift, Declares, EntriesDone};
+ghost use Rattle.book_lines.specs.Entries.{shift, EntriesDone};
 use crate::EntriesAnswer;
 use crate::LineStep;
 use crate::RelNames;
@@ -18,8 +19,7 @@ use crate::pieces::FORM_DEPTH;
 use crate::steps;
 use book_entries::EntriesRead;
 use book_tables::BookCounts;
-use book_tables::EATTR_NAMES;
-use book_tables::VATTR_NAMES;
+use book_tables::Owner;
 use items::EntryRead;
 use items::Piece;
 use items::places;
@@ -42,7 +42,7 @@ fn shifted(value: Value, base: usize) -> Value
     }
 }
 
-// (ATTR VALUE)... to the end of the line, of attributes declared at an offset; each is stored behind those before it.
+// (ATTR VALUE)... to the end of the line, of an owner's attributes; each is stored behind those before it.
 fn read_entries(
     text: &[u8],
     line: &[u8],
@@ -50,12 +50,14 @@ fn read_entries(
     from: usize,
     words: &mut [u32],
     counts: BookCounts,
-    offset: usize,
-    declared: usize,
+    owner: Owner,
 ) -> EntriesAnswer
-    requires { ⌜ FormAsked (now text) (now line) (now words) counts base × Declares counts offset declared × (from ≤ length (now line)) ⌝ }
-    ensures { λ r. ⌜ EntriesDone (now (text .entry)) (now (line .entry)) (now (words .entry)) (now (words .exit)) counts offset declared from r ⌝ }
+    requires { ⌜ FormAsked (now text) (now line) (now words) counts base × (from ≤ length (now line)) ⌝ }
+    ensures { λ r. ⌜ EntriesDone (now (text .entry)) (now (line .entry)) (now (words .entry)) (now (words .exit)) counts (tablesOf owner counts .attributes) (tablesOf owner counts .declared) from r ⌝ }
 {
+    let tables = book_tables::owners::tables(counts, owner);
+    let offset = tables.attributes;
+    let declared = tables.declared;
     let mut at = from;
     let mut known = EntriesRead {
         fault: 0,
@@ -123,8 +125,7 @@ pub fn node_line(
 {
     match places::next_name(line, from, FORM_DEPTH) {
         Piece::At(p, q) => {
-            let declared = counts.vattrs;
-            match read_entries(text, line, base, q, words, counts, VATTR_NAMES, declared) {
+            match read_entries(text, line, base, q, words, counts, Owner::Node) {
                 EntriesAnswer::Read(read) => steps::add_node(
                     text,
                     words,
@@ -186,8 +187,7 @@ pub fn rel_line(
 {
     match read_names(line, from) {
         RelNames::Read(label, x, y, q) => {
-            let declared = counts.eattrs;
-            match read_entries(text, line, base, q, words, counts, EATTR_NAMES, declared) {
+            match read_entries(text, line, base, q, words, counts, Owner::Relationship) {
                 EntriesAnswer::Read(read) => steps::add_relationship(
                     text,
                     words,

@@ -5,6 +5,7 @@ ghost use Rattle.items.specs.Pieces.{wordNext};
 ghost use Rattle.book_lines.specs.Forms.{headOf, kindRead, kindPiece};
 use crate::Head;
 use crate::KindRead;
+use book_tables::Owner;
 use book_tables::values::BOOL;
 use book_tables::values::INT;
 use book_tables::values::STR;
@@ -20,10 +21,10 @@ pub fn head(word: &[u8]) -> Head
     ensures { λ r. ⌜ r ≡ headOf (now (word .entry)) ⌝ }
 {
     if same_bytes(word, b"vattr") {
-        return Head::Vattr;
+        return Head::Attr(Owner::Node);
     }
     if same_bytes(word, b"eattr") {
-        return Head::Eattr;
+        return Head::Attr(Owner::Relationship);
     }
     if same_bytes(word, b"label") {
         return Head::Label;

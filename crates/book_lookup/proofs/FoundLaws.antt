@@ -15,6 +15,10 @@ use Rattle.model.specs.Book.{attrNames, nodeNames}
 use Rattle.model.specs.Graph as graph
 use Rattle.model.specs.Graph.{valueIn, relEntries}
 use Rattle.book_tables.specs.declared.BookCounts.{BookCounts}
+use Rattle.book_tables.specs.declared.Owner.{Owner}
+use Rattle.book_tables.specs.declared.Owner.the-variants.{Node, Relationship}
+use Rattle.book_tables.specs.Owners.{tablesOf}
+use Rattle.book_tables.proofs.OwnerLaws.{owner-attrs, attr-table, owner-fits}
 use Rattle.book_tables.specs.Listed.{listed}
 use Rattle.book_tables.specs.Layout as layout
 use Rattle.book_tables.specs.View.{wordAt, nameOf, namesAt, attrsAt, entryHead, entryOf, entriesFrom, entriesIn, startPart, countPart, nodeOf, relOf, bookAt}
@@ -23,7 +27,7 @@ use Rattle.book_tables.proofs.ListedLaws.{listed-same, map-listed, getD-listed}
 use Rattle.book_tables.proofs.NameLaws.{equal-same, attr-names, node-names}
 use Rattle.book_lookup.specs.declared.Found.{Found}
 use Rattle.book_lookup.specs.declared.Found.the-variants.{At, Nothing}
-use Rattle.book_lookup.specs.Entries.{seek, found, entryValue, maybeValue, valueAt, nodeValue, relationshipValue}
+use Rattle.book_lookup.specs.Entries.{seek, found, entryValue, maybeValue, valueAt, entriesOf, ownerValue}
 use Rattle.book_lookup.specs.Ready.{FoundReady, Entered}
 use Rattle.book_lookup.proofs.SeekLaws.{seek-step, seek-within}
 use Rattle.book_lookup.proofs.ValueLaws.{not-same}
@@ -101,13 +105,10 @@ module _ (text : Bytes) (words : List ℕ) (offset declared : ℕ) (names : Name
 
 -- the entries of a node and of a relationship, and the names of attributes and nodes, by their numbers
 module _ (text : Bytes) (words : List ℕ) (c : BookCounts) where
-  node-entries : (i : ℕ) → i < c .nodes → graph.nodeEntries (bookAt text words c) i ≡ entriesIn text words layout.vattrNames (wordAt words (layout.nodeEntries + i))
-  unfolding graph.nodeEntries bookAt nodeOf
-  node-entries i l = ap (λ es. getD es i []) (map-listed (λ x. x .entries) (nodeOf text words) (c .nodes)) ∙ getD-listed (λ i. nodeOf text words i .entries) (c .nodes) i [] l
-
-  relationship-entries : (i : ℕ) → i < c .relationships → relEntries (bookAt text words c) i ≡ entriesIn text words layout.eattrNames (wordAt words (layout.relationshipEntries + i))
-  unfolding relEntries graph.relOf bookAt relOf
-  relationship-entries i l = ap (λ r. r .entries) (getD-listed (relOf text words) (c .relationships) i _ l)
+  owner-entries : (o : Owner) (i : ℕ) → i < tablesOf o c .count → entriesOf o (bookAt text words c) i ≡ entriesIn text words (tablesOf o c .attributes) (wordAt words (tablesOf o c .entries + i))
+  unfolding graph.nodeEntries relEntries graph.relOf bookAt nodeOf relOf
+  owner-entries Node i l = ap (λ es. getD es i []) (map-listed (λ x. x .entries) (nodeOf text words) (c .nodes)) ∙ getD-listed (λ i. nodeOf text words i .entries) (c .nodes) i [] l
+  owner-entries Relationship i l = ap (λ r. r .entries) (getD-listed (relOf text words) (c .relationships) i _ l)
 
   attribute-name : (offset count i : ℕ) → i < count → getD (attrNames (attrsAt text words offset count)) i [] ≡ nameOf text words offset i
   unfolding namesAt
@@ -117,17 +118,9 @@ module _ (text : Bytes) (words : List ℕ) (c : BookCounts) where
   unfolding namesAt
   node-named i l = ap (λ ns. getD ns i []) (node-names text words c) ∙ getD-listed (nameOf text words layout.nodeNames) (c .nodes) i [] l
 
-  module _ (fits : Fits text words c) (attribute : ℕ) (r : Found) where
-    pub node-entered : (i : ℕ) → i < c .nodes → attribute < c .vattrs
-        → found r ≡ seek words attribute (startPart (wordAt words (layout.nodeEntries + i))) (countPart (wordAt words (layout.nodeEntries + i)))
-        → Entered text words r (nodeValue (bookAt text words c) i attribute)
-    unfolding nodeValue bookAt
-    node-entered i l m e = rw (node-entries i l, attribute-name layout.vattrNames (c .vattrs) attribute m)
-        (owner-entered text words layout.vattrNames (c .vattrs) (fits .vattrs) attribute m (c .entries) (wordAt words (layout.nodeEntries + i)) (fits .of-nodes i l) (fits .within .entries) (fits .room) r e)
-
-    pub relationship-entered : (i : ℕ) → i < c .relationships → attribute < c .eattrs
-        → found r ≡ seek words attribute (startPart (wordAt words (layout.relationshipEntries + i))) (countPart (wordAt words (layout.relationshipEntries + i)))
-        → Entered text words r (relationshipValue (bookAt text words c) i attribute)
-    unfolding relationshipValue bookAt
-    relationship-entered i l m e = rw (relationship-entries i l, attribute-name layout.eattrNames (c .eattrs) attribute m)
-        (owner-entered text words layout.eattrNames (c .eattrs) (fits .eattrs) attribute m (c .entries) (wordAt words (layout.relationshipEntries + i)) (fits .of-rels i l) (fits .within .entries) (fits .room) r e)
+  pub entered : (fits : Fits text words c) (attribute : ℕ) (r : Found) (o : Owner) (i : ℕ) → i < tablesOf o c .count → attribute < tablesOf o c .declared
+      → found r ≡ seek words attribute (startPart (wordAt words (tablesOf o c .entries + i))) (countPart (wordAt words (tablesOf o c .entries + i)))
+      → Entered text words r (ownerValue o (bookAt text words c) i attribute)
+  entered fits attribute r o i l m e =
+      rw (owner-entries o i l, owner-attrs text words c o, attribute-name (tablesOf o c .attributes) (tablesOf o c .declared) attribute m)
+      (owner-entered text words _ _ (attr-table text words c fits o .names) attribute m (c .entries) _ (owner-fits text words c fits o i l) (fits .within .entries) (fits .room) r e)

@@ -5,9 +5,12 @@ use lib.Dec.{eqb}
 use lib.ListN.{getD}
 use Rattle.model.specs.Bytes.{Bytes}
 use Rattle.model.specs.Choice.{pick, Maybe, nothing, just}
-use Rattle.model.specs.Values.{Value}
+use Rattle.model.specs.Values.{Value, Entry}
 use Rattle.model.specs.Book.{Book, attrNames}
 use Rattle.model.specs.Graph.{valueIn, nodeEntries, relEntries}
+use Rattle.book_tables.specs.declared.Owner.{Owner}
+use Rattle.book_tables.specs.declared.Owner.the-variants.{Node, Relationship}
+use Rattle.book_tables.specs.Owners.{attrsOf}
 use Rattle.book_tables.specs.Layout.{entries}
 use Rattle.book_tables.specs.View.{wordAt, entryHead, valueIn as valueOfWords}
 use Rattle.book_lookup.specs.declared.Found.{Found}
@@ -46,10 +49,17 @@ maybeValue text words (just k) = just (entryValue text words k)
 unfoldable pub valueAt : Bytes → List ℕ → Found → Maybe Value
 valueAt text words r = maybeValue text words (found r)
 
--- the value of a node's attribute, both by their numbers
-unfoldable pub nodeValue : Book → ℕ → ℕ → Maybe Value
-nodeValue b node attribute = valueIn (nodeEntries b node) (getD (attrNames (b .vattrs)) attribute [])
+-- the entries of an owner by its number
+abbrev pub entriesOf : Owner → Book → ℕ → List Entry
+entriesOf Node b i = nodeEntries b i
+entriesOf Relationship b i = relEntries b i
 
--- the value of a relationship's attribute, both by their numbers
+-- the value of an owner's attribute, both by their numbers; of a node's, and of a relationship's
+abbrev pub ownerValue : Owner → Book → ℕ → ℕ → Maybe Value
+ownerValue o b i attribute = valueIn (entriesOf o b i) (getD (attrNames (attrsOf o b)) attribute [])
+
+unfoldable pub nodeValue : Book → ℕ → ℕ → Maybe Value
+nodeValue b node attribute = ownerValue Node b node attribute
+
 unfoldable pub relationshipValue : Book → ℕ → ℕ → Maybe Value
-relationshipValue b relationship attribute = valueIn (relEntries b relationship) (getD (attrNames (b .eattrs)) attribute [])
+relationshipValue b relationship attribute = ownerValue Relationship b relationship attribute

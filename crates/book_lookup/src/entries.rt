@@ -6,13 +6,14 @@ ghost use Rattle.model.specs.Bytes.{Bytes};
 ghost use Rattle.book_tables.specs.Layout.{entries};
 ghost use Rattle.book_tables.specs.View.{startPart, countPart, bookAt};
 ghost use Rattle.book_tables.specs.Fits.{Fits};
-ghost use Rattle.book_lookup.specs.Entries.{seek, found, nodeValue, relationshipValue};
+ghost use Rattle.book_tables.specs.Owners.{tablesOf};
+ghost use Rattle.book_lookup.specs.Entries.{seek, found, ownerValue};
 ghost use Rattle.book_lookup.specs.Ready.{SomeText, Entered};
 use crate::Found;
 use book_tables::BookCounts;
 use book_tables::ENTRIES;
-use book_tables::NODE_ENTRIES;
-use book_tables::RELATIONSHIP_ENTRIES;
+use book_tables::Owner;
+use book_tables::owners;
 
 // An owner's entries are one word: start * OWNED + count.
 const OWNED: u32 = 4096;
@@ -22,25 +23,20 @@ pub const KINDS: u32 = 4;
 
 pub const ENTRY_WORDS: usize = 3;
 
-// The entry of a node's attribute, both by their numbers.
-pub fn node_entry(words: &[u32], counts: BookCounts, node: usize, attribute: usize) -> Found
-    requires { ⌜ SomeText (now words) counts node (counts .nodes) attribute (counts .vattrs) ⌝ }
-    ensures { λ r. ⌜ ((text : Bytes) → Fits text (now (words .entry)) counts → Entered text (now (words .entry)) r (nodeValue (bookAt text (now (words .entry)) counts) node attribute)) ⌝ }
-{
-    entry_of(words, words[NODE_ENTRIES + node], attribute)
-}
-
-// The entry of a relationship's attribute, both by their numbers.
-pub fn relationship_entry(
+// The entry of an owner's attribute, both by their numbers.
+pub fn owner_entry(
     words: &[u32],
     counts: BookCounts,
-    relationship: usize,
+    owner: Owner,
+    number: usize,
     attribute: usize,
 ) -> Found
-    requires { ⌜ SomeText (now words) counts relationship (counts .relationships) attribute (counts .eattrs) ⌝ }
-    ensures { λ r. ⌜ ((text : Bytes) → Fits text (now (words .entry)) counts → Entered text (now (words .entry)) r (relationshipValue (bookAt text (now (words .entry)) counts) relationship attribute)) ⌝ }
+    requires { ⌜ SomeText (now words) counts number (tablesOf owner counts .count) attribute (tablesOf owner counts .declared) ⌝ }
+    ensures { λ r. ⌜ ((text : Bytes) → Fits text (now (words .entry)) counts → Entered text (now (words .entry)) r (ownerValue owner (bookAt text (now (words .entry)) counts) number attribute)) ⌝ }
 {
-    entry_of(words, words[RELATIONSHIP_ENTRIES + relationship], attribute)
+    let tables = owners::tables(counts, owner);
+    let entries = tables.entries;
+    entry_of(words, words[entries + number], attribute)
 }
 
 // The first of an owner's entries that is of an attribute, by its number.

@@ -5,16 +5,17 @@ ghost use Rattle.model.specs.Values.{int, str, bool};
 ghost use Rattle.model.specs.Graph.{compares, sameOrNot, inRelation, meets};
 ghost use Rattle.model.specs.Answers.{relationOf, valueOf};
 ghost use Rattle.book_tables.specs.View.{bookAt};
-ghost use Rattle.book_lookup.specs.Entries.{entryValue, valueAt, nodeValue, relationshipValue};
+ghost use Rattle.book_tables.specs.Owners.{tablesOf};
+ghost use Rattle.book_lookup.specs.Entries.{entryValue, valueAt, ownerValue, nodeValue, relationshipValue};
 ghost use Rattle.book_lookup.specs.Ready.{Room, EntryReady, FoundReady, ValueInside, Asked};
 use crate::Found;
-use crate::entries::node_entry;
-use crate::entries::relationship_entry;
+use crate::entries::owner_entry;
 use crate::values::kind_of;
 use crate::values::number_of;
 use crate::values::text_of;
 use crate::values::truth_of;
 use book_tables::BookCounts;
+use book_tables::Owner;
 use book_tables::values::INT;
 use book_tables::values::STR;
 use model::Relation;
@@ -35,8 +36,17 @@ pub fn node_meets(
     requires { ⌜ Asked (now book) (now words) counts node (counts .nodes) attribute (counts .vattrs) × ValueInside (now text) value ⌝ }
     ensures { λ r. ⌜ r ≡ meets (nodeValue (bookAt (now (book .entry)) (now (words .entry)) counts) node attribute) (relationOf relation) (valueOf (now (text .entry)) value) ⌝ }
 {
-    let found = node_entry(words, counts, node, attribute);
-    found_meets(book, words, found, relation, value, text)
+    owner_meets(
+        book,
+        words,
+        counts,
+        Owner::Node,
+        node,
+        attribute,
+        relation,
+        value,
+        text,
+    )
 }
 
 // Whether a relationship's attribute meets a requirement whose text value is part of `text`.
@@ -53,7 +63,35 @@ pub fn relationship_meets(
     requires { ⌜ Asked (now book) (now words) counts relationship (counts .relationships) attribute (counts .eattrs) × ValueInside (now text) value ⌝ }
     ensures { λ r. ⌜ r ≡ meets (relationshipValue (bookAt (now (book .entry)) (now (words .entry)) counts) relationship attribute) (relationOf relation) (valueOf (now (text .entry)) value) ⌝ }
 {
-    let found = relationship_entry(words, counts, relationship, attribute);
+    owner_meets(
+        book,
+        words,
+        counts,
+        Owner::Relationship,
+        relationship,
+        attribute,
+        relation,
+        value,
+        text,
+    )
+}
+
+// Whether an owner's attribute meets a requirement whose text value is part of `text`.
+fn owner_meets(
+    book: &[u8],
+    words: &[u32],
+    counts: BookCounts,
+    owner: Owner,
+    number: usize,
+    attribute: usize,
+    relation: Relation,
+    value: Value,
+    text: &[u8],
+) -> bool
+    requires { ⌜ Asked (now book) (now words) counts number (tablesOf owner counts .count) attribute (tablesOf owner counts .declared) × ValueInside (now text) value ⌝ }
+    ensures { λ r. ⌜ r ≡ meets (ownerValue owner (bookAt (now (book .entry)) (now (words .entry)) counts) number attribute) (relationOf relation) (valueOf (now (text .entry)) value) ⌝ }
+{
+    let found = owner_entry(words, counts, owner, number, attribute);
     found_meets(book, words, found, relation, value, text)
 }
 

@@ -1,5 +1,5 @@
 -- A store of a line's words adds the line: the words then hold the book with it.
-use Prim.Native.Nat.{ℕ, _+_, _/_, _%_, _<_}
+use Prim.Native.Nat.{ℕ, _+_, _/_, _%_, _<_, _≤_}
 use mathlib.Core.Path.{_≡_, ap, _∙_}
 use mathlib.Core.List.{List, [], _∷_, _++_}
 use mathlib.Core.Bool.{false}
@@ -12,10 +12,13 @@ use Rattle.model.specs.Book.{Attr, Book, attrNames, entryCount}
 use Rattle.model.specs.BookLines.{label, vattr, eattr}
 use Rattle.model.specs.ReadBook.{addLine}
 use Rattle.book_tables.specs.declared.BookCounts.{BookCounts}
+use Rattle.book_tables.specs.declared.Owner.{Owner}
+use Rattle.book_tables.specs.declared.Owner.the-variants.{Node, Relationship}
 use Rattle.book_tables.specs.Layout.{vattrNames, eattrNames, typesBehind, labelNames, relationships, entries}
 use Rattle.book_tables.specs.View.{wordAt, nameIn, nameOf, namesAt, kindIn, attrsAt, bookAt}
 use Rattle.book_tables.specs.Fits.{Inside, NamesFit, Fits, Holds}
-use Rattle.book_tables.specs.Stores.{moreVattrs, moreEattrs, moreLabels, withAttr, withLabel}
+use Rattle.book_tables.specs.Owners.{tablesOf, attrsOf, declares, moreAttrs}
+use Rattle.book_tables.specs.Stores.{moreLabels, withAttr, withLabel}
 use Rattle.book_tables.proofs.NameLaws.{names-end, names-fit-more, attr-names}
 use Rattle.book_tables.specs.Agree.{Free, Agree}
 use Rattle.book_tables.proofs.AgreeLaws.{set-agrees, agree-trans, book-kept, fits-kept}
@@ -31,6 +34,27 @@ record AttrRoom (words : List ℕ) (c : BookCounts) (offset count : ℕ) : Type 
   name : Free c (offset + count)
   type : Free c (offset + typesBehind + count)
   fits : offset + typesBehind + count < length words
+
+-- more is declared, and nothing else
+more-declared : (text : Bytes) (words : List ℕ) (c : BookCounts) → Fits text words c → (v e l : ℕ)
+    → (c .vattrs ≤ v) × (c .eattrs ≤ e) × (c .labels ≤ l) → (v ≤ 32) × (e ≤ 32) × (l ≤ 32)
+    → NamesFit text words vattrNames v → NamesFit text words eattrNames e → NamesFit text words labelNames l
+    → Fits text words (record { vattrs = v; eattrs = e; labels = l; nodes = c .nodes; relationships = c .relationships; entries = c .entries })
+unfolding bookAt entryCount
+more-declared text words c f v e l more few vattrs eattrs labels = record {
+  room = f .room;
+  within = let w = f .within in omega arith;
+  vattrs = vattrs;
+  eattrs = eattrs;
+  labels = labels;
+  nodes = f .nodes;
+  of-nodes = λ i m. entries-fit-more text words (c .vattrs) v (c .entries) (c .entries) _ (more .0) (omega arith) (f .of-nodes i m);
+  rels = λ i m. rel-fits-more (c .labels) l (c .nodes) (c .nodes) _ (more .2) (omega arith) (f .rels i m);
+  of-rels = λ i m. entries-fit-more text words (c .eattrs) e (c .entries) (c .entries) _ (more .1) (omega arith) (f .of-rels i m);
+  counted = f .counted;
+  node-chains = f .node-chains;
+  rel-chains = f .rel-chains;
+}
 
 module _ (text : Bytes) (words : List ℕ) (c : BookCounts) (b : Book) (holds : Holds text words c b) where
   module _ (w : ℕ) (room : c .labels < 32) (name : NewName text (b .labels) w) where
@@ -57,24 +81,14 @@ module _ (text : Bytes) (words : List ℕ) (c : BookCounts) (b : Book) (holds : 
     labels-before = ap (λ (x : Book). x .labels) label-before
 
     pub label-added : Holds text (withLabel words c w) (moreLabels c) (addLine b (label (nameIn text w)))
-    unfolding bookAt addLine entryCount
+    unfolding bookAt addLine
     label-added =
         let f = fits-kept text words (withLabel words c w) c label-agrees (holds .fits) in
+        let l = holds .fits .within in
+        let named = names-fit-more text (withLabel words c w) labelNames (c .labels) (f .labels) (rw label-at (name .inside)) (rw (label-named, labels-before) (name .new)) in
         record {
-          fits = record {
-            room = f .room;
-            within = let l = f .within in omega arith;
-            vattrs = f .vattrs;
-            eattrs = f .eattrs;
-            labels = names-fit-more text (withLabel words c w) labelNames (c .labels) (f .labels) (rw label-at (name .inside)) (rw (label-named, labels-before) (name .new));
-            nodes = f .nodes;
-            of-nodes = f .of-nodes;
-            rels = λ i l. rel-fits-more (c .labels) (c .labels + 1) (c .nodes) (c .nodes) _ (omega arith) (omega arith) (f .rels i l);
-            of-rels = f .of-rels;
-            counted = f .counted;
-            node-chains = f .node-chains;
-            rel-chains = f .rel-chains;
-          };
+          fits = more-declared text _ c f (c .vattrs) (c .eattrs) (c .labels + 1) (omega arith) (omega arith)
+              (f .vattrs) (f .eattrs) named;
           is = rw (names-end text (withLabel words c w) labelNames (c .labels), label-named) (ap (λ (x : Book). addLine x (label (nameIn text w))) label-before);
         }
 
@@ -119,55 +133,30 @@ module _ (text : Bytes) (words : List ℕ) (c : BookCounts) (b : Book) (holds : 
         (rw attr-at (name .inside))
         (rw (attr-named, ← attr-names text (withAttr words offset count w t) offset count, e) (name .new))
 
-  module _ (w t : ℕ) where
-    pub vattr-added : c .vattrs < 32 → NewName text (attrNames (b .vattrs)) w
-        → Holds text (withAttr words vattrNames (c .vattrs) w t) (moreVattrs c) (addLine b (vattr (nameIn text w) (kindIn t)))
-    unfolding bookAt addLine entryCount
-    vattr-added room name =
-        let l = holds .fits .within in
-        let r : AttrRoom words c vattrNames (c .vattrs) = record { name = omega arith; type = omega arith; fits = omega (arith, holds .fits .room) } in
-        let f = attr-fits vattrNames (c .vattrs) w t r in
-        let e = attr-before vattrNames (c .vattrs) w t r in
-        record {
-          fits = record {
-            room = f .room;
-            within = let m = f .within in omega arith;
-            vattrs = attr-fit vattrNames (c .vattrs) w t r (b .vattrs) (ap (λ (x : Book). x .vattrs) e) name (f .vattrs);
-            eattrs = f .eattrs;
-            labels = f .labels;
-            nodes = f .nodes;
-            of-nodes = λ i l. entries-fit-more text _ (c .vattrs) (c .vattrs + 1) (c .entries) (c .entries) _ (omega arith) (omega arith) (f .of-nodes i l);
-            rels = f .rels;
-            of-rels = f .of-rels;
-            counted = f .counted;
-            node-chains = f .node-chains;
-            rel-chains = f .rel-chains;
-          };
-          is = rw (attr-last vattrNames (c .vattrs) w t r) (ap (λ (x : Book). addLine x (vattr (nameIn text w) (kindIn t))) e);
-        }
+  attr-room : (o : Owner) → tablesOf o c .declared < 32 → AttrRoom words c (tablesOf o c .attributes) (tablesOf o c .declared)
+  attr-room Node few = let l = holds .fits .within in record { name = omega arith; type = omega arith; fits = omega (arith, holds .fits .room) }
+  attr-room Relationship few = let l = holds .fits .within in record { name = omega arith; type = omega arith; fits = omega (arith, holds .fits .room) }
 
-    pub eattr-added : c .eattrs < 32 → NewName text (attrNames (b .eattrs)) w
-        → Holds text (withAttr words eattrNames (c .eattrs) w t) (moreEattrs c) (addLine b (eattr (nameIn text w) (kindIn t)))
-    unfolding bookAt addLine entryCount
-    eattr-added room name =
-        let l = holds .fits .within in
-        let r : AttrRoom words c eattrNames (c .eattrs) = record { name = omega arith; type = omega arith; fits = omega (arith, holds .fits .room) } in
-        let f = attr-fits eattrNames (c .eattrs) w t r in
-        let e = attr-before eattrNames (c .eattrs) w t r in
-        record {
-          fits = record {
-            room = f .room;
-            within = let m = f .within in omega arith;
-            vattrs = f .vattrs;
-            eattrs = attr-fit eattrNames (c .eattrs) w t r (b .eattrs) (ap (λ (x : Book). x .eattrs) e) name (f .eattrs);
-            labels = f .labels;
-            nodes = f .nodes;
-            of-nodes = f .of-nodes;
-            rels = f .rels;
-            of-rels = λ i l. entries-fit-more text _ (c .eattrs) (c .eattrs + 1) (c .entries) (c .entries) _ (omega arith) (omega arith) (f .of-rels i l);
-            counted = f .counted;
-            node-chains = f .node-chains;
-            rel-chains = f .rel-chains;
-          };
-          is = rw (attr-last eattrNames (c .eattrs) w t r) (ap (λ (x : Book). addLine x (eattr (nameIn text w) (kindIn t))) e);
-        }
+  pub attr-added : (o : Owner) (w t : ℕ) → tablesOf o c .declared < 32 → NewName text (attrNames (attrsOf o b)) w
+      → Holds text (withAttr words (tablesOf o c .attributes) (tablesOf o c .declared) w t) (moreAttrs o c) (addLine b (declares o (nameIn text w) (kindIn t)))
+  unfolding bookAt addLine
+  attr-added Node w t few name =
+      let l = holds .fits .within in
+      let r = attr-room Node few in
+      let f = attr-fits vattrNames (c .vattrs) w t r in
+      let e = attr-before vattrNames (c .vattrs) w t r in
+      record {
+        fits = more-declared text _ c f (c .vattrs + 1) (c .eattrs) (c .labels) (omega arith) (omega arith)
+            (attr-fit vattrNames (c .vattrs) w t r (b .vattrs) (ap (λ (x : Book). x .vattrs) e) name (f .vattrs)) (f .eattrs) (f .labels);
+        is = rw (attr-last vattrNames (c .vattrs) w t r) (ap (λ (x : Book). addLine x (vattr (nameIn text w) (kindIn t))) e);
+      }
+  attr-added Relationship w t few name =
+      let l = holds .fits .within in
+      let r = attr-room Relationship few in
+      let f = attr-fits eattrNames (c .eattrs) w t r in
+      let e = attr-before eattrNames (c .eattrs) w t r in
+      record {
+        fits = more-declared text _ c f (c .vattrs) (c .eattrs + 1) (c .labels) (omega arith) (omega arith)
+            (f .vattrs) (attr-fit eattrNames (c .eattrs) w t r (b .eattrs) (ap (λ (x : Book). x .eattrs) e) name (f .eattrs)) (f .labels);
+        is = rw (attr-last eattrNames (c .eattrs) w t r) (ap (λ (x : Book). addLine x (eattr (nameIn text w) (kindIn t))) e);
+      }

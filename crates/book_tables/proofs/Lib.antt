@@ -5,6 +5,7 @@ pub mod Walks
 pub mod ValueLaws
 pub mod AgreeLaws
 pub mod Grow
+pub mod OwnerLaws
 pub mod Added
-pub mod Owners
+pub mod OwnerAdded
 pub mod PutLaws

@@ -6,31 +6,20 @@ use lib.ListN.{length, set}
 use Rattle.model.specs.Bytes.{Bytes}
 use Rattle.model.specs.Values.{Entry}
 use Rattle.chains.specs.Chains.{cleared, linked}
-use Rattle.chains.specs.Slots.{slotOf}
 use Rattle.book_tables.specs.declared.BookCounts.{BookCounts}
-use Rattle.book_tables.specs.Layout.{typesBehind, labelNames, nodeNames, nodeEntries, relationships, relationshipEntries, entries, nodeHeads, nodeLinks, fromHeads, fromLinks, keys}
-use Rattle.book_tables.specs.View.{nameIn, entriesFrom, fromPart}
+use Rattle.book_tables.specs.declared.Owner.{Owner}
+use Rattle.book_tables.specs.Layout.{typesBehind, labelNames, entries, nodeHeads, fromHeads, keys}
+use Rattle.book_tables.specs.View.{entriesFrom}
 use Rattle.book_tables.specs.Fits.{EntryFits}
+use Rattle.book_tables.specs.Owners.{tablesOf}
 
 -- the counts of a book of no lines
 abbrev pub noCounts : BookCounts
 noCounts = record { vattrs = 0; eattrs = 0; labels = 0; nodes = 0; relationships = 0; entries = 0 }
 
--- one more of each in the counts; a node or a relationship comes with its entries
-abbrev pub moreVattrs : BookCounts → BookCounts
-moreVattrs c = record { vattrs = c .vattrs + 1; eattrs = c .eattrs; labels = c .labels; nodes = c .nodes; relationships = c .relationships; entries = c .entries }
-
-abbrev pub moreEattrs : BookCounts → BookCounts
-moreEattrs c = record { vattrs = c .vattrs; eattrs = c .eattrs + 1; labels = c .labels; nodes = c .nodes; relationships = c .relationships; entries = c .entries }
-
+-- one label more in the counts
 abbrev pub moreLabels : BookCounts → BookCounts
 moreLabels c = record { vattrs = c .vattrs; eattrs = c .eattrs; labels = c .labels + 1; nodes = c .nodes; relationships = c .relationships; entries = c .entries }
-
-abbrev pub moreNodes : BookCounts → ℕ → BookCounts
-moreNodes c n = record { vattrs = c .vattrs; eattrs = c .eattrs; labels = c .labels; nodes = c .nodes + 1; relationships = c .relationships; entries = c .entries + n }
-
-abbrev pub moreRels : BookCounts → ℕ → BookCounts
-moreRels c n = record { vattrs = c .vattrs; eattrs = c .eattrs; labels = c .labels; nodes = c .nodes; relationships = c .relationships + 1; entries = c .entries + n }
 
 -- the words without a node or a relationship in any chain
 unfoldable pub withoutChains : List ℕ → List ℕ
@@ -48,19 +37,12 @@ withLabel words c name = set words (labelNames + c .labels) name
 abbrev pub ownEntries : BookCounts → ℕ → ℕ
 ownEntries c n = c .entries * 4096 + n
 
--- a node with its entries, which stand behind those counted; then it is in the chain of its name's slot
-unfoldable pub nodeStored : List ℕ → BookCounts → ℕ → ℕ → List ℕ
-nodeStored words c name n = set (set words (nodeNames + c .nodes) name) (nodeEntries + c .nodes) (ownEntries c n)
+-- an owner's word with its entries, which stand behind those counted; then it is in the chain of its key
+unfoldable pub ownerStored : List ℕ → BookCounts → Owner → ℕ → ℕ → List ℕ
+ownerStored words c o w n = let t = tablesOf o c in set (set words (t .owners + t .count) w) (t .entries + t .count) (ownEntries c n)
 
-unfoldable pub withNode : Bytes → List ℕ → BookCounts → ℕ → ℕ → List ℕ
-withNode text words c name n = linked (nodeStored words c name n) nodeHeads nodeLinks (slotOf (nameIn text name)) (c .nodes)
-
--- a relationship with its entries, which stand behind those counted; then it is in the chain of the node that it leaves
-unfoldable pub relStored : List ℕ → BookCounts → ℕ → ℕ → List ℕ
-relStored words c w n = set (set words (relationships + c .relationships) w) (relationshipEntries + c .relationships) (ownEntries c n)
-
-unfoldable pub withRel : List ℕ → BookCounts → ℕ → ℕ → List ℕ
-withRel words c w n = linked (relStored words c w n) fromHeads fromLinks (fromPart w) (c .relationships)
+unfoldable pub withOwner : List ℕ → BookCounts → Owner → ℕ → ℕ → ℕ → List ℕ
+withOwner words c o w key n = let t = tablesOf o c in linked (ownerStored words c o w n) (t .heads) (t .links) key (t .count)
 
 -- attribute entry k
 unfoldable pub withEntry : List ℕ → ℕ → ℕ → ℕ → ℕ → List ℕ

@@ -25,7 +25,10 @@ nameIn text w = partOf text (w / 32) (w % 32)
 unfoldable pub nameOf : Bytes → List ℕ → ℕ → ℕ → Bytes
 nameOf text words offset i = nameIn text (wordAt words (offset + i))
 
--- the slot of a node's name
+-- the slot of the name that a word says, and of a node's
+abbrev pub slotIn : Bytes → ℕ → ℕ
+slotIn text w = slotOf (nameIn text w)
+
 abbrev pub nodeSlot : Bytes → List ℕ → ℕ → ℕ
 nodeSlot text words i = slotOf (nameOf text words nodeNames i)
 

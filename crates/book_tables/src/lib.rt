@@ -3,6 +3,7 @@ ghost use mathlib.Core.Path.{_≡_};
 ghost use Rattle.book_tables.specs.Stores.{noCounts};
 
 pub mod names;
+pub mod owners;
 pub mod relationships;
 pub mod stores;
 pub mod values;
@@ -44,6 +45,24 @@ pub struct BookCounts {
     pub nodes: usize,
     pub relationships: usize,
     pub entries: usize,
+}
+
+// Who has attributes: nodes, and relationships.
+pub enum Owner {
+    Node,
+    Relationship,
+}
+
+// The tables of an owner: the attributes declared for it and how many they are; a word for each owner, the word of its entries, the heads and
+// links of its chains, and how many owners there are.
+pub struct OwnerTables {
+    pub attributes: usize,
+    pub declared: usize,
+    pub owners: usize,
+    pub entries: usize,
+    pub heads: usize,
+    pub links: usize,
+    pub count: usize,
 }
 
 // A value's type, and the two words that say it: the halves of a number, start and length of a text, 0 and then 0 or 1 of a truth value.

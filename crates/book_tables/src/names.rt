@@ -5,16 +5,16 @@ ghost use lib.ListN.{length};
 ghost use Rattle.model.specs.Bytes.{same};
 ghost use Rattle.model.specs.Names.{place};
 ghost use Rattle.model.specs.Book.{attrNames, nodeNames};
-ghost use Rattle.chains.specs.Slots.{slotOf};
-ghost use Rattle.book_tables.specs.View.{wordAt, nameIn, namesAt, bookAt};
+ghost use Rattle.book_tables.specs.View.{wordAt, nameIn, slotIn, namesAt, bookAt};
 ghost use Rattle.book_tables.specs.Fits.{Inside, NamesFit, Fits};
+ghost use Rattle.book_tables.specs.Owners.{attrsOf};
 use crate::BookCounts;
-use crate::EATTR_NAMES;
 use crate::LABEL_NAMES;
 use crate::NODE_HEADS;
 use crate::NODE_LINKS;
 use crate::NODE_NAMES;
-use crate::VATTR_NAMES;
+use crate::Owner;
+use crate::owners;
 
 // A name's word is its start times 32 and its length.
 pub const NAME_LENGTHS: usize = 32;
@@ -34,20 +34,13 @@ pub fn find_name(text: &[u8], words: &[u32], offset: usize, count: usize, name: 
     count
 }
 
-// The number of a node's attribute.
-pub fn find_vattr(text: &[u8], words: &[u32], counts: BookCounts, name: &[u8]) -> usize
+// The number of an attribute declared for an owner.
+pub fn find_attr(text: &[u8], words: &[u32], counts: BookCounts, owner: Owner, name: &[u8]) -> usize
     requires { ⌜ Fits (now text) (now words) counts ⌝ }
-    ensures { λ r. ⌜ r ≡ place (now (name .entry)) (attrNames (bookAt (now (text .entry)) (now (words .entry)) counts .vattrs)) ⌝ }
+    ensures { λ r. ⌜ r ≡ place (now (name .entry)) (attrNames (attrsOf owner (bookAt (now (text .entry)) (now (words .entry)) counts))) ⌝ }
 {
-    find_name(text, words, VATTR_NAMES, counts.vattrs, name)
-}
-
-// The number of a relationship's attribute.
-pub fn find_eattr(text: &[u8], words: &[u32], counts: BookCounts, name: &[u8]) -> usize
-    requires { ⌜ Fits (now text) (now words) counts ⌝ }
-    ensures { λ r. ⌜ r ≡ place (now (name .entry)) (attrNames (bookAt (now (text .entry)) (now (words .entry)) counts .eattrs)) ⌝ }
-{
-    find_name(text, words, EATTR_NAMES, counts.eattrs, name)
+    let tables = owners::tables(counts, owner);
+    find_name(text, words, tables.attributes, tables.declared, name)
 }
 
 // The number of a label.
@@ -89,7 +82,7 @@ fn is_named(text: &[u8], words: &[u32], at: usize, name: &[u8]) -> bool
 // The slot of the name that a word says.
 pub fn slot_of(text: &[u8], word: u32) -> usize
     requires { ⌜ Inside (now text) (word / 32) (word % 32) ⌝ }
-    ensures { λ r. ⌜ r ≡ slotOf (nameIn (now (text .entry)) word) ⌝ }
+    ensures { λ r. ⌜ (r ≡ slotIn (now (text .entry)) word) × (r < 256) ⌝ }
 {
     let start = word as usize / NAME_LENGTHS;
     let end = start + word as usize % NAME_LENGTHS;

@@ -1,22 +1,17 @@
 // The stores: one thing more in a table, and in the counts.
 ghost use mathlib.Core.Path.{_≡_};
-ghost use Prim.Native.Nat.{_+_, _*_, _/_, _%_, _≤_, _<_};
+ghost use Prim.Native.Nat.{_+_, _≤_, _<_};
 ghost use lib.ListN.{length};
-ghost use Rattle.book_tables.specs.Fits.{Inside};
-ghost use Rattle.book_tables.specs.Stores.{moreLabels, moreNodes, moreRels, withoutChains, withAttr, withLabel, withNode, withRel, withEntry};
+ghost use Rattle.book_tables.specs.Fits.{Within};
+ghost use Rattle.book_tables.specs.Owners.{tablesOf, moreAttrs, moreOwners};
+ghost use Rattle.book_tables.specs.Stores.{moreLabels, withoutChains, withAttr, withLabel, withOwner, withEntry};
 use crate::BookCounts;
 use crate::ENTRIES;
 use crate::FROM_HEADS;
-use crate::FROM_LINKS;
 use crate::LABEL_NAMES;
-use crate::NODE_ENTRIES;
 use crate::NODE_HEADS;
-use crate::NODE_LINKS;
-use crate::NODE_NAMES;
-use crate::RELATIONSHIP_ENTRIES;
-use crate::RELATIONSHIPS;
-use crate::names;
-use crate::relationships::NODES;
+use crate::Owner;
+use crate::owners;
 use chains::slots::SLOTS;
 use model::limits::MAX_DECLARED;
 use model::limits::MAX_NODES;
@@ -36,13 +31,24 @@ pub fn clear_chains(words: &mut [u32])
     chains::clear(words, FROM_HEADS, MAX_NODES);
 }
 
-// An attribute's name and type behind those counted at an offset.
-pub fn store_attr(words: &mut [u32], offset: usize, count: usize, name: u32, kind: u32)
-    requires { ⌜ (offset + 32 + count < length (now words)) ⌝ }
-    ensures { λ _. ⌜ now (words .exit) ≡ withAttr (now (words .entry)) offset count name kind ⌝ }
+// An attribute's name and type behind those declared for an owner.
+pub fn store_attr(
+    words: &mut [u32],
+    counts: BookCounts,
+    owner: Owner,
+    name: u32,
+    kind: u32,
+) -> BookCounts
+    requires { ⌜ (10752 ≤ length (now words)) × Within counts × (tablesOf owner counts .declared < 32) ⌝ }
+    ensures stored { λ r. ⌜ now (words .exit) ≡ withAttr (now (words .entry)) (tablesOf owner counts .attributes) (tablesOf owner counts .declared) name kind ⌝ }
+    ensures counted { λ r. ⌜ r ≡ moreAttrs owner counts ⌝ }
 {
-    words[offset + count] = name;
-    words[offset + MAX_DECLARED + count] = kind;
+    let tables = owners::tables(counts, owner);
+    let offset = tables.attributes;
+    let at = tables.declared;
+    words[offset + at] = name;
+    words[offset + MAX_DECLARED + at] = kind;
+    owners::more_attrs(counts, owner)
 }
 
 // A label.
@@ -63,54 +69,27 @@ pub fn store_label(words: &mut [u32], counts: BookCounts, name: u32) -> BookCoun
     }
 }
 
-// A node, and that the n entries behind those counted are its own.
-pub fn store_node(
-    text: &[u8],
+// A node or a relationship by its word, in the chain of its key; and that the n entries behind those counted are its own.
+pub fn store_owner(
     words: &mut [u32],
     counts: BookCounts,
-    name: u32,
+    owner: Owner,
+    word: u32,
+    key: usize,
     n: usize,
 ) -> BookCounts
-    requires { ⌜ (10752 ≤ length (now words)) × (counts .nodes < 256) × (counts .entries + n ≤ 2048) × Inside (now text) (name / 32) (name % 32) ⌝ }
-    ensures stored { λ r. ⌜ now (words .exit) ≡ withNode (now (text .entry)) (now (words .entry)) counts name n ⌝ }
-    ensures counted { λ r. ⌜ r ≡ moreNodes counts n ⌝ }
+    requires { ⌜ (10752 ≤ length (now words)) × Within counts × (tablesOf owner counts .count < 1024) × (key < 256) × (counts .entries + n ≤ 2048) ⌝ }
+    ensures stored { λ r. ⌜ now (words .exit) ≡ withOwner (now (words .entry)) counts owner word key n ⌝ }
+    ensures counted { λ r. ⌜ r ≡ moreOwners owner counts n ⌝ }
 {
-    let at = counts.nodes;
-    let start = counts.entries;
-    words[NODE_NAMES + at] = name;
-    words[NODE_ENTRIES + at] = (start * ENTRY_COUNTS + n) as u32;
-    let slot = names::slot_of(text, name);
-    chains::add(words, NODE_HEADS, NODE_LINKS, slot, at);
-    BookCounts {
-        vattrs: counts.vattrs,
-        eattrs: counts.eattrs,
-        labels: counts.labels,
-        nodes: at + 1,
-        relationships: counts.relationships,
-        entries: start + n,
-    }
-}
-
-// A relationship, and that the n entries behind those counted are its own.
-pub fn store_relationship(words: &mut [u32], counts: BookCounts, word: u32, n: usize) -> BookCounts
-    requires { ⌜ (10752 ≤ length (now words)) × (counts .relationships < 1024) × (counts .entries + n ≤ 2048) ⌝ }
-    ensures stored { λ r. ⌜ now (words .exit) ≡ withRel (now (words .entry)) counts word n ⌝ }
-    ensures counted { λ r. ⌜ r ≡ moreRels counts n ⌝ }
-{
-    let at = counts.relationships;
-    let start = counts.entries;
-    words[RELATIONSHIPS + at] = word;
-    words[RELATIONSHIP_ENTRIES + at] = (start * ENTRY_COUNTS + n) as u32;
-    let from = word as usize / NODES % NODES;
-    chains::add(words, FROM_HEADS, FROM_LINKS, from, at);
-    BookCounts {
-        vattrs: counts.vattrs,
-        eattrs: counts.eattrs,
-        labels: counts.labels,
-        nodes: counts.nodes,
-        relationships: at + 1,
-        entries: start + n,
-    }
+    let tables = owners::tables(counts, owner);
+    let at = tables.count;
+    let first = tables.owners;
+    let entries = tables.entries;
+    words[first + at] = word;
+    words[entries + at] = (counts.entries * ENTRY_COUNTS + n) as u32;
+    chains::add(words, tables.heads, tables.links, key, at);
+    owners::more_owners(counts, owner, n)
 }
 
 // Attribute entry k: its attribute and type in one word, and the two words of its value.

@@ -7,6 +7,7 @@ ghost use Rattle.model.specs.Answers.{nameAt};
 ghost use Rattle.model.specs.declared.Condition.the-variants.{Excluded};
 ghost use Rattle.book_tables.specs.View.{bookAt};
 ghost use Rattle.book_tables.specs.Fits.{Fits};
+ghost use Rattle.book_tables.specs.Owners.{attrsOf};
 ghost use Rattle.query.specs.Vertices.{namesOf};
 ghost use Rattle.query.specs.Edges.{edgeNamesOf};
 ghost use Rattle.query.specs.Clauses.{requirementIn, demandIn, noClauses};
@@ -15,6 +16,7 @@ use crate::edges::Edges;
 use crate::vertices;
 use crate::vertices::Vertices;
 use book_tables::BookCounts;
+use book_tables::Owner;
 use book_tables::names;
 use model::Clause;
 use model::Condition;
@@ -40,45 +42,22 @@ pub fn no_clauses() -> Clauses
     Clauses { clauses, count: 0 }
 }
 
-// A requirement of a vertex, its attribute by number.
-fn vertex_requirement(
+// A requirement of a vertex or of an edge, its attribute by number among those of the owner.
+fn requirement_of(
     book: &[u8],
     words: &[u32],
     counts: BookCounts,
+    owner: Owner,
     s: &[u8],
     d: Demand,
 ) -> Requirement
     requires { ⌜ Fits (now book) (now words) counts ⌝ }
-    ensures { λ r. ⌜ r ≡ requirementIn (attrNames (bookAt (now (book .entry)) (now (words .entry)) counts .vattrs)) (now (s .entry)) d ⌝ }
+    ensures { λ r. ⌜ r ≡ requirementIn (attrNames (attrsOf owner (bookAt (now (book .entry)) (now (words .entry)) counts))) (now (s .entry)) d ⌝ }
 {
     let a = d.attribute;
     let start = a.start;
     let length = a.length;
-    let attribute = names::find_vattr(book, words, counts, expected::part(s, start, length));
-    let relation = d.relation;
-    let value = d.value;
-    Requirement {
-        attribute,
-        relation,
-        value,
-    }
-}
-
-// A requirement of an edge, its attribute by number.
-fn edge_requirement(
-    book: &[u8],
-    words: &[u32],
-    counts: BookCounts,
-    s: &[u8],
-    d: Demand,
-) -> Requirement
-    requires { ⌜ Fits (now book) (now words) counts ⌝ }
-    ensures { λ r. ⌜ r ≡ requirementIn (attrNames (bookAt (now (book .entry)) (now (words .entry)) counts .eattrs)) (now (s .entry)) d ⌝ }
-{
-    let a = d.attribute;
-    let start = a.start;
-    let length = a.length;
-    let attribute = names::find_eattr(book, words, counts, expected::part(s, start, length));
+    let attribute = names::find_attr(book, words, counts, owner, expected::part(s, start, length));
     let relation = d.relation;
     let value = d.value;
     Requirement {
@@ -105,11 +84,11 @@ pub fn requirement(
     let x = d.subject;
     let v = vertices::vertex_number(s, found, x);
     if v < found.count {
-        let asked = vertex_requirement(book, words, counts, s, d);
+        let asked = requirement_of(book, words, counts, Owner::Node, s, d);
         return Condition::OfVertex(v, asked);
     }
     let e = edges::edge_number(s, links, x);
-    let asked = edge_requirement(book, words, counts, s, d);
+    let asked = requirement_of(book, words, counts, Owner::Relationship, s, d);
     Condition::OfEdge(e, asked)
 }
 

@@ -5,20 +5,24 @@ use mathlib.Core.List.{List}
 use mathlib.Core.Bool.{Bool, true, false, _&&_}
 use lib.ListN.{length}
 use lib.Dec.{ltb, eqb}
-use borrow.Author.Tests.{eq-eqb, ne-eqb}
+use borrow.Author.Tests.{eq-eqb, ne-eqb, lt-ltb, le-ltb}
 use Rattle.model.specs.Bytes.{Bytes, same}
 use Rattle.model.specs.Choice.{pick}
 use Rattle.model.specs.Lists.{any}
 use Rattle.model.specs.Names.{mem, place}
 use Rattle.model.specs.Book.{Attr, attrNames}
-use Rattle.model.specs.Values.{Value, Kind, ints, strs, bools, ofKind}
+use Rattle.model.specs.Values.{Value, Kind, strs, bools, ofKind}
 use Rattle.model.specs.QueryText.{Relation, eq, ne, lt, le, gt, ge}
 use Rattle.model.specs.ReadQuery.{hasRelation, typed}
 use Rattle.book_tables.specs.declared.BookCounts.{BookCounts}
-use Rattle.book_tables.specs.Layout.{vattrNames, eattrNames, labelNames, typesBehind}
+use Rattle.book_tables.specs.declared.Owner.{Owner}
+use Rattle.book_tables.specs.declared.OwnerTables.{OwnerTables}
+use Rattle.book_tables.specs.Layout.{labelNames, typesBehind}
 use Rattle.book_tables.specs.Listed.{listed}
 use Rattle.book_tables.specs.View.{wordAt, nameOf, namesAt, kindIn, attrOf, attrsAt, bookAt}
 use Rattle.book_tables.specs.Fits.{NamesFit, Fits}
+use Rattle.book_tables.specs.Owners.{tablesOf, attrsOf}
+use Rattle.book_tables.proofs.OwnerLaws.{owner-attrs, owner-declared, attr-table}
 use Rattle.book_tables.proofs.ListedLaws.{scan-all, scan-found}
 use Rattle.book_tables.proofs.NameLaws.{mem-place, same-equal, equal-same, length-names, name-mem, place-named, place-out, attr-names}
 use Rattle.query_faults.specs.Tests.{suits}
@@ -30,14 +34,6 @@ module _ (text : Bytes) (words : List ℕ) (c : BookCounts) (w : Bytes) (k : ℕ
   pub label-place : k ≡ place w (bookAt text words c .labels) → ltb k (c .labels) ≡ mem w (bookAt text words c .labels)
   unfolding bookAt
   label-place e = known-place w _ k (c .labels) e (length-names text words labelNames (c .labels))
-
-  pub vattr-place : k ≡ place w (attrNames (bookAt text words c .vattrs)) → ltb k (c .vattrs) ≡ mem w (attrNames (bookAt text words c .vattrs))
-  unfolding bookAt
-  vattr-place e = known-place w _ k (c .vattrs) e (ap length (attr-names text words vattrNames (c .vattrs)) ∙ length-names text words vattrNames (c .vattrs))
-
-  pub eattr-place : k ≡ place w (attrNames (bookAt text words c .eattrs)) → ltb k (c .eattrs) ≡ mem w (attrNames (bookAt text words c .eattrs))
-  unfolding bookAt
-  eattr-place e = known-place w _ k (c .eattrs) e (ap length (attr-names text words eattrNames (c .eattrs)) ∙ length-names text words eattrNames (c .eattrs))
 
 -- an attribute is typed as the one declared under its name
 module _ (text : Bytes) (words : List ℕ) (offset count : ℕ) (h : NamesFit text words offset count) (w : Bytes) (r : Relation) (v : Value) where
@@ -85,22 +81,29 @@ module _ (text : Bytes) (words : List ℕ) (offset count : ℕ) (h : NamesFit te
         go true f = scan-found asked (attrOf text words offset) count k l (this-name k named ∙ f)
         go false f = scan-all asked (attrOf text words offset) count (λ i m. others f i m (same (nameOf text words offset i) w) refl)
 
-module _ (text : Bytes) (words : List ℕ) (c : BookCounts) (h : Fits text words c) (w : Bytes) (r : Relation) (v : Value) (k : ℕ) where
-  pub vattr-typed : k ≡ place w (attrNames (bookAt text words c .vattrs)) → k < c .vattrs → suits (kindIn (wordAt words (32 + k))) r v ≡ typed (bookAt text words c .vattrs) w r v
-  unfolding bookAt
-  vattr-typed e l = sym (typed-in text words vattrNames (c .vattrs) (h .vattrs) w r v k e l)
+-- an owner's attribute at its place among those declared, or none of them
+module _ (text : Bytes) (words : List ℕ) (c : BookCounts) (h : Fits text words c) (o : Owner) (w : Bytes) (r : Relation) (v : Value)
+    (k : ℕ) (e : k ≡ place w (attrNames (attrsOf o (bookAt text words c)))) where
+  abbrev attrs : List Attr
+  attrs = attrsOf o (bookAt text words c)
 
-  pub vattr-untyped : k ≡ place w (attrNames (bookAt text words c .vattrs)) → c .vattrs ≤ k → false ≡ typed (bookAt text words c .vattrs) w r v
-  unfolding bookAt
-  vattr-untyped e l = sym (typed-out text words vattrNames (c .vattrs) (h .vattrs) w r v k e l)
+  abbrev t : OwnerTables
+  t = tablesOf o c
 
-  pub eattr-typed : k ≡ place w (attrNames (bookAt text words c .eattrs)) → k < c .eattrs → suits (kindIn (wordAt words (96 + k))) r v ≡ typed (bookAt text words c .eattrs) w r v
-  unfolding bookAt
-  eattr-typed e l = sym (typed-in text words eattrNames (c .eattrs) (h .eattrs) w r v k e l)
+  known : ltb k (t .declared) ≡ mem w (attrNames attrs)
+  known = known-place w _ k _ e (owner-declared text words c o)
 
-  pub eattr-untyped : k ≡ place w (attrNames (bookAt text words c .eattrs)) → c .eattrs ≤ k → false ≡ typed (bookAt text words c .eattrs) w r v
-  unfolding bookAt
-  eattr-untyped e l = sym (typed-out text words eattrNames (c .eattrs) (h .eattrs) w r v k e l)
+  place-of : k ≡ place w (attrNames (attrsAt text words (t .attributes) (t .declared)))
+  place-of = rw owner-attrs at e
+
+  pub attr-in : k < t .declared → (true ≡ mem w (attrNames attrs)) × (suits (kindIn (wordAt words (t .attributes + typesBehind + k))) r v ≡ typed attrs w r v)
+  attr-in l = (
+    sym (lt-ltb k _ l) ∙ known,
+    rw owner-attrs (sym (typed-in text words _ _ (attr-table text words c h o .names) w r v k place-of l)),
+  )
+
+  pub attr-out : t .declared ≤ k → (false ≡ mem w (attrNames attrs)) × (false ≡ typed attrs w r v)
+  attr-out l = (sym (le-ltb k _ l) ∙ known, rw owner-attrs (sym (typed-out text words _ _ (attr-table text words c h o .names) w r v k place-of l)))
 
 -- bool has the relations of str
 pub same-relations : (r : Relation) → hasRelation strs r ≡ hasRelation bools r
@@ -113,22 +116,23 @@ same-relations gt = refl
 same-relations ge = refl
 
 module _ (t : ℕ) (r : Relation) (v : Value) where
-  pub suits-int : t ≡ 0 → ofKind ints v ≡ suits (kindIn t) r v
+  pub suits-int : t ≡ 0 → ofKind (kindIn t) v ≡ suits (kindIn t) r v
   unfolding suits kindIn hasRelation
   suits-int e = rw (eq-eqb t 0 e)
 
-  pub suits-none : (t ≡ 0 → ⊥) → hasRelation strs r ≡ false → false ≡ suits (kindIn t) r v
-  unfolding suits kindIn
-  suits-none n e = rw (ne-eqb t 0 n) (go (eqb t 1))
+  -- the relations of a type that is not int are those of str
+  not-int : (t ≡ 0 → ⊥) → hasRelation (kindIn t) r ≡ hasRelation strs r
+  unfolding kindIn
+  not-int n = rw (ne-eqb t 0 n) (go (eqb t 1))
     where
-      go : (x : Bool) → false ≡ (hasRelation (pick x strs bools) r && ofKind (pick x strs bools) v)
-      go true = rw e
-      go false = rw (← same-relations r, e)
+      go : (x : Bool) → hasRelation (pick x strs bools) r ≡ hasRelation strs r
+      go true = refl
+      go false = sym (same-relations r)
 
-  pub suits-str : t ≡ 1 → hasRelation strs r ≡ true → ofKind strs v ≡ suits (kindIn t) r v
-  unfolding suits kindIn
-  suits-str e f = rw (e, f)
+  pub suits-same : (t ≡ 0 → ⊥) → hasRelation strs r ≡ true → ofKind (kindIn t) v ≡ suits (kindIn t) r v
+  unfolding suits
+  suits-same n e = rw (not-int n, e)
 
-  pub suits-bool : (t ≡ 0 → ⊥) → (t ≡ 1 → ⊥) → hasRelation strs r ≡ true → ofKind bools v ≡ suits (kindIn t) r v
-  unfolding suits kindIn
-  suits-bool n m f = rw (ne-eqb t 0 n, ne-eqb t 1 m, ← same-relations r, f)
+  pub suits-none : (t ≡ 0 → ⊥) → hasRelation strs r ≡ false → false ≡ suits (kindIn t) r v
+  unfolding suits
+  suits-none n e = rw (not-int n, e)

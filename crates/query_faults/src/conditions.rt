@@ -22,6 +22,7 @@ use crate::scan;
 use crate::table;
 use crate::tallies;
 use book_tables::BookCounts;
+use book_tables::Owner;
 use model::Part;
 use query_pieces::Demand;
 
@@ -87,12 +88,19 @@ pub fn demand_seen(
     let m = met.edges;
     let vertex = table::stands_before(s, vertices, n, i, Which::Vertex, x);
     let edge = table::stands_before(s, edges, m, i, Which::Edge, x);
-    let known_v = declared::vattr_known(book, words, counts, s, a);
-    let known_e = declared::eattr_known(book, words, counts, s, a);
-    let typed_v = declared::vattr_typed(book, words, counts, s, a, relation, value);
-    let typed_e = declared::eattr_typed(book, words, counts, s, a, relation, value);
-    let unknown = tallies::neither(vertex, known_v, edge, known_e);
-    let unsuited = tallies::neither(vertex, typed_v, edge, typed_e);
+    let of_vertex = declared::attr_seen(book, words, counts, Owner::Node, s, a, relation, value);
+    let of_edge = declared::attr_seen(
+        book,
+        words,
+        counts,
+        Owner::Relationship,
+        s,
+        a,
+        relation,
+        value,
+    );
+    let unknown = tallies::neither(vertex, of_vertex.known, edge, of_edge.known);
+    let unsuited = tallies::neither(vertex, of_vertex.typed, edge, of_edge.typed);
     let undeclared = tallies::flagged(unknown, t.undeclared);
     let mistyped = tallies::flagged(unsuited, t.mistyped);
     let fewer = tallies::less(t.requirements);

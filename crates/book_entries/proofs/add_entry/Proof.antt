@@ -8,24 +8,9 @@ use native.Mathlib.Omega.{arith}
 use borrow.Author.Needs.{needs}
 use Rattle.book_entries.proofs.add_entry.Statement.{statement}
 use Rattle.book_entries.proofs.add_entry.Tie as tie
-use Rattle.book_entries.proofs.add_entry.Reads as reads
-use Rattle.book_entries.proofs.add_entry.Lts as lts
-use Rattle.bits.proofs.has.Reads as has-reads
-use Rattle.bits.proofs.with.Reads as with-reads
-use Rattle.book_entries.proofs.entry_fault.Reads as entry-fault-reads
-use Rattle.book_entries.proofs.lower_fault.Reads as lower-fault-reads
-use Rattle.book_entries.proofs.put_entry.Reads as put-entry-reads
-use Rattle.book_tables.proofs.names.find_name.Reads as find-name-reads
-use Rattle.book_tables.proofs.values.of_kind.Reads as of-kind-reads
 
 add-end : tie.Need-add-end
 add-end c = omega (arith, c .before .before .before .pre .name-inside, c .before .before .before .pre .short)
-
-sub-find-name : tie.Need-sub-find-name
-sub-find-name c = search needs
-
-part-find-name-start : tie.Need-part-find-name-start
-part-find-name-start c = search needs
 
 part-find-name-end : tie.Need-part-find-name-end
 part-find-name-end c = omega (arith, c .before .before .before .before .pre .name-inside)
@@ -36,20 +21,8 @@ find-name-requires c κs = (c .before .before .before .before .before .pre .tabl
 add-t21 : tie.Need-add-t21
 add-t21 c = omega (arith, c .before .before .before .before .before .before .before .before .pre .counted)
 
-same-length : tie.Need-same-length
-same-length c = search needs
-
 returns : tie.Need-returns
 returns c = entry-undeclared (c .before .before .before .before .before .before .before .before .args .text .now) (c .before .before .before .before .before .before .before .before .args .words .now) (c .before .before .before .before .before .before .before .before .args .counts) (c .before .before .before .before .before .before .before .before .args .offset) (c .before .before .before .before .before .before .before .before .args .declared) (c .before .before .before .before .before .before .before .before .args .name) (c .before .before .before .before .before .before .before .before .args .value) (c .before .before .before .before .before .before .before .before .args .known) (c .before .before .before .before .before .before .before .before .pre) _ (c .before .before .find-name .ensures ∙ ap (λ (w : Bytes). place w (namesAt (c .before .before .before .before .before .before .before .before .args .text .now) (c .before .before .before .before .before .before .before .before .args .words .now) (c .before .before .before .before .before .before .before .before .args .offset) (c .before .before .before .before .before .before .before .before .args .declared))) (part-slice (c .before .before .before .before .before .before .before .before .args .text .now) (c .before .before .before .before .before .before .before .before .args .name))) (c .before .if1 .taken)
-
-add-kind : tie.Need-add-kind
-add-kind c = search needs
-
-add-kind-2 : tie.Need-add-kind-2
-add-kind-2 c = search needs
-
-mul-kind : tie.Need-mul-kind
-mul-kind c = search needs
 
 slice-read-kind : tie.Need-slice-read-kind
 slice-read-kind c = omega (arith, c .before .before .before .before .before .before .before .before .pre .table .low, c .before .before .before .before .before .before .before .before .pre .table .few, c .before .before .before .before .before .before .before .before .pre .fits .room)
@@ -57,29 +30,17 @@ slice-read-kind c = omega (arith, c .before .before .before .before .before .bef
 has-requires : tie.Need-has-requires
 has-requires c κs = omega (arith, c .before .before .before .before .before .before .before .before .pre .table .few)
 
-of-kind-requires : tie.Need-of-kind-requires
-of-kind-requires c κs = search needs
-
-entry-fault-requires : tie.Need-entry-fault-requires
-entry-fault-requires c κs = search needs
-
 add-put-entry : tie.Need-add-put-entry
 add-put-entry c = omega (arith, c .before .before .before .before .before .before .before .before .before .before .before .before .before .before .pre .counted, c .before .before .before .before .before .before .before .before .before .before .before .before .before .before .pre .fits .within .entries)
 
 put-entry-requires : tie.Need-put-entry-requires
 put-entry-requires c κs = record { room = c .before .before .before .before .before .before .before .before .before .before .before .before .before .before .pre .fits .room; declared = omega (arith, c .before .before .before .before .before .before .before .before .before .before .before .before .before .before .pre .table .few); short = ends-later _ 65536 (c .before .before .before .before .before .before .before .before .before .before .before .before .before .before .pre .short) (c .before .before .before .before .before .before .before .before .before .before .before .before .before .before .args .value) (c .before .before .before .before .before .before .before .before .before .before .before .before .before .before .pre .value-inside) }
 
-lower-fault-requires : tie.Need-lower-fault-requires
-lower-fault-requires c κs = search needs
-
 with-requires : tie.Need-with-requires
 with-requires c κs = omega (arith, c .before .before .before .before .before .before .before .before .before .before .before .before .before .before .before .before .before .before .pre .table .few, c .before .before .before .before .before .before .before .before .before .before .before .if1 .left)
 
 add-t17 : tie.Need-add-t17
 add-t17 c = omega (arith, c .before .before .before .before .before .before .before .before .before .before .before .before .before .before .before .before .before .before .before .before .pre .counted)
-
-same-length-2 : tie.Need-same-length-2
-same-length-2 c = search needs
 
 returns-2 : tie.Need-returns-2
 returns-2 c = rw (c .before .before .lower-fault .ensures, c .before .before .before .before .before .before .before .before .before .entry-fault .ensures, c .before .with .ensures) (entry-declared (c .before .before .before .before .before .before .before .before .before .before .before .before .before .before .before .before .before .before .before .before .args .text .now) (c .before .before .before .before .before .before .before .before .before .before .before .before .before .before .before .before .before .before .before .before .args .words .now) (c .before .before .before .before .before .before .before .before .before .before .before .before .before .before .before .before .before .before .before .before .args .counts) (c .before .before .before .before .before .before .before .before .before .before .before .before .before .before .before .before .before .before .before .before .args .offset) (c .before .before .before .before .before .before .before .before .before .before .before .before .before .before .before .before .before .before .before .before .args .declared) (c .before .before .before .before .before .before .before .before .before .before .before .before .before .before .before .before .before .before .before .before .args .name) (c .before .before .before .before .before .before .before .before .before .before .before .before .before .before .before .before .before .before .before .before .args .value) (c .before .before .before .before .before .before .before .before .before .before .before .before .before .before .before .before .before .before .before .before .args .known) (c .before .before .before .before .before .before .before .before .before .before .before .before .before .before .before .before .before .before .before .before .pre) _ (c .before .before .before .before .before .before .before .before .before .before .before .before .before .before .find-name .ensures ∙ ap (λ (w : Bytes). place w (namesAt (c .before .before .before .before .before .before .before .before .before .before .before .before .before .before .before .before .before .before .before .before .args .text .now) (c .before .before .before .before .before .before .before .before .before .before .before .before .before .before .before .before .before .before .before .before .args .words .now) (c .before .before .before .before .before .before .before .before .before .before .before .before .before .before .before .before .before .before .before .before .args .offset) (c .before .before .before .before .before .before .before .before .before .before .before .before .before .before .before .before .before .before .before .before .args .declared))) (part-slice (c .before .before .before .before .before .before .before .before .before .before .before .before .before .before .before .before .before .before .before .before .args .text .now) (c .before .before .before .before .before .before .before .before .before .before .before .before .before .before .before .before .before .before .before .before .args .name))) (c .before .before .before .before .before .before .before .before .before .before .before .before .before .if1 .left) _ (c .before .before .before .before .before .put-entry .ensures) _ _ (c .before .before .before .before .before .before .before .before .before .before .before .has .ensures) (c .before .before .before .before .before .before .before .before .before .before .of-kind .ensures (c .before .before .before .before .before .before .before .before .before .before .before .before .before .before .before .before .before .before .before .before .args .text .now)))
@@ -89,24 +50,24 @@ add-entry-spec =
     tie.close
     (tie.spec
     add-end
-    sub-find-name
-    part-find-name-start
+    (λ c. search needs)
+    (λ c. search needs)
     part-find-name-end
     find-name-requires
     add-t21
-    same-length
+    (λ c. search needs)
     returns
-    add-kind
-    add-kind-2
-    mul-kind
+    (λ c. search needs)
+    (λ c. search needs)
+    (λ c. search needs)
     slice-read-kind
     has-requires
-    of-kind-requires
-    entry-fault-requires
+    (λ c κs. search needs)
+    (λ c κs. search needs)
     add-put-entry
     put-entry-requires
-    lower-fault-requires
+    (λ c κs. search needs)
     with-requires
     add-t17
-    same-length-2
+    (λ c. search needs)
     returns-2)

@@ -1,8 +1,6 @@
 use Rattle.book_entries.specs.Faults.{entryFault}
 use Rattle.book_entries.proofs.entry_fault.Statement.{statement}
 use Rattle.book_entries.proofs.entry_fault.Tie as tie
-use Rattle.book_entries.proofs.entry_fault.Reads as reads
-use Rattle.book_entries.proofs.entry_fault.Lts as lts
 
 returns : tie.Need-returns
 unfolding entryFault

@@ -2,8 +2,6 @@ use Rattle.book_entries.specs.Faults.{lower}
 use borrow.Author.Tests.{eq-eqb, ne-eqb, lt-ltb, le-ltb}
 use Rattle.book_entries.proofs.lower_fault.Statement.{statement}
 use Rattle.book_entries.proofs.lower_fault.Tie as tie
-use Rattle.book_entries.proofs.lower_fault.Reads as reads
-use Rattle.book_entries.proofs.lower_fault.Lts as lts
 
 returns : tie.Need-returns
 unfolding lower

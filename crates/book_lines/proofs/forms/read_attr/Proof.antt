@@ -5,35 +5,10 @@ use mathlib.Core.Path.{_∙_}
 use borrow.Author.Needs.{needs}
 use Rattle.book_lines.proofs.forms.read_attr.Statement.{statement}
 use Rattle.book_lines.proofs.forms.read_attr.Tie as tie
-use Rattle.book_lines.proofs.forms.read_attr.Reads as reads
-use Rattle.book_lines.proofs.forms.read_attr.Lts as lts
-use Rattle.items.proofs.forms.form_closes.Reads as form-closes-reads
-use Rattle.book_lines.proofs.pieces.next_kind.Reads as next-kind-reads
-
-next-name-requires : tie.Need-next-name-requires
-next-name-requires c κs = search needs
-
-enum-known-p : tie.Need-enum-known-p
-enum-known-p c = search needs
-
-next-kind-requires : tie.Need-next-kind-requires
-next-kind-requires c κs = search needs
-
-enum-known-kind : tie.Need-enum-known-kind
-enum-known-kind c = search needs
-
-form-closes-requires : tie.Need-form-closes-requires
-form-closes-requires c κs = search needs
 
 returns : tie.Need-returns
 unfolding onAttr
 returns c = (λ make. attr-ends (c .before .before .before .before .before .before .before .before .before .before .before .args .line .now) (c .before .before .before .before .before .before .before .before .before .before .before .args .from) make _ (c .before .before .before .before .before .before .before .before .before .next-name .ensures) _ _ (c .before .before .before .before .before .before .before .p .given .1) _ (c .before .before .before .before .before .next-kind .ensures) _ _ (c .before .before .before .kind .given .1) _ (c .before .form-closes .ensures) ∙ rw (c .if1 .taken), placed-at (c .before .before .before .before .before .before .before .before .before .before .before .args .line .now) (c .before .before .before .before .before .before .before .before .before .before .before .args .from) _ (c .before .before .before .before .before .before .before .p .given .1) (c .before .before .before .before .before .before .before .before .before .next-name .ensures .placed))
-
-enum-told : tie.Need-enum-told
-enum-told c = search needs
-
-enum-told-2 : tie.Need-enum-told-2
-enum-told-2 c = search needs
 
 returns-2 : tie.Need-returns-2
 unfolding onAttr
@@ -51,14 +26,14 @@ pub read-attr-spec : {M : Type 1} → statement M
 read-attr-spec =
     tie.close
     (tie.spec
-    next-name-requires
-    enum-known-p
-    next-kind-requires
-    enum-known-kind
-    form-closes-requires
+    (λ c κs. search needs)
+    (λ c. search needs)
+    (λ c κs. search needs)
+    (λ c. search needs)
+    (λ c κs. search needs)
     returns
-    enum-told
-    enum-told-2
+    (λ c. search needs)
+    (λ c. search needs)
     returns-2
     returns-3
     returns-4)

@@ -5,16 +5,6 @@ use native.Mathlib.Omega.{arith}
 use borrow.Author.Needs.{needs}
 use Rattle.book_lines.proofs.forms.read_head.Statement.{statement}
 use Rattle.book_lines.proofs.forms.read_head.Tie as tie
-use Rattle.book_lines.proofs.forms.read_head.Reads as reads
-use Rattle.book_lines.proofs.forms.read_head.Lts as lts
-use Rattle.book_lines.proofs.forms.read_rest.Reads as read-rest-reads
-use Rattle.book_lines.proofs.pieces.head.Reads as head-reads
-
-next-word-requires : tie.Need-next-word-requires
-next-word-requires c κs = search needs
-
-enum-known-p : tie.Need-enum-known-p
-enum-known-p c = search needs
 
 sub-head : tie.Need-sub-head
 sub-head c = omega (arith, placed-at (c .before .before .before .before .before .before .before .args .line .now) (c .before .before .before .before .before .before .before .args .from) _ (c .before .p .given .1) (c .before .before .before .next-word .ensures .placed))
@@ -24,18 +14,6 @@ part-head-start c = omega (arith, placed-at (c .before .before .before .before .
 
 part-head-end : tie.Need-part-head-end
 part-head-end c = omega (arith, placed-at (c .before .before .before .before .before .before .before .args .line .now) (c .before .before .before .before .before .before .before .args .from) _ (c .before .p .given .1) (c .before .before .before .next-word .ensures .placed))
-
-head-requires : tie.Need-head-requires
-head-requires c κs = search needs
-
-read-rest-requires : tie.Need-read-rest-requires
-read-rest-requires c κs = search needs
-
-enum-told : tie.Need-enum-told
-enum-told c = search needs
-
-same-length : tie.Need-same-length
-same-length c = search needs
 
 returns : tie.Need-returns
 unfolding partOf
@@ -48,14 +26,14 @@ pub read-head-spec : {M : Type 1} → statement M
 read-head-spec =
     tie.close
     (tie.spec
-    next-word-requires
-    enum-known-p
+    (λ c κs. search needs)
+    (λ c. search needs)
     sub-head
     part-head-start
     part-head-end
-    head-requires
-    read-rest-requires
-    enum-told
-    same-length
+    (λ c κs. search needs)
+    (λ c κs. search needs)
+    (λ c. search needs)
+    (λ c. search needs)
     returns
     returns-2)

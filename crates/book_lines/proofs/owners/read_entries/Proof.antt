@@ -1,20 +1,15 @@
 use Rattle.book_lines.specs.Entries.{shift}
 use borrow.Author.Needs.{needs}
-use Rattle.book_lines.proofs.EntryForms.{Reading, table-of, entry-stands, reading-starts, reading-on, reading-ends, reading-spoilt, reading-broken}
+use Rattle.book_lines.proofs.EntryForms.{Reading, entry-stands, reading-starts, reading-on, reading-ends, reading-spoilt, reading-broken}
 use Rattle.book_lines.proofs.PieceLaws.{ends-moved}
 use Rattle.book_tables.proofs.ValueLaws.{ends-later}
 use Rattle.book_tables.proofs.AgreeLaws.{fits-kept}
+use Rattle.book_tables.proofs.OwnerLaws.{attr-table}
 use lib.ListN.{length}
 use Prim.Native.Nat.{_-_}
 use native.Mathlib.Omega.{arith}
 use Rattle.book_lines.proofs.owners.read_entries.Statement.{statement}
 use Rattle.book_lines.proofs.owners.read_entries.Tie as tie
-use Rattle.book_lines.proofs.owners.read_entries.Reads as reads
-use Rattle.book_lines.proofs.owners.read_entries.Lts as lts
-use Rattle.book_entries.proofs.add_entry.Reads as add-entry-reads
-use Rattle.items.proofs.forms.entry.Reads as entry-reads
-use Rattle.items.proofs.forms.only_spaces.Reads as only-spaces-reads
-use Rattle.book_lines.proofs.owners.shifted.Reads as shifted-reads
 
 abbrev Inv-loop : tie.InvT-loop
 Inv-loop text line base from words₀ counts offset declared at₀ known₀ words at known = Reading text line words₀ words counts offset declared from at known
@@ -23,67 +18,79 @@ abbrev μ-loop : tie.MeasureT-loop
 μ-loop text line base from words₀ counts offset declared at₀ known₀ words at known = length line - at
 
 loop-holds : tie.Need-loop-holds Inv-loop μ-loop
-loop-holds c = reading-starts (c .before .before .before .args .text .now) (c .before .before .before .args .line .now) (c .before .before .before .args .words .now) (c .before .before .before .args .counts) (c .before .before .before .args .offset) (c .before .before .before .args .declared) (c .before .before .before .args .from) (c .before .before .before .pre .2)
+loop-holds c =
+    let s = c .before .before .before .before in
+    let a = s .args in
+    reading-starts (a .text .now) (a .line .now) (a .words .now) (a .counts) (c .tables .result .attributes) (c .tables .result .declared) (a .from) (s .pre .1)
 
-entry-requires : tie.Need-entry-requires Inv-loop μ-loop
-entry-requires c κs = search needs
+add-t21 : tie.Need-add-t21 Inv-loop μ-loop
+add-t21 c =
+    let s = c .before .before .before .before .before .before .before .before .before .before in
+    let a = s .args in
+    omega (arith, s .pre .0 .inside, s .pre .0 .limit, entry-stands (a .line .now) (c .before .before .before .before .before .loop .at) _ (c .before .before .before .before .entry .ensures) _ _ _ _ (c .before .before .start .given .1))
 
-enum-known-start : tie.Need-enum-known-start Inv-loop μ-loop
-enum-known-start c = search needs
-
-add-t19 : tie.Need-add-t19 Inv-loop μ-loop
-add-t19 c = omega (arith, c .before .before .before .before .before .before .before .before .before .pre .0 .inside, c .before .before .before .before .before .before .before .before .before .pre .0 .limit, entry-stands (c .before .before .before .before .before .before .before .before .before .args .line .now) (c .before .before .before .before .before .loop .at) _ (c .before .before .before .before .entry .ensures) _ _ _ _ (c .before .before .start .given .1))
-
-sub-t20 : tie.Need-sub-t20 Inv-loop μ-loop
-sub-t20 c = omega (arith, entry-stands (c .before .before .before .before .before .before .before .before .before .args .line .now) (c .before .before .before .before .before .loop .at) _ (c .before .before .before .before .entry .ensures) _ _ _ _ (c .before .before .start .given .1))
+sub-t22 : tie.Need-sub-t22 Inv-loop μ-loop
+sub-t22 c = omega (arith, entry-stands (c .before .before .before .before .before .before .before .before .before .before .args .line .now) (c .before .before .before .before .before .loop .at) _ (c .before .before .before .before .entry .ensures) _ _ _ _ (c .before .before .start .given .1))
 
 shifted-requires : tie.Need-shifted-requires Inv-loop μ-loop
-shifted-requires c κs = ends-later _ 65536 (c .before .before .before .before .before .before .before .before .before .pre .0 .limit) (shift (c .before .before .before .before .before .before .before .before .before .args .base) (c .before .before .start .given .0 .1 .1 .0)) (ends-moved (c .before .before .before .before .before .before .before .before .before .args .text .now) (c .before .before .before .before .before .before .before .before .before .args .line .now) (c .before .before .before .before .before .before .before .before .before .args .base) (c .before .before .before .before .before .before .before .before .before .pre .0 .is) (c .before .before .before .before .before .before .before .before .before .pre .0 .inside) (c .before .before .start .given .0 .1 .1 .0) (entry-stands (c .before .before .before .before .before .before .before .before .before .args .line .now) (c .before .before .before .before .before .loop .at) _ (c .before .before .before .before .entry .ensures) _ _ _ _ (c .before .before .start .given .1) .ends))
+shifted-requires c κs =
+    let s = c .before .before .before .before .before .before .before .before .before .before in
+    let a = s .args in
+    ends-later _ 65536 (s .pre .0 .limit) (shift (a .base) (c .before .before .start .given .0 .1 .1 .0)) (ends-moved (a .text .now) (a .line .now) (a .base) (s .pre .0 .is) (s .pre .0 .inside) (c .before .before .start .given .0 .1 .1 .0) (entry-stands (a .line .now) (c .before .before .before .before .before .loop .at) _ (c .before .before .before .before .entry .ensures) _ _ _ _ (c .before .before .start .given .1) .ends))
 
 add-entry-requires : tie.Need-add-entry-requires Inv-loop μ-loop
-add-entry-requires c κs = let f = fits-kept (c .before .before .before .before .before .before .before .before .before .before .args .text .now) (c .before .before .before .before .before .before .before .before .before .before .args .words .now) (c .before .before .before .before .before .before .loop .words) (c .before .before .before .before .before .before .before .before .before .before .args .counts) (c .before .before .before .before .before .before .loop .inv .agrees) (c .before .before .before .before .before .before .before .before .before .before .pre .0 .fits) in
-    let s = entry-stands (c .before .before .before .before .before .before .before .before .before .before .args .line .now) (c .before .before .before .before .before .before .loop .at) _ (c .before .before .before .before .before .entry .ensures) _ _ _ _ (c .before .before .before .start .given .1) in
+add-entry-requires c κs =
+    let s₀ = c .before .before .before .before .before .before .before .before .before .before .before in
+    let a = s₀ .args in
+    let f = fits-kept (a .text .now) (a .words .now) (c .before .before .before .before .before .before .loop .words) (a .counts) (c .before .before .before .before .before .before .loop .inv .agrees) (s₀ .pre .0 .fits) in
+    let s = entry-stands (a .line .now) (c .before .before .before .before .before .before .loop .at) _ (c .before .before .before .before .before .entry .ensures) _ _ _ _ (c .before .before .before .start .given .1) in
     record {
       fits = f;
-      table = table-of (c .before .before .before .before .before .before .before .before .before .before .args .text .now) (c .before .before .before .before .before .before .loop .words) (c .before .before .before .before .before .before .before .before .before .before .args .counts) (c .before .before .before .before .before .before .before .before .before .before .args .offset) (c .before .before .before .before .before .before .before .before .before .before .args .declared) f (c .before .before .before .before .before .before .before .before .before .before .pre .1);
-      short = c .before .before .before .before .before .before .before .before .before .before .pre .0 .limit;
-      name-inside = omega (arith, c .before .before .before .before .before .before .before .before .before .before .pre .0 .inside, s .inside, s .name);
-      value-inside = rw (c .shifted .ensures) (ends-moved (c .before .before .before .before .before .before .before .before .before .before .args .text .now) (c .before .before .before .before .before .before .before .before .before .before .args .line .now) (c .before .before .before .before .before .before .before .before .before .before .args .base) (c .before .before .before .before .before .before .before .before .before .before .pre .0 .is) (c .before .before .before .before .before .before .before .before .before .before .pre .0 .inside) (c .before .before .before .start .given .0 .1 .1 .0) (s .ends));
-      counted = omega (arith, c .before .before .before .before .before .before .loop .inv .few, c .before .before .before .before .before .before .loop .inv .inside, c .before .before .before .before .before .before .before .before .before .before .pre .0 .inside, c .before .before .before .before .before .before .before .before .before .before .pre .0 .limit);
+      table = rw (c .before .before .before .before .before .before .before .tables .ensures .is) (attr-table (a .text .now) (c .before .before .before .before .before .before .loop .words) (a .counts) f (a .owner));
+      short = s₀ .pre .0 .limit;
+      name-inside = omega (arith, s₀ .pre .0 .inside, s .inside, s .name);
+      value-inside = rw (c .shifted .ensures) (ends-moved (a .text .now) (a .line .now) (a .base) (s₀ .pre .0 .is) (s₀ .pre .0 .inside) (c .before .before .before .start .given .0 .1 .1 .0) (s .ends));
+      counted = omega (arith, c .before .before .before .before .before .before .loop .inv .few, c .before .before .before .before .before .before .loop .inv .inside, s₀ .pre .0 .inside, s₀ .pre .0 .limit);
     }
 
 loop-less : tie.Need-loop-less Inv-loop μ-loop
-loop-less c = omega (arith, entry-stands (c .before .before .before .before .before .before .before .before .before .before .before .before .before .args .line .now) (c .before .before .before .before .before .before .before .before .before .loop .at) _ (c .before .before .before .before .before .before .before .before .entry .ensures) _ _ _ _ (c .before .before .before .before .before .before .start .given .1) .behind, entry-stands (c .before .before .before .before .before .before .before .before .before .before .before .before .before .args .line .now) (c .before .before .before .before .before .before .before .before .before .loop .at) _ (c .before .before .before .before .before .before .before .before .entry .ensures) _ _ _ _ (c .before .before .before .before .before .before .start .given .1) .next)
+loop-less c =
+    let s = c .before .before .before .before .before .before .before .before .before .before .before .before .before .before in
+    let a = s .args in
+    omega (arith, entry-stands (a .line .now) (c .before .before .before .before .before .before .before .before .before .loop .at) _ (c .before .before .before .before .before .before .before .before .entry .ensures) _ _ _ _ (c .before .before .before .before .before .before .start .given .1) .behind, entry-stands (a .line .now) (c .before .before .before .before .before .before .before .before .before .loop .at) _ (c .before .before .before .before .before .before .before .before .entry .ensures) _ _ _ _ (c .before .before .before .before .before .before .start .given .1) .next)
 
 loop-again : tie.Need-loop-again Inv-loop μ-loop
-loop-again c = reading-on (c .before .before .before .before .before .before .before .before .before .before .before .before .before .args .text .now) (c .before .before .before .before .before .before .before .before .before .before .before .before .before .args .line .now) (c .before .before .before .before .before .before .before .before .before .before .before .before .before .args .words .now) (c .before .before .before .before .before .before .before .before .before .before .before .before .before .args .counts) (c .before .before .before .before .before .before .before .before .before .before .before .before .before .args .offset) (c .before .before .before .before .before .before .before .before .before .before .before .before .before .args .declared) (c .before .before .before .before .before .before .before .before .before .before .before .before .before .args .from) (c .before .before .before .before .before .before .before .before .before .loop .words) (c .before .before .before .before .before .before .before .before .before .loop .at) (c .before .before .before .before .before .before .before .before .before .loop .known) (c .before .before .before .before .before .before .before .before .before .loop .inv) _ (c .before .before .before .before .before .before .before .before .entry .ensures) (c .before .before .before .before .before .before .before .before .before .before .before .before .before .args .base) (c .before .before .before .before .before .before .before .before .before .before .before .before .before .pre .0) _ _ _ _ _ _ (c .before .before .before .before .before .before .start .given .1) (rw (c .before .before .before .shifted .ensures) at (c .before .before .add-entry .ensures))
-
-enum-known-e : tie.Need-enum-known-e Inv-loop μ-loop
-enum-known-e c = search needs
-
-only-spaces-requires : tie.Need-only-spaces-requires Inv-loop μ-loop
-only-spaces-requires c κs = search needs
+loop-again c =
+    let s = c .before .before .before .before .before .before .before .before .before .before .before .before .before .before in
+    let a = s .args in
+    reading-on (a .text .now) (a .line .now) (a .words .now) (a .counts) (c .before .before .before .before .before .before .before .before .before .before .tables .result .attributes) (c .before .before .before .before .before .before .before .before .before .before .tables .result .declared) (a .from) (c .before .before .before .before .before .before .before .before .before .loop .words) (c .before .before .before .before .before .before .before .before .before .loop .at) (c .before .before .before .before .before .before .before .before .before .loop .known) (c .before .before .before .before .before .before .before .before .before .loop .inv) _ (c .before .before .before .before .before .before .before .before .entry .ensures) (a .base) (s .pre .0) _ _ _ _ _ _ (c .before .before .before .before .before .before .start .given .1) (rw (c .before .before .before .shifted .ensures) at (c .before .before .add-entry .ensures))
 
 same-length : tie.Need-same-length Inv-loop μ-loop
 same-length c = c .before .before .before .before .before .before .loop .inv .agrees .tables .size
 
 returns : tie.Need-returns Inv-loop μ-loop
-returns c = record { agrees = c .before .before .before .before .before .before .loop .inv .agrees; told = reading-ends (c .before .before .before .before .before .before .before .before .before .before .args .text .now) (c .before .before .before .before .before .before .before .before .before .before .args .line .now) (c .before .before .before .before .before .before .before .before .before .before .args .words .now) (c .before .before .before .before .before .before .before .before .before .before .args .counts) (c .before .before .before .before .before .before .before .before .before .before .args .offset) (c .before .before .before .before .before .before .before .before .before .before .args .declared) (c .before .before .before .before .before .before .before .before .before .before .args .from) (c .before .before .before .before .before .before .loop .words) (c .before .before .before .before .before .before .loop .at) (c .before .before .before .before .before .before .loop .known) (c .before .before .before .before .before .before .loop .inv) _ (c .before .before .before .before .before .entry .ensures) (omega (arith, c .before .before .before .before .before .before .before .before .before .before .pre .0 .inside, c .before .before .before .before .before .before .before .before .before .before .pre .0 .limit)) _ (c .before .before .before .e .given .1) _ (c .before .only-spaces .ensures) (c .if1 .taken) }
+returns c =
+    let s = c .before .before .before .before .before .before .before .before .before .before .before in
+    let a = s .args in
+    rw (← c .before .before .before .before .before .before .before .tables .ensures .is) (record { agrees = c .before .before .before .before .before .before .loop .inv .agrees; told = reading-ends (a .text .now) (a .line .now) (a .words .now) (a .counts) (c .before .before .before .before .before .before .before .tables .result .attributes) (c .before .before .before .before .before .before .before .tables .result .declared) (a .from) (c .before .before .before .before .before .before .loop .words) (c .before .before .before .before .before .before .loop .at) (c .before .before .before .before .before .before .loop .known) (c .before .before .before .before .before .before .loop .inv) _ (c .before .before .before .before .before .entry .ensures) (omega (arith, s .pre .0 .inside, s .pre .0 .limit)) _ (c .before .before .before .e .given .1) _ (c .before .only-spaces .ensures) (c .if1 .taken) })
 
 same-length-2 : tie.Need-same-length-2 Inv-loop μ-loop
 same-length-2 c = c .before .before .before .before .before .before .loop .inv .agrees .tables .size
 
 returns-2 : tie.Need-returns-2 Inv-loop μ-loop
-returns-2 c = record { agrees = c .before .before .before .before .before .before .loop .inv .agrees; told = reading-spoilt (c .before .before .before .before .before .before .before .before .before .before .args .text .now) (c .before .before .before .before .before .before .before .before .before .before .args .line .now) (c .before .before .before .before .before .before .before .before .before .before .args .words .now) (c .before .before .before .before .before .before .before .before .before .before .args .counts) (c .before .before .before .before .before .before .before .before .before .before .args .offset) (c .before .before .before .before .before .before .before .before .before .before .args .declared) (c .before .before .before .before .before .before .before .before .before .before .args .from) (c .before .before .before .before .before .before .loop .words) (c .before .before .before .before .before .before .loop .at) (c .before .before .before .before .before .before .loop .known) (c .before .before .before .before .before .before .loop .inv) _ (c .before .before .before .before .before .entry .ensures) _ (c .before .before .before .e .given .1) _ (c .before .only-spaces .ensures) (c .if1 .left) }
-
-enum-told : tie.Need-enum-told Inv-loop μ-loop
-enum-told c = search needs
+returns-2 c =
+    let s = c .before .before .before .before .before .before .before .before .before .before .before in
+    let a = s .args in
+    rw (← c .before .before .before .before .before .before .before .tables .ensures .is) (record { agrees = c .before .before .before .before .before .before .loop .inv .agrees; told = reading-spoilt (a .text .now) (a .line .now) (a .words .now) (a .counts) (c .before .before .before .before .before .before .before .tables .result .attributes) (c .before .before .before .before .before .before .before .tables .result .declared) (a .from) (c .before .before .before .before .before .before .loop .words) (c .before .before .before .before .before .before .loop .at) (c .before .before .before .before .before .before .loop .known) (c .before .before .before .before .before .before .loop .inv) _ (c .before .before .before .before .before .entry .ensures) _ (c .before .before .before .e .given .1) _ (c .before .only-spaces .ensures) (c .if1 .left) })
 
 same-length-3 : tie.Need-same-length-3 Inv-loop μ-loop
 same-length-3 c = c .before .before .before .loop .inv .agrees .tables .size
 
 returns-3 : tie.Need-returns-3 Inv-loop μ-loop
-returns-3 c = record { agrees = c .before .before .before .loop .inv .agrees; told = reading-broken (c .before .before .before .before .before .before .before .args .text .now) (c .before .before .before .before .before .before .before .args .line .now) (c .before .before .before .before .before .before .before .args .words .now) (c .before .before .before .before .before .before .before .args .counts) (c .before .before .before .before .before .before .before .args .offset) (c .before .before .before .before .before .before .before .args .declared) (c .before .before .before .before .before .before .before .args .from) (c .before .before .before .loop .words) (c .before .before .before .loop .at) (c .before .before .before .loop .known) (c .before .before .before .loop .inv) _ (c .before .before .entry .ensures) (c .enum-told .given .1) }
+returns-3 c =
+    let s = c .before .before .before .before .before .before .before .before in
+    let a = s .args in
+    rw (← c .before .before .before .before .tables .ensures .is) (record { agrees = c .before .before .before .loop .inv .agrees; told = reading-broken (a .text .now) (a .line .now) (a .words .now) (a .counts) (c .before .before .before .before .tables .result .attributes) (c .before .before .before .before .tables .result .declared) (a .from) (c .before .before .before .loop .words) (c .before .before .before .loop .at) (c .before .before .before .loop .known) (c .before .before .before .loop .inv) _ (c .before .before .entry .ensures) (c .enum-told .given .1) })
 
 pub read-entries-spec : {M : Type 1} → statement M
 read-entries-spec =
@@ -91,21 +98,22 @@ read-entries-spec =
     (tie.spec
     Inv-loop
     μ-loop
+    (λ c κs. search needs)
     loop-holds
-    entry-requires
-    enum-known-start
-    add-t19
-    sub-t20
+    (λ c κs. search needs)
+    (λ c. search needs)
+    add-t21
+    sub-t22
     shifted-requires
     add-entry-requires
     loop-less
     loop-again
-    enum-known-e
-    only-spaces-requires
+    (λ c. search needs)
+    (λ c κs. search needs)
     same-length
     returns
     same-length-2
     returns-2
-    enum-told
+    (λ c. search needs)
     same-length-3
     returns-3)

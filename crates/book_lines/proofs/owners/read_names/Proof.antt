@@ -4,26 +4,6 @@ use native.Mathlib.Omega.{arith}
 use borrow.Author.Needs.{needs}
 use Rattle.book_lines.proofs.owners.read_names.Statement.{statement}
 use Rattle.book_lines.proofs.owners.read_names.Tie as tie
-use Rattle.book_lines.proofs.owners.read_names.Reads as reads
-use Rattle.book_lines.proofs.owners.read_names.Lts as lts
-
-next-name-requires : tie.Need-next-name-requires
-next-name-requires c κs = search needs
-
-enum-known-a : tie.Need-enum-known-a
-enum-known-a c = search needs
-
-next-name-requires-2 : tie.Need-next-name-requires-2
-next-name-requires-2 c κs = search needs
-
-enum-known-c : tie.Need-enum-known-c
-enum-known-c c = search needs
-
-next-name-requires-3 : tie.Need-next-name-requires-3
-next-name-requires-3 c κs = search needs
-
-enum-known-e : tie.Need-enum-known-e
-enum-known-e c = search needs
 
 sub-t15 : tie.Need-sub-t15
 sub-t15 c = omega (arith, placed-at (c .before .before .before .before .before .before .before .before .before .before .before .before .before .args .line .now) (c .before .before .before .before .before .before .before .before .before .before .before .before .before .args .from) _ (c .before .before .before .before .before .before .before .before .before .a .given .1) (c .before .before .before .before .before .before .before .before .before .before .before .next-name .ensures .placed))
@@ -33,15 +13,6 @@ sub-t17 c = omega (arith, placed-at (c .before .before .before .before .before .
 
 sub-t19 : tie.Need-sub-t19
 sub-t19 c = omega (arith, placed-at (c .before .before .before .before .before .before .before .before .before .before .before .before .before .args .line .now) _ _ (c .before .e .given .1) (c .before .before .before .next-name3 .ensures .placed))
-
-enum-told : tie.Need-enum-told
-enum-told c = search needs
-
-enum-told-2 : tie.Need-enum-told-2
-enum-told-2 c = search needs
-
-enum-told-3 : tie.Need-enum-told-3
-enum-told-3 c = search needs
 
 returns : tie.Need-returns
 returns c = names-all (c .before .before .before .before .before .before .before .before .before .before .before .before .before .args .line .now) (c .before .before .before .before .before .before .before .before .before .before .before .before .before .args .from) _ (c .before .before .before .before .before .before .before .before .before .before .before .next-name .ensures) _ _ (c .before .before .before .before .before .before .before .before .before .a .given .1) _ (c .before .before .before .before .before .before .before .next-name2 .ensures) _ _ (c .before .before .before .before .before .c .given .1) _ (c .before .before .before .next-name3 .ensures) _ _ (c .before .e .given .1)
@@ -59,18 +30,18 @@ pub read-names-spec : {M : Type 1} → statement M
 read-names-spec =
     tie.close
     (tie.spec
-    next-name-requires
-    enum-known-a
-    next-name-requires-2
-    enum-known-c
-    next-name-requires-3
-    enum-known-e
+    (λ c κs. search needs)
+    (λ c. search needs)
+    (λ c κs. search needs)
+    (λ c. search needs)
+    (λ c κs. search needs)
+    (λ c. search needs)
     sub-t15
     sub-t17
     sub-t19
-    enum-told
-    enum-told-2
-    enum-told-3
+    (λ c. search needs)
+    (λ c. search needs)
+    (λ c. search needs)
     returns
     returns-2
     returns-3

@@ -6,15 +6,6 @@ use native.Mathlib.Omega.{arith}
 use borrow.Author.Needs.{needs}
 use Rattle.book_lines.proofs.pieces.next_kind.Statement.{statement}
 use Rattle.book_lines.proofs.pieces.next_kind.Tie as tie
-use Rattle.book_lines.proofs.pieces.next_kind.Reads as reads
-use Rattle.book_lines.proofs.pieces.next_kind.Lts as lts
-use Rattle.book_lines.proofs.pieces.kind_of.Reads as kind-of-reads
-
-next-word-requires : tie.Need-next-word-requires
-next-word-requires c κs = search needs
-
-enum-known-p : tie.Need-enum-known-p
-enum-known-p c = search needs
 
 sub-kind-of : tie.Need-sub-kind-of
 sub-kind-of c = omega (arith, placed-at (c .before .before .before .before .before .args .line .now) (c .before .before .before .before .before .args .from) _ (c .before .p .given .1) (c .before .before .before .next-word .ensures .placed))
@@ -24,12 +15,6 @@ part-kind-of-start c = omega (arith, placed-at (c .before .before .before .befor
 
 part-kind-of-end : tie.Need-part-kind-of-end
 part-kind-of-end c = omega (arith, placed-at (c .before .before .before .before .before .args .line .now) (c .before .before .before .before .before .args .from) _ (c .before .p .given .1) (c .before .before .before .next-word .ensures .placed))
-
-kind-of-requires : tie.Need-kind-of-requires
-kind-of-requires c κs = search needs
-
-enum-told : tie.Need-enum-told
-enum-told c = search needs
 
 returns : tie.Need-returns
 unfolding kindPiece partOf
@@ -43,12 +28,12 @@ pub next-kind-spec : {M : Type 1} → statement M
 next-kind-spec =
     tie.close
     (tie.spec
-    next-word-requires
-    enum-known-p
+    (λ c κs. search needs)
+    (λ c. search needs)
     sub-kind-of
     part-kind-of-start
     part-kind-of-end
-    kind-of-requires
-    enum-told
+    (λ c κs. search needs)
+    (λ c. search needs)
     returns
     returns-2)

@@ -2,17 +2,12 @@ use borrow.Author.Tests.{le-leb, lt-leb}
 use borrow.Author.Needs.{needs}
 use Rattle.book_lines.proofs.steps.is_full.Statement.{statement}
 use Rattle.book_lines.proofs.steps.is_full.Tie as tie
-use Rattle.book_lines.proofs.steps.is_full.Reads as reads
-use Rattle.book_lines.proofs.steps.is_full.Lts as lts
 
 returns : tie.Need-returns
 returns c = rw (le-leb _ _ (c .if1 .taken))
-
-add-result : tie.Need-add-result
-add-result c = search needs
 
 returns-2 : tie.Need-returns-2
 returns-2 c = rw (lt-leb _ _ (c .if1 .left))
 
 pub is-full-spec : {M : Type 1} → statement M
-is-full-spec = tie.close (tie.spec returns add-result returns-2)
+is-full-spec = tie.close (tie.spec returns (λ c. search needs) returns-2)

@@ -2,8 +2,6 @@ use Rattle.book_lines.specs.Steps.{ownerFault}
 use borrow.Author.Tests.{eq-eqb, ne-eqb}
 use Rattle.book_lines.proofs.steps.owner_fault.Statement.{statement}
 use Rattle.book_lines.proofs.steps.owner_fault.Tie as tie
-use Rattle.book_lines.proofs.steps.owner_fault.Reads as reads
-use Rattle.book_lines.proofs.steps.owner_fault.Lts as lts
 
 returns : tie.Need-returns
 unfolding ownerFault

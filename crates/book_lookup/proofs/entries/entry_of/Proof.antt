@@ -18,45 +18,15 @@ Inv-loop words owner attribute start count i₀ i =
 abbrev μ-loop : tie.MeasureT-loop
 μ-loop words owner attribute start count i₀ i = countPart owner - i
 
-cast-start : tie.Need-cast-start Inv-loop μ-loop
-cast-start c = search needs
-
-cast-count : tie.Need-cast-count Inv-loop μ-loop
-cast-count c = search needs
-
 loop-holds : tie.Need-loop-holds Inv-loop μ-loop
 loop-holds c = let a = c .args in (omega arith, seek-begins (a .words .now) (a .attribute) (startPart (a .owner)) (countPart (a .owner)))
-
-add-head : tie.Need-add-head Inv-loop μ-loop
-add-head c = search needs
-
-mul-head : tie.Need-mul-head Inv-loop μ-loop
-mul-head c = search needs
-
-add-head-2 : tie.Need-add-head-2 Inv-loop μ-loop
-add-head-2 c = search needs
-
-mul-head-2 : tie.Need-mul-head-2 Inv-loop μ-loop
-mul-head-2 c = search needs
-
-shared-slice-read-head : tie.Need-shared-slice-read-head Inv-loop μ-loop
-shared-slice-read-head c = search needs
 
 cast-if1 : tie.Need-cast-if1 Inv-loop μ-loop
 cast-if1 c = omega (arith, c .shared-slice-known .given (entries + 3 * (startPart (c .before .before .before .args .owner) + c .before .before .loop .i)))
 
-add-t16 : tie.Need-add-t16 Inv-loop μ-loop
-add-t16 c = search needs
-
 returns : tie.Need-returns Inv-loop μ-loop
 unfolding found
 returns c = let a = c .before .before .before .before .args in sym (c .before .before .before .loop .inv .1 ∙ seek-finds (a .words .now) (a .attribute) (startPart (a .owner)) (countPart (a .owner)) (c .before .before .before .loop .i) (c .before .before .loop-test .taken) (eq-eqb _ _ (c .if1 .taken)))
-
-add-i : tie.Need-add-i Inv-loop μ-loop
-add-i c = search needs
-
-loop-less : tie.Need-loop-less Inv-loop μ-loop
-loop-less c = search needs
 
 loop-again : tie.Need-loop-again Inv-loop μ-loop
 loop-again c = let a = c .before .before .before .before .args in (omega arith, c .before .before .before .loop .inv .1 ∙ seek-passes (a .words .now) (a .attribute) (startPart (a .owner)) (countPart (a .owner)) (c .before .before .before .loop .i) (c .before .before .loop-test .taken) (ne-eqb _ _ (c .if1 .left)))
@@ -71,18 +41,18 @@ entry-of-spec =
     (tie.spec
     Inv-loop
     μ-loop
-    cast-start
-    cast-count
+    (λ c. search needs)
+    (λ c. search needs)
     loop-holds
-    add-head
-    mul-head
-    add-head-2
-    mul-head-2
-    shared-slice-read-head
+    (λ c. search needs)
+    (λ c. search needs)
+    (λ c. search needs)
+    (λ c. search needs)
+    (λ c. search needs)
     cast-if1
-    add-t16
+    (λ c. search needs)
     returns
-    add-i
-    loop-less
+    (λ c. search needs)
+    (λ c. search needs)
     loop-again
     returns-2)

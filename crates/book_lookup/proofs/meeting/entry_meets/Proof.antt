@@ -11,35 +11,11 @@ use Rattle.book_lookup.proofs.ValueLaws.{part-between}
 use Rattle.book_lookup.proofs.meeting.entry_meets.Statement.{statement}
 use Rattle.book_lookup.proofs.meeting.entry_meets.Tie as tie
 
-enum-known-value : tie.Need-enum-known-value
-enum-known-value c = search needs
-
-entry-meets-number-requires : tie.Need-entry-meets-number-requires
-entry-meets-number-requires c κs = search needs
-
-enum-known-value-2 : tie.Need-enum-known-value-2
-enum-known-value-2 c = search needs
-
 add-entry-meets-text : tie.Need-add-entry-meets-text
 add-entry-meets-text c = omega (arith, subst (ValueInside (c .before .before .before .before .before .before .args .text .now)) (c .before .value2 .given .1) (c .before .before .before .before .before .before .pre .1))
 
-sub-entry-meets-text : tie.Need-sub-entry-meets-text
-sub-entry-meets-text c = search needs
-
-part-entry-meets-text-start : tie.Need-part-entry-meets-text-start
-part-entry-meets-text-start c = search needs
-
 part-entry-meets-text-end : tie.Need-part-entry-meets-text-end
 part-entry-meets-text-end c = omega (arith, subst (ValueInside (c .before .before .before .before .before .before .args .text .now)) (c .before .value2 .given .1) (c .before .before .before .before .before .before .pre .1))
-
-entry-meets-text-requires : tie.Need-entry-meets-text-requires
-entry-meets-text-requires c κs = search needs
-
-enum-known-value-3 : tie.Need-enum-known-value-3
-enum-known-value-3 c = search needs
-
-entry-meets-truth-requires : tie.Need-entry-meets-truth-requires
-entry-meets-truth-requires c κs = search needs
 
 returns : tie.Need-returns
 unfolding valueOf
@@ -57,16 +33,16 @@ pub entry-meets-spec : {M : Type 1} → statement M
 entry-meets-spec =
     tie.close
     (tie.spec
-    enum-known-value
-    entry-meets-number-requires
-    enum-known-value-2
+    (λ c. search needs)
+    (λ c κs. search needs)
+    (λ c. search needs)
     add-entry-meets-text
-    sub-entry-meets-text
-    part-entry-meets-text-start
+    (λ c. search needs)
+    (λ c. search needs)
     part-entry-meets-text-end
-    entry-meets-text-requires
-    enum-known-value-3
-    entry-meets-truth-requires
+    (λ c κs. search needs)
+    (λ c. search needs)
+    (λ c κs. search needs)
     returns
     returns-2
     returns-3)

@@ -7,17 +7,11 @@ use Rattle.book_lookup.proofs.ValueLaws.{kind-strs, text-unmet}
 use Rattle.book_lookup.proofs.meeting.entry_meets_text.Statement.{statement}
 use Rattle.book_lookup.proofs.meeting.entry_meets_text.Tie as tie
 
-kind-of-requires : tie.Need-kind-of-requires
-kind-of-requires c κs = search needs
-
 returns : tie.Need-returns
 returns c = let a = c .before .before .before .before .before .args in sym (text-unmet (a .book .now) (a .words .now) (a .entry) (relationOf (a .relation)) (a .text .now) (λ e. c .if1 .taken (c .before .kind-of .ensures ∙ e)))
 
 text-of-requires : tie.Need-text-of-requires
 text-of-requires c κs = (c .before .before .before .before .before .pre, record { room = c .before .before .before .before .before .pre .room; is = kind-strs _ (sym (c .before .kind-of .ensures) ∙ c .if1 .left) })
-
-texts-meet-requires : tie.Need-texts-meet-requires
-texts-meet-requires c κs = search needs
 
 returns-2 : tie.Need-returns-2
 unfolding inRelation
@@ -25,4 +19,4 @@ returns-2 c = rw (c .before .text-of .ensures) (c .texts-meet .ensures)
 
 pub entry-meets-text-spec : {M : Type 1} → statement M
 entry-meets-text-spec =
-    tie.close (tie.spec kind-of-requires returns text-of-requires texts-meet-requires returns-2)
+    tie.close (tie.spec (λ c κs. search needs) returns text-of-requires (λ c κs. search needs) returns-2)

@@ -7,14 +7,8 @@ use Rattle.book_lookup.specs.Ready.{FoundReady}
 use Rattle.book_lookup.proofs.meeting.found_meets.Statement.{statement}
 use Rattle.book_lookup.proofs.meeting.found_meets.Tie as tie
 
-enum-known-found : tie.Need-enum-known-found
-enum-known-found c = search needs
-
 entry-meets-requires : tie.Need-entry-meets-requires
 entry-meets-requires c κs = let a = c .before .before .before .before .before .before .args in (subst (FoundReady (a .book .now) (a .words .now)) (c .before .found .given .1) (c .before .before .before .before .before .before .pre .0), c .before .before .before .before .before .before .pre .1)
-
-enum-told : tie.Need-enum-told
-enum-told c = search needs
 
 returns : tie.Need-returns
 unfolding meets valueAt maybeValue found
@@ -26,4 +20,4 @@ returns-2 c = rw (c .enum-told .given .1)
 
 pub found-meets-spec : {M : Type 1} → statement M
 found-meets-spec =
-    tie.close (tie.spec enum-known-found entry-meets-requires enum-told returns returns-2)
+    tie.close (tie.spec (λ c. search needs) entry-meets-requires (λ c. search needs) returns returns-2)

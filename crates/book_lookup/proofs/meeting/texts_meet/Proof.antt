@@ -9,27 +9,6 @@ use Rattle.book_lookup.proofs.ValueLaws.{less-not-same, greater-not-sam
 use Rattle.book_lookup.proofs.meeting.texts_meet.Statement.{statement}
 use Rattle.book_lookup.proofs.meeting.texts_meet.Tie as tie
 
-compare-requires : tie.Need-compare-requires
-compare-requires c κs = search needs
-
-enum-told : tie.Need-enum-told
-enum-told c = search needs
-
-same-meets-requires : tie.Need-same-meets-requires
-same-meets-requires c κs = search needs
-
-enum-told-2 : tie.Need-enum-told-2
-enum-told-2 c = search needs
-
-same-meets-requires-2 : tie.Need-same-meets-requires-2
-same-meets-requires-2 c κs = search needs
-
-enum-told-3 : tie.Need-enum-told-3
-enum-told-3 c = search needs
-
-same-meets-requires-3 : tie.Need-same-meets-requires-3
-same-meets-requires-3 c κs = search needs
-
 returns : tie.Need-returns
 returns c = let a = c .before .before .before .before .before .before .args in c .same-meets .ensures ∙ ap (sameOrNot (relationOf (a .relation))) (sym (less-not-same (a .x .now) (a .y .now) (sym (c .before .before .before .compare .ensures) ∙ c .before .enum-told .given .1)))
 
@@ -43,13 +22,13 @@ pub texts-meet-spec : {M : Type 1} → statement M
 texts-meet-spec =
     tie.close
     (tie.spec
-    compare-requires
-    enum-told
-    same-meets-requires
-    enum-told-2
-    same-meets-requires-2
-    enum-told-3
-    same-meets-requires-3
+    (λ c κs. search needs)
+    (λ c. search needs)
+    (λ c κs. search needs)
+    (λ c. search needs)
+    (λ c κs. search needs)
+    (λ c. search needs)
+    (λ c κs. search needs)
     returns
     returns-2
     returns-3)

@@ -9,26 +9,11 @@ use Rattle.book_lookup.proofs.FoundLaws.{node-named}
 use Rattle.book_lookup.proofs.names.node_name.Statement.{statement}
 use Rattle.book_lookup.proofs.names.node_name.Tie as tie
 
-add-word : tie.Need-add-word
-add-word c = search needs
-
-mul-word : tie.Need-mul-word
-mul-word c = search needs
-
-shared-slice-read-word : tie.Need-shared-slice-read-word
-shared-slice-read-word c = search needs
-
 cast-word : tie.Need-cast-word
 cast-word c = omega (arith, c .shared-slice-known .given (nodeNames + c .before .args .node))
 
 add-end : tie.Need-add-end
 add-end c = omega (arith, c .shared-slice-known .given (nodeNames + c .before .args .node))
-
-sub-result : tie.Need-sub-result
-sub-result c = search needs
-
-part-result-start : tie.Need-part-result-start
-part-result-start c = search needs
 
 part-result-end : tie.Need-part-result-end
 part-result-end c = omega (arith, c .before .pre .fits .nodes .inside (c .before .args .node) (c .before .pre .counted))
@@ -40,12 +25,12 @@ pub node-name-spec : {M : Type 1} → statement M
 node-name-spec =
     tie.close
     (tie.spec
-    add-word
-    mul-word
-    shared-slice-read-word
+    (λ c. search needs)
+    (λ c. search needs)
+    (λ c. search needs)
     cast-word
     add-end
-    sub-result
-    part-result-start
+    (λ c. search needs)
+    (λ c. search needs)
     part-result-end
     returns)

@@ -7,11 +7,8 @@ use Rattle.book_tables.specs.View.{wordAt}
 use Rattle.book_lookup.proofs.values.kind_of.Statement.{statement}
 use Rattle.book_lookup.proofs.values.kind_of.Tie as tie
 
-word-of-requires : tie.Need-word-of-requires
-word-of-requires c κs = search needs
-
 returns : tie.Need-returns
 returns c = ap (λ (w : ℕ). w % 4) (c .word-of .ensures ∙ ap (wordAt (c .before .before .args .words .now)) (omega arith))
 
 pub kind-of-spec : {M : Type 1} → statement M
-kind-of-spec = tie.close (tie.spec word-of-requires returns)
+kind-of-spec = tie.close (tie.spec (λ c κs. search needs) returns)

@@ -7,27 +7,6 @@ use Rattle.book_lookup.proofs.ValueLaws.{text-value, part-between}
 use Rattle.book_lookup.proofs.values.text_of.Statement.{statement}
 use Rattle.book_lookup.proofs.values.text_of.Tie as tie
 
-word-of-requires : tie.Need-word-of-requires
-word-of-requires c κs = search needs
-
-cast-start : tie.Need-cast-start
-cast-start c = search needs
-
-word-of-requires-2 : tie.Need-word-of-requires-2
-word-of-requires-2 c κs = search needs
-
-cast-end : tie.Need-cast-end
-cast-end c = search needs
-
-add-end : tie.Need-add-end
-add-end c = search needs
-
-sub-result : tie.Need-sub-result
-sub-result c = search needs
-
-part-result-start : tie.Need-part-result-start
-part-result-start c = search needs
-
 part-result-end : tie.Need-part-result-end
 part-result-end c = let a = c .before .before .before .before .args in omega (arith, c .before .before .before .before .pre .0 .inside (text-value (a .book .now) (a .words .now) (a .entry) (c .before .before .before .before .pre .1 .is) .0))
 
@@ -38,12 +17,12 @@ pub text-of-spec : {M : Type 1} → statement M
 text-of-spec =
     tie.close
     (tie.spec
-    word-of-requires
-    cast-start
-    word-of-requires-2
-    cast-end
-    add-end
-    sub-result
-    part-result-start
+    (λ c κs. search needs)
+    (λ c. search needs)
+    (λ c κs. search needs)
+    (λ c. search needs)
+    (λ c. search needs)
+    (λ c. search needs)
+    (λ c. search needs)
     part-result-end
     returns)

@@ -22,9 +22,6 @@ abbrev μ-loop : tie.MeasureT-loop
 loop-holds : tie.Need-loop-holds Inv-loop μ-loop
 loop-holds c = let a = c .before .before .before .args in (omega arith, scan-none (same (a .name .now)) (nameOf (a .text .now) (a .words .now) (a .offset)))
 
-add-is-named : tie.Need-add-is-named Inv-loop μ-loop
-add-is-named c = search needs
-
 is-named-requires : tie.Need-is-named-requires Inv-loop μ-loop
 is-named-requires c κs = (omega arith, c .before .before .before .before .before .pre .0 .inside (c .before .loop .i) (omega arith))
 
@@ -32,12 +29,6 @@ returns : tie.Need-returns Inv-loop μ-loop
 unfolding nameOf
 returns c =
     let a = c .before .before .before .before .before .before .before .args in found-name (a .name .now) (a .text .now) (a .words .now) (a .offset) (a .count) (c .before .before .before .loop .i) (c .before .before .loop-test .taken) (c .before .before .before .loop .inv .1) (sym (c .before .is-named .ensures) ∙ c .if1 .taken)
-
-add-i : tie.Need-add-i Inv-loop μ-loop
-add-i c = search needs
-
-loop-less : tie.Need-loop-less Inv-loop μ-loop
-loop-less c = search needs
 
 loop-again : tie.Need-loop-again Inv-loop μ-loop
 unfolding nameOf
@@ -54,10 +45,10 @@ find-name-spec =
     Inv-loop
     μ-loop
     loop-holds
-    add-is-named
+    (λ c. search needs)
     is-named-requires
     returns
-    add-i
-    loop-less
+    (λ c. search needs)
+    (λ c. search needs)
     loop-again
     returns-2)

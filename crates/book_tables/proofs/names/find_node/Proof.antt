@@ -13,17 +13,11 @@ Inv-loop text words name count entry₀ entry = NodeWalk text words name count e
 abbrev μ-loop : tie.MeasureT-loop
 μ-loop text words name count entry₀ entry = entry
 
-slot-requires : tie.Need-slot-requires Inv-loop μ-loop
-slot-requires c κs = search needs
-
 first-requires : tie.Need-first-requires Inv-loop μ-loop
 first-requires c κs = let a = c .before .before .before .before in omega (arith, a .pre .room, c .slot .ensures, slot-small (a .args .name .now))
 
 loop-holds : tie.Need-loop-holds Inv-loop μ-loop
 loop-holds c = let a = c .before .before .before .before .before in nodes-first (a .args .text .now) (a .args .words .now) (a .args .counts) (a .pre) (a .args .name .now) _ _ (c .before .slot .ensures) (c .first .ensures)
-
-sub-node : tie.Need-sub-node Inv-loop μ-loop
-sub-node c = search needs
 
 add-is-named : tie.Need-add-is-named Inv-loop μ-loop
 add-is-named c = let a = c .before .before .before .before .before .before .before in let i = nodes-inside (a .args .text .now) (a .args .words .now) (a .args .counts) (a .pre) (a .args .name .now) (c .before .loop .entry) (c .loop-test .taken) (c .before .loop .inv) in let m = a .pre .within in omega arith
@@ -53,10 +47,10 @@ find-node-spec =
     (tie.spec
     Inv-loop
     μ-loop
-    slot-requires
+    (λ c κs. search needs)
     first-requires
     loop-holds
-    sub-node
+    (λ c. search needs)
     add-is-named
     is-named-requires
     returns

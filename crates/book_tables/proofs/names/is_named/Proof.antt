@@ -8,29 +8,11 @@ use borrow.Author.Needs.{needs}
 use Rattle.book_tables.proofs.names.is_named.Statement.{statement}
 use Rattle.book_tables.proofs.names.is_named.Tie as tie
 
-mul-word : tie.Need-mul-word
-mul-word c = search needs
-
-shared-slice-read-word : tie.Need-shared-slice-read-word
-shared-slice-read-word c = search needs
-
 cast-word : tie.Need-cast-word
 cast-word c = omega (arith, c .shared-slice-known4 .given (c .before .before .before .before .args .at))
 
 add-end : tie.Need-add-end
 add-end c = omega (arith, c .shared-slice-known4 .given (c .before .before .before .before .args .at))
-
-sub-same-bytes : tie.Need-sub-same-bytes
-sub-same-bytes c = search needs
-
-part-same-bytes-start : tie.Need-part-same-bytes-start
-part-same-bytes-start c = search needs
-
-part-same-bytes-end : tie.Need-part-same-bytes-end
-part-same-bytes-end c = search needs
-
-same-bytes-requires : tie.Need-same-bytes-requires
-same-bytes-requires c κs = search needs
 
 returns : tie.Need-returns
 returns c = let a = c .before .before .before .before .before .before .args in c .same-bytes .ensures ∙ ap (same (a .name .now)) (word-slice (a .text .now) (wordAt (a .words .now) (a .at)))
@@ -39,12 +21,12 @@ pub is-named-spec : {M : Type 1} → statement M
 is-named-spec =
     tie.close
     (tie.spec
-    mul-word
-    shared-slice-read-word
+    (λ c. search needs)
+    (λ c. search needs)
     cast-word
     add-end
-    sub-same-bytes
-    part-same-bytes-start
-    part-same-bytes-end
-    same-bytes-requires
+    (λ c. search needs)
+    (λ c. search needs)
+    (λ c. search needs)
+    (λ c κs. search needs)
     returns)

@@ -11,29 +11,8 @@ Inv-loop text words label from to word count entry₀ entry = RelWalk text words
 abbrev μ-loop : tie.MeasureT-loop
 μ-loop text words label from to word count entry₀ entry = entry
 
-mul-word : tie.Need-mul-word Inv-loop μ-loop
-mul-word c = search needs
-
-mul-word-2 : tie.Need-mul-word-2 Inv-loop μ-loop
-mul-word-2 c = search needs
-
-add-word : tie.Need-add-word Inv-loop μ-loop
-add-word c = search needs
-
-add-word-2 : tie.Need-add-word-2 Inv-loop μ-loop
-add-word-2 c = search needs
-
-cast-word : tie.Need-cast-word Inv-loop μ-loop
-cast-word c = search needs
-
-first-requires : tie.Need-first-requires Inv-loop μ-loop
-first-requires c κs = search needs
-
 loop-holds : tie.Need-loop-holds Inv-loop μ-loop
 loop-holds c = let a = c .before .before .before in rels-first (a .args .text .now) (a .args .words .now) (a .args .counts) (a .pre .0) (a .args .label) (a .args .from) (a .args .to) (a .pre .1) (a .pre .2) (a .pre .3) _ (c .first .ensures)
-
-sub-i : tie.Need-sub-i Inv-loop μ-loop
-sub-i c = search needs
 
 add-if1 : tie.Need-add-if1 Inv-loop μ-loop
 add-if1 c = let a = c .before .before .before .before .before in let i = rels-inside (a .args .text .now) (a .args .words .now) (a .args .counts) (a .pre .0) (a .args .label) (a .args .from) (a .args .to) (a .pre .1) (a .pre .2) (a .pre .3) (c .before .loop .entry) (c .loop-test .taken) (c .before .loop .inv) in let m = a .pre .0 .within in omega (arith, a .pre .0 .room)
@@ -65,14 +44,14 @@ is-related-spec =
     (tie.spec
     Inv-loop
     μ-loop
-    mul-word
-    mul-word-2
-    add-word
-    add-word-2
-    cast-word
-    first-requires
+    (λ c. search needs)
+    (λ c. search needs)
+    (λ c. search needs)
+    (λ c. search needs)
+    (λ c. search needs)
+    (λ c κs. search needs)
     loop-holds
-    sub-i
+    (λ c. search needs)
     add-if1
     mul-if1
     shared-slice-read-if1

@@ -9,18 +9,9 @@ use borrow.Author.Needs.{needs}
 use Rattle.book_tables.proofs.stores.clear_chains.Statement.{statement}
 use Rattle.book_tables.proofs.stores.clear_chains.Tie as tie
 
-clear-requires : tie.Need-clear-requires
-clear-requires c κs = search needs
-
-clear-requires-2 : tie.Need-clear-requires-2
-clear-requires-2 c κs = search needs
-
-same-length : tie.Need-same-length
-same-length c = search needs
-
 returns : tie.Need-returns
 unfolding withoutChains
 returns c = c .before .before .clear2 .ensures ∙ ap (λ (w : List ℕ). cleared w fromHeads keys) (c .before .before .before .before .before .before .clear .ensures)
 
 pub clear-chains-spec : {M : Type 1} → statement M
-clear-chains-spec = tie.close (tie.spec clear-requires clear-requires-2 same-length returns)
+clear-chains-spec = tie.close (tie.spec (λ c κs. search needs) (λ c κs. search needs) (λ c. search needs) returns)

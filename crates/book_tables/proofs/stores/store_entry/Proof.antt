@@ -4,53 +4,12 @@ use Rattle.book_tables.specs.Stores.{withEntry}
 use borrow.Author.Needs.{needs}
 use Rattle.book_tables.proofs.stores.store_entry.Statement.{statement}
 use Rattle.book_tables.proofs.stores.store_entry.Tie as tie
-use Rattle.book_tables.proofs.stores.store_entry.Reads as reads
-use Rattle.book_tables.proofs.stores.store_entry.Lts as lts
-
-mul-words : tie.Need-mul-words
-mul-words c = search needs
-
-add-words : tie.Need-add-words
-add-words c = search needs
-
-mul-words-2 : tie.Need-mul-words-2
-mul-words-2 c = search needs
-
-slice-write-words : tie.Need-slice-write-words
-slice-write-words c = search needs
-
-mul-words-3 : tie.Need-mul-words-3
-mul-words-3 c = search needs
-
-add-words-2 : tie.Need-add-words-2
-add-words-2 c = search needs
-
-add-words-3 : tie.Need-add-words-3
-add-words-3 c = search needs
-
-mul-words-4 : tie.Need-mul-words-4
-mul-words-4 c = search needs
 
 slice-write-words-2 : tie.Need-slice-write-words-2
 slice-write-words-2 c = simp length-set (omega arith)
 
-mul-words-5 : tie.Need-mul-words-5
-mul-words-5 c = search needs
-
-add-words-4 : tie.Need-add-words-4
-add-words-4 c = search needs
-
-add-words-5 : tie.Need-add-words-5
-add-words-5 c = search needs
-
-mul-words-6 : tie.Need-mul-words-6
-mul-words-6 c = search needs
-
 slice-write-words-3 : tie.Need-slice-write-words-3
 slice-write-words-3 c = simp length-set (omega arith)
-
-same-length : tie.Need-same-length
-same-length c = search needs
 
 returns : tie.Need-returns
 unfolding withEntry
@@ -60,19 +19,19 @@ pub store-entry-spec : {M : Type 1} → statement M
 store-entry-spec =
     tie.close
     (tie.spec
-    mul-words
-    add-words
-    mul-words-2
-    slice-write-words
-    mul-words-3
-    add-words-2
-    add-words-3
-    mul-words-4
+    (λ c. search needs)
+    (λ c. search needs)
+    (λ c. search needs)
+    (λ c. search needs)
+    (λ c. search needs)
+    (λ c. search needs)
+    (λ c. search needs)
+    (λ c. search needs)
     slice-write-words-2
-    mul-words-5
-    add-words-4
-    add-words-5
-    mul-words-6
+    (λ c. search needs)
+    (λ c. search needs)
+    (λ c. search needs)
+    (λ c. search needs)
     slice-write-words-3
-    same-length
+    (λ c. search needs)
     returns)

@@ -2,17 +2,6 @@ use Rattle.book_tables.proofs.ValueLaws.{number-kind, text-kind, truth-
 use borrow.Author.Needs.{needs}
 use Rattle.book_tables.proofs.values.of_kind.Statement.{statement}
 use Rattle.book_tables.proofs.values.of_kind.Tie as tie
-use Rattle.book_tables.proofs.values.of_kind.Reads as reads
-use Rattle.book_tables.proofs.values.of_kind.Lts as lts
-
-enum-told : tie.Need-enum-told
-enum-told c = search needs
-
-enum-told-2 : tie.Need-enum-told-2
-enum-told-2 c = search needs
-
-enum-told-3 : tie.Need-enum-told-3
-enum-told-3 c = search needs
 
 returns : tie.Need-returns
 returns c = number-kind (c .before .before .args .value) (c .before .before .args .kind) _ (c .enum-told .given .1)
@@ -24,4 +13,4 @@ returns-3 : tie.Need-returns-3
 returns-3 c = truth-kind (c .before .before .args .value) (c .before .before .args .kind) _ (c .enum-told3 .given .1)
 
 pub of-kind-spec : {M : Type 1} → statement M
-of-kind-spec = tie.close (tie.spec enum-told enum-told-2 enum-told-3 returns returns-2 returns-3)
+of-kind-spec = tie.close (tie.spec (λ c. search needs) (λ c. search needs) (λ c. search needs) returns returns-2 returns-3)

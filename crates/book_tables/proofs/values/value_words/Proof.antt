@@ -5,29 +5,12 @@ use native.Mathlib.Omega.{arith}
 use borrow.Author.Needs.{needs}
 use Rattle.book_tables.proofs.values.value_words.Statement.{statement}
 use Rattle.book_tables.proofs.values.value_words.Tie as tie
-use Rattle.book_tables.proofs.values.value_words.Reads as reads
-use Rattle.book_tables.proofs.values.value_words.Lts as lts
-
-enum-known-value : tie.Need-enum-known-value
-enum-known-value c = search needs
-
-cast-t8 : tie.Need-cast-t8
-cast-t8 c = search needs
-
-cast-t10 : tie.Need-cast-t10
-cast-t10 c = search needs
-
-enum-known-value-2 : tie.Need-enum-known-value-2
-enum-known-value-2 c = search needs
 
 cast-t11 : tie.Need-cast-t11
 cast-t11 c = omega (arith, subst (EndsBefore 65536) (c .before .value2 .given .1) (c .before .before .before .pre))
 
 cast-t12 : tie.Need-cast-t12
 cast-t12 c = omega (arith, subst (EndsBefore 65536) (c .before .value2 .given .1) (c .before .before .before .pre))
-
-enum-known-value-3 : tie.Need-enum-known-value-3
-enum-known-value-3 c = search needs
 
 returns : tie.Need-returns
 returns c = says-true (c .before .before .before .before .args .value) _ (c .before .before .value3 .given .1) (c .if1 .taken)
@@ -45,13 +28,13 @@ pub value-words-spec : {M : Type 1} → statement M
 value-words-spec =
     tie.close
     (tie.spec
-    enum-known-value
-    cast-t8
-    cast-t10
-    enum-known-value-2
+    (λ c. search needs)
+    (λ c. search needs)
+    (λ c. search needs)
+    (λ c. search needs)
     cast-t11
     cast-t12
-    enum-known-value-3
+    (λ c. search needs)
     returns
     returns-2
     returns-3

@@ -11,12 +11,6 @@ use borrow.Author.Needs.{needs}
 use Rattle.query.proofs.clauses.requirement.Statement.{statement}
 use Rattle.query.proofs.clauses.requirement.Tie as tie
 
-vertex-number-requires : tie.Need-vertex-number-requires
-vertex-number-requires c κs = search needs
-
-vertex-requirement-requires : tie.Need-vertex-requirement-requires
-vertex-requirement-requires c κs = search needs
-
 returns : tie.Need-returns
 unfolding demandIn
 returns c =
@@ -24,13 +18,7 @@ returns c =
     let size : length (a .found .parts) ≡ 8 = sym (length-map (a .found .parts) _) ∙ c .before .before .before .before .before .before .before .before .good .1 .1 .1 .1 .0 .1 .1 .0 .1 .0 .1 in
     let few = names-counted (a .s .now) (a .found) size (c .before .before .before .before .before .before .before .before .pre .1) in
     let there = place-known (nameAt (a .s .now) (a .d .subject)) (namesOf (a .s .now) (a .found)) (omega (arith, few, c .before .if1 .taken, c .before .before .before .vertex-number .ensures)) in
-    rw there (ap₂ OfVertex (c .before .before .before .vertex-number .ensures) (c .vertex-requirement .ensures))
-
-edge-number-requires : tie.Need-edge-number-requires
-edge-number-requires c κs = search needs
-
-edge-requirement-requires : tie.Need-edge-requirement-requires
-edge-requirement-requires c κs = search needs
+    rw there (ap₂ OfVertex (c .before .before .before .vertex-number .ensures) (c .requirement-of .ensures))
 
 returns-2 : tie.Need-returns-2
 unfolding demandIn
@@ -39,7 +27,7 @@ returns-2 c =
     let size : length (a .found .parts) ≡ 8 = sym (length-map (a .found .parts) _) ∙ c .before .before .before .before .before .before .before .before .before .good .1 .1 .1 .1 .0 .1 .1 .0 .1 .0 .1 in
     let few = names-counted (a .s .now) (a .found) size (c .before .before .before .before .before .before .before .before .before .pre .1) in
     let absent = place-new (nameAt (a .s .now) (a .d .subject)) (namesOf (a .s .now) (a .found)) (omega (arith, few, c .before .before .if1 .left, c .before .before .before .before .vertex-number .ensures)) in
-    rw absent (ap₂ OfEdge (c .before .edge-number .ensures) (c .edge-requirement .ensures))
+    rw absent (ap₂ OfEdge (c .before .edge-number .ensures) (c .requirement-of2 .ensures))
 
 pub requirement-spec : {M : Type 1} → statement M
-requirement-spec = tie.close (tie.spec vertex-number-requires vertex-requirement-requires returns edge-number-requires edge-requirement-requires returns-2)
+requirement-spec = tie.close (tie.spec (λ c κs. search needs) (λ c κs. search needs) returns (λ c κs. search needs) (λ c κs. search needs) returns-2)

@@ -22,14 +22,8 @@ loop-holds c =
     let a = c .before .args in
     (omega arith, number-start (λ (e : Edge). nameAt (a .s .now) (e .name)) noEdge (a .t2 .edges) (nameAt (a .s .now) (a .name)))
 
-mul-e : tie.Need-mul-e Inv-loop μ-loop
-mul-e c = search needs
-
 element-copy-out-e : tie.Need-element-copy-out-e Inv-loop μ-loop
 element-copy-out-e c = omega (arith, c .before .before .before .pre)
-
-same-part-requires : tie.Need-same-part-requires Inv-loop μ-loop
-same-part-requires c κs = search needs
 
 returns : tie.Need-returns Inv-loop μ-loop
 returns c =
@@ -37,12 +31,6 @@ returns c =
     let size : length (a .t2 .edges) ≡ 16 = sym (length-map (a .t2 .edges) _) ∙ c .before .before .before .before .before .before .before .good .1 .0 .1 .1 .0 .1 .0 .1 in
     let l = c .before .before .before .before .before .loop in
     number-found (λ (e : Edge). nameAt (a .s .now) (e .name)) noEdge (a .t2 .edges) (nameAt (a .s .now) (a .name)) (a .t2 .count) (omega (arith, size, c .before .before .before .before .before .before .before .pre)) (l .k) (c .before .before .before .before .loop-test .taken) (l .inv .1) (sym (c .before .same-part .ensures) ∙ c .if1 .taken)
-
-add-k : tie.Need-add-k Inv-loop μ-loop
-add-k c = search needs
-
-loop-less : tie.Need-loop-less Inv-loop μ-loop
-loop-less c = search needs
 
 loop-again : tie.Need-loop-again Inv-loop μ-loop
 loop-again c =
@@ -64,11 +52,11 @@ edge-number-spec =
     Inv-loop
     μ-loop
     loop-holds
-    mul-e
+    (λ c. search needs)
     element-copy-out-e
-    same-part-requires
+    (λ c κs. search needs)
     returns
-    add-k
-    loop-less
+    (λ c. search needs)
+    (λ c. search needs)
     loop-again
     returns-2)

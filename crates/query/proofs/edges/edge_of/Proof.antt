@@ -7,12 +7,6 @@ use borrow.Author.Needs.{needs}
 use Rattle.query.proofs.edges.edge_of.Statement.{statement}
 use Rattle.query.proofs.edges.edge_of.Tie as tie
 
-part-requires : tie.Need-part-requires
-part-requires c κs = search needs
-
-find-label-requires : tie.Need-find-label-requires
-find-label-requires c κs = search needs
-
 returns : tie.Need-returns
 unfolding nameAt
 returns c =
@@ -21,4 +15,4 @@ returns c =
     λ i. record { name = a .link .edge; label = label i; from = a .from; to = a .to }
 
 pub edge-of-spec : {M : Type 1} → statement M
-edge-of-spec = tie.close (tie.spec part-requires find-label-requires returns)
+edge-of-spec = tie.close (tie.spec (λ c κs. search needs) (λ c κs. search needs) returns)

@@ -36,45 +36,15 @@ Inv-loop book words counts s place₀ last₀ found₀ links₀ conditions₀ re
 abbrev μ-loop : tie.MeasureT-loop
 μ-loop book words counts s place₀ last₀ found₀ links₀ conditions₀ returned₀ place last found links conditions returned = length (foundAt s place)
 
-text-start-requires : tie.Need-text-start-requires Inv-loop μ-loop
-text-start-requires c κs = search needs
-
-no-vertices-requires : tie.Need-no-vertices-requires Inv-loop μ-loop
-no-vertices-requires c κs = search needs
-
-no-edges-requires : tie.Need-no-edges-requires Inv-loop μ-loop
-no-edges-requires c κs = search needs
-
-no-clauses-requires : tie.Need-no-clauses-requires Inv-loop μ-loop
-no-clauses-requires c κs = search needs
-
-no-returns-requires : tie.Need-no-returns-requires Inv-loop μ-loop
-no-returns-requires c κs = search needs
-
 loop-holds : tie.Need-loop-holds Inv-loop μ-loop
 loop-holds c = pattern-start (c .before .before .before .before .before .before .before .before .pre) (c .before .before .before .before .text-start .ensures) (c .before .before .before .no-vertices .ensures) (c .before .before .no-edges .ensures)
     (c .before .no-clauses .ensures) (c .no-returns .ensures)
-
-next-piece-requires : tie.Need-next-piece-requires Inv-loop μ-loop
-next-piece-requires c κs = search needs
-
-enum-known-x : tie.Need-enum-known-x Inv-loop μ-loop
-enum-known-x c = search needs
-
-enum-told : tie.Need-enum-told Inv-loop μ-loop
-enum-told c = search needs
-
-made-requires : tie.Need-made-requires Inv-loop μ-loop
-made-requires c κs = search needs
 
 returns : tie.Need-returns Inv-loop μ-loop
 returns c =
     let a = c .before .before .before .before .before .before .before .before .before .before .before .before .before .args in
     let end = pattern-end (c .before .before .before .before .loop .inv) (c .before .before .before .next-piece .ensures) (c .before .enum-told .given .1) in
     subst (PatternRead (bookAt (a .book .now) (a .words .now) (a .counts)) (a .counts) (a .s .now)) (sym (c .made .ensures)) end
-
-enum-known-p : tie.Need-enum-known-p Inv-loop μ-loop
-enum-known-p c = search needs
 
 vertex-number-requires : tie.Need-vertex-number-requires Inv-loop μ-loop
 vertex-number-requires c κs = c .before .before .before .before .before .before .before .before .loop .inv .vertices .stored .within
@@ -93,9 +63,6 @@ loop-again : tie.Need-loop-again Inv-loop μ-loop
 loop-again c =
     let t = c .before .before .before .before .before in
     start-on (t .before .before .before .before .before .loop .inv) (t .before .before .before .before .next-piece .ensures) (t .before .before .x .given .1) (c .before .before .before .p .given .1) (c .before .vertex-number .ensures) (c .with-vertex .ensures)
-
-enum-known-p-2 : tie.Need-enum-known-p-2 Inv-loop μ-loop
-enum-known-p-2 c = search needs
 
 vertex-number-requires-2 : tie.Need-vertex-number-requires-2 Inv-loop μ-loop
 vertex-number-requires-2 c κs = c .before .before .before .before .before .before .before .before .before .loop .inv .vertices .stored .within
@@ -129,9 +96,6 @@ loop-again-2 c =
     let t = c .before .before .before .before .before .before .before in
     goes-on (t .before .before .before .before .before .loop .inv) (t .before .before .before .before .next-piece .ensures) (t .before .before .x .given .1) (c .before .before .before .before .before .p2 .given .1) (c .before .before .vertex-number2 .ensures) (c .before .with-vertex2 .ensures) (c .edge-of .ensures)
 
-enum-known-p-3 : tie.Need-enum-known-p-3 Inv-loop μ-loop
-enum-known-p-3 c = search needs
-
 vertex-number-requires-3 : tie.Need-vertex-number-requires-3 Inv-loop μ-loop
 vertex-number-requires-3 c κs = c .before .before .before .before .before .before .before .before .before .loop .inv .vertices .stored .within
 
@@ -164,22 +128,13 @@ loop-again-3 c =
     let t = c .before .before .before .before .before .before .before in
     comes-on (t .before .before .before .before .before .loop .inv) (t .before .before .before .before .next-piece .ensures) (t .before .before .x .given .1) (c .before .before .before .before .before .p3 .given .1) (c .before .before .vertex-number3 .ensures) (c .before .with-vertex3 .ensures) (c .edge-of2 .ensures)
 
-enum-known-p-4 : tie.Need-enum-known-p-4 Inv-loop μ-loop
-enum-known-p-4 c = search needs
-
 exclusion-requires : tie.Need-exclusion-requires Inv-loop μ-loop
 exclusion-requires c κs = c .before .before .before .before .before .before .before .before .loop .inv .vertices .stored .within
-
-mul-t49 : tie.Need-mul-t49 Inv-loop μ-loop
-mul-t49 c = search needs
 
 element-set-from-conditions : tie.Need-element-set-from-conditions Inv-loop μ-loop
 element-set-from-conditions c =
     let t = c .before .before .before .before in
     differ-room (t .before .before .before .before .before .loop .inv) (t .before .before .before .before .next-piece .ensures) (t .before .before .x .given .1) (c .before .before .p4 .given .1)
-
-add-conditions : tie.Need-add-conditions Inv-loop μ-loop
-add-conditions c = search needs
 
 loop-less-4 : tie.Need-loop-less-4 Inv-loop μ-loop
 loop-less-4 c =
@@ -191,22 +146,13 @@ loop-again-4 c =
     let t = c .before .before .before .before in
     differ-on (t .before .before .before .before .before .loop .inv) (t .before .before .before .before .next-piece .ensures) (t .before .before .x .given .1) (c .before .before .p4 .given .1) (c .exclusion .ensures)
 
-enum-known-p-5 : tie.Need-enum-known-p-5 Inv-loop μ-loop
-enum-known-p-5 c = search needs
-
 requirement-requires : tie.Need-requirement-requires Inv-loop μ-loop
 requirement-requires c κs = let so = c .before .before .before .before .before .before .before .before .loop .inv in (so .asked .fits, so .vertices .stored .within, so .edges .stored .few)
-
-mul-t54 : tie.Need-mul-t54 Inv-loop μ-loop
-mul-t54 c = search needs
 
 element-set-from-conditions-2 : tie.Need-element-set-from-conditions-2 Inv-loop μ-loop
 element-set-from-conditions-2 c =
     let t = c .before .before .before .before in
     asks-room (t .before .before .before .before .before .loop .inv) (t .before .before .before .before .next-piece .ensures) (t .before .before .x .given .1) (c .before .before .p5 .given .1)
-
-add-conditions-2 : tie.Need-add-conditions-2 Inv-loop μ-loop
-add-conditions-2 c = search needs
 
 loop-less-5 : tie.Need-loop-less-5 Inv-loop μ-loop
 loop-less-5 c =
@@ -218,22 +164,13 @@ loop-again-5 c =
     let t = c .before .before .before .before in
     asks-on (t .before .before .before .before .before .loop .inv) (t .before .before .before .before .next-piece .ensures) (t .before .before .x .given .1) (c .before .before .p5 .given .1) (c .requirement .ensures)
 
-enum-known-p-6 : tie.Need-enum-known-p-6 Inv-loop μ-loop
-enum-known-p-6 c = search needs
-
 vertex-number-requires-4 : tie.Need-vertex-number-requires-4 Inv-loop μ-loop
 vertex-number-requires-4 c κs = c .before .before .before .before .before .before .before .before .loop .inv .vertices .stored .within
-
-mul-returned : tie.Need-mul-returned Inv-loop μ-loop
-mul-returned c = search needs
 
 element-write-returned : tie.Need-element-write-returned Inv-loop μ-loop
 element-write-returned c =
     let t = c .before .before .before .before in
     returned-room (t .before .before .before .before .before .loop .inv) (t .before .before .before .before .next-piece .ensures) (t .before .before .x .given .1) (c .before .before .p6 .given .1)
-
-add-returned : tie.Need-add-returned Inv-loop μ-loop
-add-returned c = search needs
 
 loop-less-6 : tie.Need-loop-less-6 Inv-loop μ-loop
 loop-less-6 c =
@@ -249,10 +186,10 @@ pub pattern-of-spec : {M : Type 1} → statement M
 pattern-of-spec =
     tie.close
     (tie.spec Inv-loop μ-loop
-    text-start-requires no-vertices-requires no-edges-requires no-clauses-requires no-returns-requires loop-holds next-piece-requires enum-known-x
-    enum-told made-requires returns enum-known-p vertex-number-requires with-vertex-requires loop-less loop-again enum-known-p-2
-    vertex-number-requires-2 with-vertex-requires-2 edge-of-requires mul-t41 element-set-from-links add-links loop-less-2 loop-again-2 enum-known-p-3
+    (λ c κs. search needs) (λ c κs. search needs) (λ c κs. search needs) (λ c κs. search needs) (λ c κs. search needs) loop-holds (λ c κs. search needs) (λ c. search needs)
+    (λ c. search needs) (λ c κs. search needs) returns (λ c. search needs) vertex-number-requires with-vertex-requires loop-less loop-again (λ c. search needs)
+    vertex-number-requires-2 with-vertex-requires-2 edge-of-requires mul-t41 element-set-from-links add-links loop-less-2 loop-again-2 (λ c. search needs)
     vertex-number-requires-3 with-vertex-requires-3 edge-of-requires-2 mul-t45 element-set-from-links-2 add-links-2 loop-less-3 loop-again-3
-    enum-known-p-4 exclusion-requires mul-t49 element-set-from-conditions add-conditions loop-less-4 loop-again-4 enum-known-p-5 requirement-requires
-    mul-t54 element-set-from-conditions-2 add-conditions-2 loop-less-5 loop-again-5 enum-known-p-6 vertex-number-requires-4 mul-returned
-    element-write-returned add-returned loop-less-6 loop-again-6)
+    (λ c. search needs) exclusion-requires (λ c. search needs) element-set-from-conditions (λ c. search needs) loop-less-4 loop-again-4 (λ c. search needs) requirement-requires
+    (λ c. search needs) element-set-from-conditions-2 (λ c. search needs) loop-less-5 loop-again-5 (λ c. search needs) vertex-number-requires-4 (λ c. search needs)
+    element-write-returned (λ c. search needs) loop-less-6 loop-again-6)

@@ -6,24 +6,6 @@ use borrow.Author.Needs.{needs}
 use Rattle.query.proofs.read.read.Statement.{statement}
 use Rattle.query.proofs.read.read.Tie as tie
 
-bytes-read-requires : tie.Need-bytes-read-requires
-bytes-read-requires c κs = search needs
-
-enum-told : tie.Need-enum-told
-enum-told c = search needs
-
-refused-requires : tie.Need-refused-requires
-refused-requires c κs = search needs
-
-enum-told-2 : tie.Need-enum-told-2
-enum-told-2 c = search needs
-
-refused-requires-2 : tie.Need-refused-requires-2
-refused-requires-2 c κs = search needs
-
-enum-told-3 : tie.Need-enum-told-3
-enum-told-3 c = search needs
-
 read-allowed-requires : tie.Need-read-allowed-requires
 read-allowed-requires c κs = record { fits = c .before .before .before .before .before .before .pre; allowed = sym (c .before .before .bytes-read .ensures) ∙ c .enum-told3 .given .1 }
 
@@ -37,8 +19,5 @@ returns-2 c =
     let a = c .before .before .before .before .before .before .before .args in
     bad-byte (bookAt (a .book .now) (a .words .now) (a .counts)) (a .s .now) (c .before .before .before .bytes-read .result) (c .before .before .before .bytes-read .ensures) (a .counts) (c .before .enum-told2 .given .0 .0) (c .before .enum-told2 .given .1) (c .refused2 .result) (c .refused2 .ensures)
 
-returns-3 : tie.Need-returns-3
-returns-3 c = search needs
-
 pub read-spec : {M : Type 1} → statement M
-read-spec = tie.close (tie.spec bytes-read-requires enum-told refused-requires enum-told-2 refused-requires-2 enum-told-3 read-allowed-requires returns returns-2 returns-3)
+read-spec = tie.close (tie.spec (λ c κs. search needs) (λ c. search needs) (λ c κs. search needs) (λ c. search needs) (λ c κs. search needs) (λ c. search needs) read-allowed-requires returns returns-2 (λ c. search needs))

@@ -21,14 +21,8 @@ loop-holds c =
     let a = c .before .args in
     (omega arith, number-start (nameAt (a .s .now)) noPart (a .t2 .parts) (nameAt (a .s .now) (a .name)))
 
-mul-v : tie.Need-mul-v Inv-loop μ-loop
-mul-v c = search needs
-
 element-copy-out-v : tie.Need-element-copy-out-v Inv-loop μ-loop
 element-copy-out-v c = omega (arith, c .before .before .before .pre)
-
-same-part-requires : tie.Need-same-part-requires Inv-loop μ-loop
-same-part-requires c κs = search needs
 
 returns : tie.Need-returns Inv-loop μ-loop
 returns c =
@@ -36,12 +30,6 @@ returns c =
     let size : length (a .t2 .parts) ≡ 8 = sym (length-map (a .t2 .parts) _) ∙ c .before .before .before .before .before .before .good .1 .0 .1 .1 .0 .1 .0 .1 in
     let l = c .before .before .before .before .loop in
     number-found (nameAt (a .s .now)) noPart (a .t2 .parts) (nameAt (a .s .now) (a .name)) (a .t2 .count) (omega (arith, size, c .before .before .before .before .before .before .pre)) (l .k) (c .before .before .before .loop-test .taken) (l .inv .1) (sym (c .before .same-part .ensures) ∙ c .if1 .taken)
-
-add-k : tie.Need-add-k Inv-loop μ-loop
-add-k c = search needs
-
-loop-less : tie.Need-loop-less Inv-loop μ-loop
-loop-less c = search needs
 
 loop-again : tie.Need-loop-again Inv-loop μ-loop
 loop-again c =
@@ -63,11 +51,11 @@ vertex-number-spec =
     Inv-loop
     μ-loop
     loop-holds
-    mul-v
+    (λ c. search needs)
     element-copy-out-v
-    same-part-requires
+    (λ c κs. search needs)
     returns
-    add-k
-    loop-less
+    (λ c. search needs)
+    (λ c. search needs)
     loop-again
     returns-2)

@@ -8,17 +8,8 @@ use Rattle.query.proofs.vertices.with_vertex.Tie as tie
 returns : tie.Need-returns
 returns c = record { known = λ l. refl; new = λ l. absurd (omega (arith, c .if1 .taken)) }
 
-mul-name : tie.Need-mul-name
-mul-name c = search needs
-
-element-set-from-name : tie.Need-element-set-from-name
-element-set-from-name c = search needs
-
-add-more : tie.Need-add-more
-add-more c = search needs
-
 returns-2 : tie.Need-returns-2
 returns-2 c = record { known = λ l. absurd (omega (arith, c .if1 .left)); new = λ l. refl }
 
 pub with-vertex-spec : {M : Type 1} → statement M
-with-vertex-spec = tie.close (tie.spec returns mul-name element-set-from-name add-more returns-2)
+with-vertex-spec = tie.close (tie.spec returns (λ c. search needs) (λ c. search needs) (λ c. search needs) returns-2)

@@ -1,15 +1,6 @@
 use borrow.Author.Needs.{needs}
 use Rattle.query_faults.proofs.conditions.is_unknown_pair.Statement.{statement}
 use Rattle.query_faults.proofs.conditions.is_unknown_pair.Tie as tie
-use Rattle.query_faults.proofs.conditions.is_unknown_pair.Reads as reads
-use Rattle.query_faults.proofs.conditions.is_unknown_pair.Lts as lts
-use Rattle.query_faults.proofs.table.stands_before.Reads as stands-before-reads
-
-stands-before-requires : tie.Need-stands-before-requires
-stands-before-requires c κs = search needs
-
-stands-before-requires-2 : tie.Need-stands-before-requires-2
-stands-before-requires-2 c κs = search needs
 
 returns : tie.Need-returns
 returns c = rw (← c .before .before .stands-before .ensures, ← c .stands-before2 .ensures, c .before .if1 .taken)
@@ -19,4 +10,4 @@ returns-2 c = rw (← c .before .stands-before .ensures, c .if1 .left)
 
 pub is-unknown-pair-spec : {M : Type 1} → statement M
 is-unknown-pair-spec =
-    tie.close (tie.spec stands-before-requires stands-before-requires-2 returns returns-2)
+    tie.close (tie.spec (λ c κs. search needs) (λ c κs. search needs) returns returns-2)

@@ -10,10 +10,6 @@ use Rattle.query_faults.proofs.SeenLaws.{stays-seen, by-test}
 use borrow.Author.Needs.{needs}
 use Rattle.query_faults.proofs.links.link_twice.Statement.{statement}
 use Rattle.query_faults.proofs.links.link_twice.Tie as tie
-use Rattle.query_faults.proofs.links.link_twice.Reads as reads
-use Rattle.query_faults.proofs.links.link_twice.Lts as lts
-use Rattle.query_faults.proofs.scan.same_part.Reads as same-part-reads
-use Rattle.query_faults.proofs.table.stands_before.Reads as stands-before-reads
 
 returns : tie.Need-returns
 returns c = stays-seen (mem (nameAt (c .before .before .before .before .args .s .now) (c .before .before .before .before .args .e)) (namesIn Edge (take (c .before .before .before .before .args .i) (textPieces (c .before .before .before .before .args .s .now)))) || mem (nameAt (c .before .before .before .before .args .s .now) (c .before .before .before .before .args .e)) (namesIn Vertex (take (c .before .before .before .before .args .i) (textPieces (c .before .before .before .before .args .s .now)))) || mem (nameAt (c .before .before .before .before .args .s .now) (c .before .before .before .before .args .v)) (namesIn Edge (take (c .before .before .before .before .args .i) (textPieces (c .before .before .before .before .args .s .now))) ++ ((nameAt (c .before .before .before .before .args .s .now) (c .before .before .before .before .args .e)) ∷ []))) _ (c .if1 .taken)
@@ -36,9 +32,6 @@ stands-before-requires-3 c κs = c .before .before .before .before .before .befo
 returns-4 : tie.Need-returns-4
 returns-4 c = rw (mem-more, ← c .before .before .before .before .before .stands-before .ensures, c .before .before .before .before .if2 .left, ← c .before .before .before .stands-before2 .ensures, c .before .before .if3 .left, ← c .before .stands-before3 .ensures, c .if4 .taken)
 
-same-part-requires : tie.Need-same-part-requires
-same-part-requires c κs = search needs
-
 returns-5 : tie.Need-returns-5
 returns-5 c = rw (mem-more, ← c .before .before .before .before .before .before .stands-before .ensures, c .before .before .before .before .before .if2 .left, ← c .before .before .before .before .stands-before2 .ensures, c .before .before .before .if3 .left, ← c .before .before .stands-before3 .ensures, c .before .if4 .left, ← c .same-part .ensures, c .before .before .before .before .before .before .before .if1 .left) (by-test (c .same-part .result))
 
@@ -53,5 +46,5 @@ link-twice-spec =
     returns-3
     stands-before-requires-3
     returns-4
-    same-part-requires
+    (λ c κs. search needs)
     returns-5)

@@ -1,10 +1,6 @@
 use Rattle.query_faults.proofs.SeenLaws.{start-is}
 use Rattle.query_faults.proofs.links.start_seen.Statement.{statement}
 use Rattle.query_faults.proofs.links.start_seen.Tie as tie
-use Rattle.query_faults.proofs.links.start_seen.Reads as reads
-use Rattle.query_faults.proofs.links.start_seen.Lts as lts
-use Rattle.query_faults.proofs.links.vertices_left.Reads as vertices-left-reads
-use Rattle.query_faults.proofs.table.seen_before.Reads as seen-before-reads
 
 seen-before-requires : tie.Need-seen-before-requires
 seen-before-requires c κs = c .before .before .before .pre .edge-names

@@ -6,26 +6,6 @@ use mathlib.Core.Path.{sym, ap}
 use borrow.Author.Needs.{needs}
 use Rattle.query_faults.proofs.scan.vertex_of.Statement.{statement}
 use Rattle.query_faults.proofs.scan.vertex_of.Tie as tie
-use Rattle.query_faults.proofs.scan.vertex_of.Reads as reads
-use Rattle.query_faults.proofs.scan.vertex_of.Lts as lts
-
-enum-known-p : tie.Need-enum-known-p
-enum-known-p c = search needs
-
-enum-known-p-2 : tie.Need-enum-known-p-2
-enum-known-p-2 c = search needs
-
-enum-known-p-3 : tie.Need-enum-known-p-3
-enum-known-p-3 c = search needs
-
-enum-told : tie.Need-enum-told
-enum-told c = search needs
-
-enum-told-2 : tie.Need-enum-told-2
-enum-told-2 c = search needs
-
-enum-told-3 : tie.Need-enum-told-3
-enum-told-3 c = search needs
 
 returns : tie.Need-returns
 unfolding asList vertexIn pieceOf
@@ -55,12 +35,12 @@ pub vertex-of-spec : {M : Type 1} → statement M
 vertex-of-spec =
     tie.close
     (tie.spec
-    enum-known-p
-    enum-known-p-2
-    enum-known-p-3
-    enum-told
-    enum-told-2
-    enum-told-3
+    (λ c. search needs)
+    (λ c. search needs)
+    (λ c. search needs)
+    (λ c. search needs)
+    (λ c. search needs)
+    (λ c. search needs)
     returns
     returns-2
     returns-3

@@ -9,9 +9,6 @@ use borrow.Author.Needs.{needs}
 use Rattle.query_faults.proofs.table.stands_before.Statement.{statement}
 use Rattle.query_faults.proofs.table.stands_before.Tie as tie
 
-part-requires : tie.Need-part-requires
-part-requires c κs = search needs
-
 is-listed-requires : tie.Need-is-listed-requires
 is-listed-requires c κs = c .before .before .before .before .pre .lists (c .before .if1 .taken) .has
 
@@ -19,15 +16,9 @@ returns : tie.Need-returns
 unfolding nameAt
 returns c = c .is-listed .ensures ∙ ap₂ mem (c .before .part .ensures) (c .before .before .before .before .before .pre .lists (c .before .before .if1 .taken) .are)
 
-text-start-requires : tie.Need-text-start-requires
-text-start-requires c κs = search needs
-
-stands-requires : tie.Need-stands-requires
-stands-requires c κs = search needs
-
 returns-2 : tie.Need-returns-2
 returns-2 c = c .stands .ensures ∙ ap (λ (p : Place). mem (nameAt (c .before .before .before .before .before .args .s .now) (c .before .before .before .before .before .args .name)) (namesIn (c .before .before .before .before .before .args .which) (take (c .before .before .before .before .before .args .i) (foundAt (c .before .before .before .before .before .args .s .now) p)))) (c .before .text-start .ensures)
 
 pub stands-before-spec : {M : Type 1} → statement M
 stands-before-spec =
-    tie.close (tie.spec part-requires is-listed-requires returns text-start-requires stands-requires returns-2)
+    tie.close (tie.spec (λ c κs. search needs) is-listed-requires returns (λ c κs. search needs) (λ c κs. search needs) returns-2)

@@ -3,9 +3,6 @@ use Rattle.query_faults.specs.Survey.{verdict}
 use borrow.Author.Needs.{needs}
 use Rattle.query_faults.proofs.tallies.fault_at_end.Statement.{statement}
 use Rattle.query_faults.proofs.tallies.fault_at_end.Tie as tie
-use Rattle.query_faults.proofs.tallies.fault_at_end.Reads as reads
-use Rattle.query_faults.proofs.tallies.fault_at_end.Lts as lts
-use Rattle.query_faults.proofs.tallies.is_over.Reads as is-over-reads
 
 returns : tie.Need-returns
 unfolding verdict
@@ -23,9 +20,6 @@ returns-4 : tie.Need-returns-4
 unfolding verdict
 returns-4 c = rw (not-false (c .before .before .before .before .args .whole) (c .before .before .before .if1 .left), c .before .before .if2 .left, c .before .if3 .left, c .if4 .taken)
 
-is-over-requires : tie.Need-is-over-requires
-is-over-requires c κs = search needs
-
 returns-5 : tie.Need-returns-5
 unfolding verdict
 returns-5 c = rw (← c .before .is-over .ensures, not-false (c .before .before .before .before .before .before .args .whole) (c .before .before .before .before .before .if1 .left), c .before .before .before .before .if2 .left, c .before .before .before .if3 .left, c .before .before .if4 .left, c .if5 .taken)
@@ -41,4 +35,4 @@ returns-7 c = rw (← c .before .before .is-over .ensures, not-false (c .before 
 pub fault-at-end-spec : {M : Type 1} → statement M
 fault-at-end-spec =
     tie.close
-    (tie.spec returns returns-2 returns-3 returns-4 is-over-requires returns-5 returns-6 returns-7)
+    (tie.spec returns returns-2 returns-3 returns-4 (λ c κs. search needs) returns-5 returns-6 returns-7)

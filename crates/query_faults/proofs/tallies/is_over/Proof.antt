@@ -2,8 +2,6 @@ use borrow.Author.Tests.{eq-eqb, ne-eqb}
 use Rattle.query_faults.specs.Survey.{overLimit}
 use Rattle.query_faults.proofs.tallies.is_over.Statement.{statement}
 use Rattle.query_faults.proofs.tallies.is_over.Tie as tie
-use Rattle.query_faults.proofs.tallies.is_over.Reads as reads
-use Rattle.query_faults.proofs.tallies.is_over.Lts as lts
 
 returns : tie.Need-returns
 unfolding overLimit

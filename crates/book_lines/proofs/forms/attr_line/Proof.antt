@@ -1,0 +1,51 @@
+use Rattle.book_lines.proofs.LineSteps.{attr-stands, attr-step, attr-broken}
+use Rattle.book_lines.proofs.PieceLaws.{piece-asked}
+use Rattle.book_tables.specs.Owners.{declares}
+use native.Mathlib.Omega.{arith}
+use borrow.Author.Needs.{needs}
+use Rattle.book_lines.proofs.forms.attr_line.Statement.{statement}
+use Rattle.book_lines.proofs.forms.attr_line.Tie as tie
+
+add-t15 : tie.Need-add-t15
+add-t15 c =
+    let s = c .before .before .before .before .before .before .before .before in
+    let a = s .args in
+    omega (arith, s .pre .inside, s .pre .limit, attr-stands (a .line .now) (a .from) _ _ _ _ (c .before .before .before .before .read-attr .ensures .1) (c .before .before .p .given .1))
+
+sub-t16 : tie.Need-sub-t16
+sub-t16 c =
+    let s = c .before .before .before .before .before .before .before .before in
+    let a = s .args in
+    omega (arith, attr-stands (a .line .now) (a .from) _ _ _ _ (c .before .before .before .before .read-attr .ensures .1) (c .before .before .p .given .1))
+
+add-attr-requires : tie.Need-add-attr-requires
+add-attr-requires c κs =
+    let s = c .before .before .before .before .before .before .before .before in
+    let a = s .args in
+    (piece-asked (a .text .now) (a .line .now) (a .words .now) (a .counts) (a .base) (a .from) _ _ (s .pre) (attr-stands (a .line .now) (a .from) _ _ _ _ (c .before .before .before .before .read-attr .ensures .1) (c .before .before .p .given .1)), s .pre .fits)
+
+returns : tie.Need-returns
+returns c =
+    let s = c .before .before .before .before .before .before .before .before .before .before .before in
+    let a = s .args in
+    rw (attr-step (a .text .now) (a .line .now) (a .words .now) (a .counts) (a .base) (a .from) (s .pre) _ (c .before .before .before .before .before .before .before .read-attr .ensures .0) (c .before .before .before .before .before .before .before .read-attr .ensures .1) (declares (a .owner)) _ _ _ (c .before .before .before .before .before .p .given .1)) (c .before .before .add-attr .ensures)
+
+returns-2 : tie.Need-returns-2
+returns-2 c =
+    let s = c .before .before .before .before .before .before in
+    let a = s .args in
+    attr-broken (a .text .now) (a .line .now) (a .words .now) (a .counts) (a .base) (a .from) (s .pre) _ (c .before .before .read-attr .ensures .0) (c .before .before .read-attr .ensures .1) (declares (a .owner)) (c .enum-told .given .1)
+
+pub attr-line-spec : {M : Type 1} → statement M
+attr-line-spec =
+    tie.close
+    (tie.spec
+    (λ c κs. search needs)
+    (λ c. search needs)
+    add-t15
+    sub-t16
+    add-attr-requires
+    (λ c. search needs)
+    (λ c. search needs)
+    returns
+    returns-2)
