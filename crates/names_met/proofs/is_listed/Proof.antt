@@ -20,9 +20,6 @@ abbrev μ-loop : tie.MeasureT-loop
 words-from-requires : tie.Need-words-from-requires Inv-loop μ-loop
 words-from-requires c κs = omega (arith, c .before .before .before .pre .room)
 
-slot-requires : tie.Need-slot-requires Inv-loop μ-loop
-slot-requires c κs = search needs
-
 first-requires : tie.Need-first-requires Inv-loop μ-loop
 first-requires c κs = let a = c .before .before .before .before .before in omega (arith, a .pre .room, c .slot .ensures, slot-small (a .args .name .now))
 
@@ -30,9 +27,6 @@ loop-holds : tie.Need-loop-holds Inv-loop μ-loop
 loop-holds c =
     let a = c .before .before .before .before .before .before in
     names-first (a .args .s .now) (a .args .table .now) (a .args .n) (a .pre) (a .args .name .now) _ _ (c .before .slot .ensures) (c .first .ensures)
-
-sub-k : tie.Need-sub-k Inv-loop μ-loop
-sub-k c = search needs
 
 add-word : tie.Need-add-word Inv-loop μ-loop
 add-word c =
@@ -60,12 +54,6 @@ cast-word c =
 add-end : tie.Need-add-end Inv-loop μ-loop
 add-end c = omega (arith, c .shared-slice-known4 .given (c .before .before .before .before .before .words-from .result + (c .before .before .loop .entry - 1)))
 
-sub-same-bytes : tie.Need-sub-same-bytes Inv-loop μ-loop
-sub-same-bytes c = search needs
-
-part-same-bytes-start : tie.Need-part-same-bytes-start Inv-loop μ-loop
-part-same-bytes-start c = search needs
-
 part-same-bytes-end : tie.Need-part-same-bytes-end Inv-loop μ-loop
 part-same-bytes-end c =
     let at-words-from = c .before .before .before .before .before in
@@ -73,9 +61,6 @@ part-same-bytes-end c =
     let a = at-before .before in let l = c .before .before .loop in
     let i = names-inside (a .args .s .now) (a .args .table .now) (a .args .n) (a .pre) (a .args .name .now) (l .entry) (c .before .loop-test .taken) (l .inv) in
     omega (arith, a .pre .inside (l .entry - 1) i, ap (λ p. wordAt (a .args .table .now) (p + (l .entry - 1))) (at-words-from .words-from .ensures))
-
-same-bytes-requires : tie.Need-same-bytes-requires Inv-loop μ-loop
-same-bytes-requires c κs = search needs
 
 returns : tie.Need-returns Inv-loop μ-loop
 returns c =
@@ -134,19 +119,19 @@ is-listed-spec =
     Inv-loop
     μ-loop
     words-from-requires
-    slot-requires
+    (λ c κs. search needs)
     first-requires
     loop-holds
-    sub-k
+    (λ c. search needs)
     add-word
     mul-word
     shared-slice-read-word
     cast-word
     add-end
-    sub-same-bytes
-    part-same-bytes-start
+    (λ c. search needs)
+    (λ c. search needs)
     part-same-bytes-end
-    same-bytes-requires
+    (λ c κs. search needs)
     returns
     next-requires
     loop-less

@@ -12,15 +12,6 @@ use Rattle.names_met.proofs.with_name.Tie as tie
 returns : tie.Need-returns
 returns c = λ names h. holds-full _ (c .before .before .before .args .table .now) _
 
-mul-if2 : tie.Need-mul-if2
-mul-if2 c = search needs
-
-add-if2 : tie.Need-add-if2
-add-if2 c = search needs
-
-add-if2-2 : tie.Need-add-if2-2
-add-if2-2 c = search needs
-
 returns-2 : tie.Need-returns-2
 returns-2 c = λ names h. holds-full _ (c .before .before .before .before .args .table .now) _
 
@@ -30,44 +21,8 @@ returns-3 c = λ names h. holds-full _ (c .before .before .before .before .befor
 returns-4 : tie.Need-returns-4
 returns-4 c = λ names h. holds-full _ (c .before .before .before .before .before .before .args .table .now) _
 
-add-end : tie.Need-add-end
-add-end c = search needs
-
 returns-5 : tie.Need-returns-5
 returns-5 c = λ names h. holds-full _ (c .before .before .before .before .before .before .before .args .table .now) _
-
-words-from-requires : tie.Need-words-from-requires
-words-from-requires c κs = search needs
-
-add-at : tie.Need-add-at
-add-at c = search needs
-
-mul-table : tie.Need-mul-table
-mul-table c = search needs
-
-add-table : tie.Need-add-table
-add-table c = search needs
-
-cast-table : tie.Need-cast-table
-cast-table c = search needs
-
-mul-table-2 : tie.Need-mul-table-2
-mul-table-2 c = search needs
-
-slice-write-table : tie.Need-slice-write-table
-slice-write-table c = search needs
-
-sub-slot : tie.Need-sub-slot
-sub-slot c = search needs
-
-part-slot-start : tie.Need-part-slot-start
-part-slot-start c = search needs
-
-part-slot-end : tie.Need-part-slot-end
-part-slot-end c = search needs
-
-slot-requires : tie.Need-slot-requires
-slot-requires c κs = search needs
 
 add-requires : tie.Need-add-requires
 add-requires c κs =
@@ -79,9 +34,6 @@ add-requires c κs =
       slot-small
           (take (a .name .start + a .name .length - a .name .start) (drop (a .name .start) (a .s .now))),
     ))
-
-add-result : tie.Need-add-result
-add-result c = search needs
 
 same-length : tie.Need-same-length
 same-length c = c .before .table .given ∙ simp length-set
@@ -100,26 +52,26 @@ with-name-spec =
     tie.close
     (tie.spec
     returns
-    mul-if2
-    add-if2
-    add-if2-2
+    (λ c. search needs)
+    (λ c. search needs)
+    (λ c. search needs)
     returns-2
     returns-3
     returns-4
-    add-end
+    (λ c. search needs)
     returns-5
-    words-from-requires
-    add-at
-    mul-table
-    add-table
-    cast-table
-    mul-table-2
-    slice-write-table
-    sub-slot
-    part-slot-start
-    part-slot-end
-    slot-requires
+    (λ c κs. search needs)
+    (λ c. search needs)
+    (λ c. search needs)
+    (λ c. search needs)
+    (λ c. search needs)
+    (λ c. search needs)
+    (λ c. search needs)
+    (λ c. search needs)
+    (λ c. search needs)
+    (λ c. search needs)
+    (λ c κs. search needs)
     add-requires
-    add-result
+    (λ c. search needs)
     same-length
     returns-6)

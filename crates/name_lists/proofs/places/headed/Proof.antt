@@ -8,32 +8,11 @@ use Rattle.items.specs.Pieces.{itemPlace}
 use Rattle.name_lists.proofs.places.headed.Statement.{statement}
 use Rattle.name_lists.proofs.places.headed.Tie as tie
 
-open-list-requires : tie.Need-open-list-requires
-open-list-requires c κs = search needs
-
-item-place-requires : tie.Need-item-place-requires
-item-place-requires c κs = search needs
-
-enum-known-i : tie.Need-enum-known-i
-enum-known-i c = search needs
-
-enum-told : tie.Need-enum-told
-enum-told c = search needs
-
 returns : tie.Need-returns
 returns c =
     let at-args = c .before .before .before .before .before .before in
     headed-none (at-args .args .head .now) (at-args .args .s .now) (at-args .args .from)
     (sym (c .enum-told .given .1) ∙ c .before .before .item-place .ensures ∙ ap itemPlace (c .before .before .before .open-list .ensures))
-
-next-word-requires : tie.Need-next-word-requires
-next-word-requires c κs = search needs
-
-enum-known-p : tie.Need-enum-known-p
-enum-known-p c = search needs
-
-enum-told-2 : tie.Need-enum-told-2
-enum-told-2 c = search needs
 
 returns-2 : tie.Need-returns-2
 returns-2 c =
@@ -53,9 +32,6 @@ part-same-bytes-start c = let h = placed-at _ _ _ (c .before .p .given .1) (c .b
 
 part-same-bytes-end : tie.Need-part-same-bytes-end
 part-same-bytes-end c = let h = placed-at _ _ _ (c .before .p .given .1) (c .before .before .before .next-word .ensures .placed) in omega (arith, h .inside)
-
-same-bytes-requires : tie.Need-same-bytes-requires
-same-bytes-requires c κs = search needs
 
 returns-3 : tie.Need-returns-3
 unfolding partOf
@@ -87,18 +63,18 @@ pub headed-spec : {M : Type 1} → statement M
 headed-spec =
     tie.close
     (tie.spec
-    open-list-requires
-    item-place-requires
-    enum-known-i
-    enum-told
+    (λ c κs. search needs)
+    (λ c κs. search needs)
+    (λ c. search needs)
+    (λ c. search needs)
     returns
-    next-word-requires
-    enum-known-p
-    enum-told-2
+    (λ c κs. search needs)
+    (λ c. search needs)
+    (λ c. search needs)
     returns-2
     sub-same-bytes
     part-same-bytes-start
     part-same-bytes-end
-    same-bytes-requires
+    (λ c κs. search needs)
     returns-3
     returns-4)

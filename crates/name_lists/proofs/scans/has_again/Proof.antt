@@ -21,15 +21,6 @@ abbrev μ-loop : tie.MeasureT-loop
 loop-holds : tie.Need-loop-holds Inv-loop μ-loop
 loop-holds c = left-start twice (c .before .args .s .now) (c .before .args .from)
 
-next-name-requires : tie.Need-next-name-requires Inv-loop μ-loop
-next-name-requires c κs = search needs
-
-enum-known-p : tie.Need-enum-known-p Inv-loop μ-loop
-enum-known-p c = search needs
-
-enum-told : tie.Need-enum-told Inv-loop μ-loop
-enum-told c = search needs
-
 returns : tie.Need-returns Inv-loop μ-loop
 returns c =
     let at-loop = c .before .before .before .before in
@@ -57,9 +48,6 @@ part-has-name-end c =
     let at-args = at-loop .before .before in
     let h = placed-at (at-args .args .s .now) (at-loop .loop .i) _ (c .before .p .given .1) (c .before .before .before .next-name .ensures .placed) in
     omega (arith, h .inside)
-
-has-name-requires : tie.Need-has-name-requires Inv-loop μ-loop
-has-name-requires c κs = search needs
 
 returns-2 : tie.Need-returns-2 Inv-loop μ-loop
 unfolding partOf
@@ -103,14 +91,14 @@ has-again-spec =
     Inv-loop
     μ-loop
     loop-holds
-    next-name-requires
-    enum-known-p
-    enum-told
+    (λ c κs. search needs)
+    (λ c. search needs)
+    (λ c. search needs)
     returns
     sub-has-name
     part-has-name-start
     part-has-name-end
-    has-name-requires
+    (λ c κs. search needs)
     returns-2
     loop-less
     loop-again

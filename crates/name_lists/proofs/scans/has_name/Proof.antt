@@ -21,15 +21,6 @@ abbrev μ-loop : tie.MeasureT-loop
 loop-holds : tie.Need-loop-holds Inv-loop μ-loop
 loop-holds c = left-start (mem (c .before .before .args .name .now)) (c .before .before .args .s .now) (c .before .before .args .from)
 
-next-name-requires : tie.Need-next-name-requires Inv-loop μ-loop
-next-name-requires c κs = search needs
-
-enum-known-p : tie.Need-enum-known-p Inv-loop μ-loop
-enum-known-p c = search needs
-
-enum-told : tie.Need-enum-told Inv-loop μ-loop
-enum-told c = search needs
-
 returns : tie.Need-returns Inv-loop μ-loop
 returns c =
     let at-loop = c .before .before .before .before in
@@ -58,9 +49,6 @@ part-same-bytes-end c =
     let at-args = at-loop .before .before .before in
     let h = placed-at (at-args .args .s .now) (at-loop .loop .i) _ (c .before .p .given .1) (c .before .before .before .next-name .ensures .placed) in
     omega (arith, h .inside)
-
-same-bytes-requires : tie.Need-same-bytes-requires Inv-loop μ-loop
-same-bytes-requires c κs = search needs
 
 returns-2 : tie.Need-returns-2 Inv-loop μ-loop
 unfolding partOf
@@ -106,14 +94,14 @@ has-name-spec =
     Inv-loop
     μ-loop
     loop-holds
-    next-name-requires
-    enum-known-p
-    enum-told
+    (λ c κs. search needs)
+    (λ c. search needs)
+    (λ c. search needs)
     returns
     sub-same-bytes
     part-same-bytes-start
     part-same-bytes-end
-    same-bytes-requires
+    (λ c κs. search needs)
     returns-2
     loop-less
     loop-again

@@ -21,15 +21,6 @@ loop-holds : tie.Need-loop-holds Inv-loop μ-loop
 loop-holds c =
     (met-start (c .before .before .args .s .now) _ (c .before .before .args .from) _ (c .before .before .pre), refl)
 
-next-name-requires : tie.Need-next-name-requires Inv-loop μ-loop
-next-name-requires c κs = search needs
-
-enum-known-p : tie.Need-enum-known-p Inv-loop μ-loop
-enum-known-p c = search needs
-
-enum-told : tie.Need-enum-told Inv-loop μ-loop
-enum-told c = search needs
-
 same-length : tie.Need-same-length Inv-loop μ-loop
 same-length c = c .before .before .before .before .loop .inv .1
 
@@ -39,9 +30,6 @@ returns c =
     let at-args = at-loop .before .before .before in
     let a = at-args .args in let l = at-loop .loop in
     met-done (a .s .now) (l .table) (a .from) (l .n) (l .i) (l .inv .0) (sym (c .enum-told .given .1) ∙ c .before .before .next-name .ensures .is)
-
-has-again-requires : tie.Need-has-again-requires Inv-loop μ-loop
-has-again-requires c κs = search needs
 
 same-length-2 : tie.Need-same-length-2 Inv-loop μ-loop
 same-length-2 c =
@@ -103,9 +91,6 @@ sub-t9 c =
     let at-args = at-loop .before .before .before in
     let h = placed-at (at-args .args .s .now) (at-loop .loop .i) _ (at-p .p .given .1) (at-next-name .next-name .ensures .placed) in omega (arith, h .some)
 
-with-name-requires : tie.Need-with-name-requires Inv-loop μ-loop
-with-name-requires c κs = search needs
-
 loop-less : tie.Need-loop-less Inv-loop μ-loop
 loop-less c =
     let at-p = c .before .before .before .before .before .before .before .before .before .before in
@@ -147,12 +132,12 @@ has-twice-with-spec =
     Inv-loop
     μ-loop
     loop-holds
-    next-name-requires
-    enum-known-p
-    enum-told
+    (λ c κs. search needs)
+    (λ c. search needs)
+    (λ c. search needs)
     same-length
     returns
-    has-again-requires
+    (λ c κs. search needs)
     same-length-2
     returns-2
     sub-is-listed
@@ -162,7 +147,7 @@ has-twice-with-spec =
     same-length-3
     returns-3
     sub-t9
-    with-name-requires
+    (λ c κs. search needs)
     loop-less
     loop-again
     same-length-4

@@ -18,15 +18,6 @@ Inv-loop s from end i₀ i = namesEnd (namesBehind s i) ≡ namesEnd (namesBehin
 abbrev μ-loop : tie.MeasureT-loop
 μ-loop s from end i₀ i = length s - i
 
-list-requires : tie.Need-list-requires Inv-loop μ-loop
-list-requires c κs = search needs
-
-enum-known-end : tie.Need-enum-known-end Inv-loop μ-loop
-enum-known-end c = search needs
-
-enum-told : tie.Need-enum-told Inv-loop μ-loop
-enum-told c = search needs
-
 returns : tie.Need-returns Inv-loop μ-loop
 returns c =
     let at-args = c .before .before .before .before in
@@ -34,15 +25,6 @@ returns c =
 
 loop-holds : tie.Need-loop-holds Inv-loop μ-loop
 loop-holds c = refl
-
-next-name-requires : tie.Need-next-name-requires Inv-loop μ-loop
-next-name-requires c κs = search needs
-
-enum-known-q : tie.Need-enum-known-q Inv-loop μ-loop
-enum-known-q c = search needs
-
-enum-told-2 : tie.Need-enum-told-2 Inv-loop μ-loop
-enum-told-2 c = search needs
 
 only-closes-requires : tie.Need-only-closes-requires Inv-loop μ-loop
 only-closes-requires c κs =
@@ -97,14 +79,14 @@ names-end-spec =
     (tie.spec
     Inv-loop
     μ-loop
-    list-requires
-    enum-known-end
-    enum-told
+    (λ c κs. search needs)
+    (λ c. search needs)
+    (λ c. search needs)
     returns
     loop-holds
-    next-name-requires
-    enum-known-q
-    enum-told-2
+    (λ c κs. search needs)
+    (λ c. search needs)
+    (λ c. search needs)
     only-closes-requires
     returns-2
     returns-3

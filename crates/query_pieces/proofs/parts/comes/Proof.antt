@@ -9,12 +9,6 @@ use mathlib.Core.Path.{refl, _∙_}
 use borrow.Author.Needs.{needs}
 use Rattle.query_pieces.proofs.parts.comes.Statement.{statement}
 use Rattle.query_pieces.proofs.parts.comes.Tie as tie
-use Rattle.query_pieces.proofs.parts.comes.Reads as reads
-use Rattle.query_pieces.proofs.parts.comes.Lts as lts
-use Rattle.query_pieces.proofs.parts.link.Reads as link-reads
-
-link-requires : tie.Need-link-requires
-link-requires c κs = search needs
 
 returns : tie.Need-returns
 unfolding linkPiece markBytes spotAfter
@@ -27,4 +21,4 @@ returns c = record {
 }
 
 pub comes-spec : {M : Type 1} → statement M
-comes-spec = tie.close (tie.spec link-requires returns)
+comes-spec = tie.close (tie.spec (λ c κs. search needs) returns)

@@ -15,21 +15,6 @@ use mathlib.Core.Path.{ap, _∙_}
 use borrow.Author.Needs.{needs}
 use Rattle.query_pieces.proofs.parts.condition.Statement.{statement}
 use Rattle.query_pieces.proofs.parts.condition.Tie as tie
-use Rattle.query_pieces.proofs.parts.condition.Reads as reads
-use Rattle.query_pieces.proofs.parts.condition.Lts as lts
-use Rattle.query_pieces.proofs.parts.demand.Reads as demand-reads
-use Rattle.query_pieces.proofs.parts.differ.Reads as differ-reads
-use Rattle.query_signs.proofs.expected.mark_next.Reads as mark-next-reads
-use Rattle.query_signs.proofs.expected.name_next.Reads as name-next-reads
-
-name-next-requires : tie.Need-name-next-requires
-name-next-requires c κs = search needs
-
-enum-known-x : tie.Need-enum-known-x
-enum-known-x c = search needs
-
-enum-told : tie.Need-enum-told
-enum-told c = search needs
 
 returns : tie.Need-returns
 unfolding stepOf orStopped
@@ -42,21 +27,6 @@ returns c =
       moves = tt;
       stands = tt;
     }
-
-mark-next-requires : tie.Need-mark-next-requires
-mark-next-requires c κs = search needs
-
-enum-known-b : tie.Need-enum-known-b
-enum-known-b c = search needs
-
-differ-requires : tie.Need-differ-requires
-differ-requires c κs = search needs
-
-enum-told-2 : tie.Need-enum-told-2
-enum-told-2 c = search needs
-
-demand-requires : tie.Need-demand-requires
-demand-requires c κs = search needs
 
 returns-2 : tie.Need-returns-2
 unfolding bracketOf isMark same markBytes variableAt
@@ -113,14 +83,14 @@ pub condition-spec : {M : Type 1} → statement M
 condition-spec =
     tie.close
     (tie.spec
-    name-next-requires
-    enum-known-x
-    enum-told
+    (λ c κs. search needs)
+    (λ c. search needs)
+    (λ c. search needs)
     returns
-    mark-next-requires
-    enum-known-b
-    differ-requires
-    enum-told-2
-    demand-requires
+    (λ c κs. search needs)
+    (λ c. search needs)
+    (λ c κs. search needs)
+    (λ c. search needs)
+    (λ c κs. search needs)
     returns-2
     returns-3)

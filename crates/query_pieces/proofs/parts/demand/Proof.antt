@@ -14,21 +14,6 @@ use mathlib.Core.Path.{ap, _∙_}
 use borrow.Author.Needs.{needs}
 use Rattle.query_pieces.proofs.parts.demand.Statement.{statement}
 use Rattle.query_pieces.proofs.parts.demand.Tie as tie
-use Rattle.query_pieces.proofs.parts.demand.Reads as reads
-use Rattle.query_pieces.proofs.parts.demand.Lts as lts
-use Rattle.query_signs.proofs.expected.mark_next.Reads as mark-next-reads
-use Rattle.query_signs.proofs.expected.name_next.Reads as name-next-reads
-use Rattle.query_signs.proofs.expected.relation_next.Reads as relation-next-reads
-use Rattle.query_signs.proofs.expected.value_next.Reads as value-next-reads
-
-mark-next-requires : tie.Need-mark-next-requires
-mark-next-requires c κs = search needs
-
-enum-known-a : tie.Need-enum-known-a
-enum-known-a c = search needs
-
-enum-told : tie.Need-enum-told
-enum-told c = search needs
 
 returns : tie.Need-returns
 unfolding stepOf walkAt pieceOf spotOf chainAt orStopped valueThen markBytes
@@ -40,15 +25,6 @@ returns c =
       moves = tt;
       stands = tt;
     }
-
-name-next-requires : tie.Need-name-next-requires
-name-next-requires c κs = search needs
-
-enum-known-attribute : tie.Need-enum-known-attribute
-enum-known-attribute c = search needs
-
-enum-told-2 : tie.Need-enum-told-2
-enum-told-2 c = search needs
 
 returns-2 : tie.Need-returns-2
 unfolding stepOf walkAt pieceOf spotOf chainAt orStopped valueThen markBytes
@@ -64,15 +40,6 @@ returns-2 c =
       moves = tt;
       stands = tt;
     }
-
-relation-next-requires : tie.Need-relation-next-requires
-relation-next-requires c κs = search needs
-
-enum-known-relation : tie.Need-enum-known-relation
-enum-known-relation c = search needs
-
-enum-told-3 : tie.Need-enum-told-3
-enum-told-3 c = search needs
 
 returns-3 : tie.Need-returns-3
 unfolding stepOf walkAt pieceOf spotOf chainAt orStopped valueThen markBytes
@@ -92,15 +59,6 @@ returns-3 c =
       moves = tt;
       stands = tt;
     }
-
-value-next-requires : tie.Need-value-next-requires
-value-next-requires c κs = search needs
-
-enum-known-value : tie.Need-enum-known-value
-enum-known-value c = search needs
-
-enum-told-4 : tie.Need-enum-told-4
-enum-told-4 c = search needs
 
 returns-4 : tie.Need-returns-4
 unfolding stepOf walkAt pieceOf spotOf chainAt orStopped valueThen markBytes
@@ -176,20 +134,20 @@ pub demand-spec : {M : Type 1} → statement M
 demand-spec =
     tie.close
     (tie.spec
-    mark-next-requires
-    enum-known-a
-    enum-told
+    (λ c κs. search needs)
+    (λ c. search needs)
+    (λ c. search needs)
     returns
-    name-next-requires
-    enum-known-attribute
-    enum-told-2
+    (λ c κs. search needs)
+    (λ c. search needs)
+    (λ c. search needs)
     returns-2
-    relation-next-requires
-    enum-known-relation
-    enum-told-3
+    (λ c κs. search needs)
+    (λ c. search needs)
+    (λ c. search needs)
     returns-3
-    value-next-requires
-    enum-known-value
-    enum-told-4
+    (λ c κs. search needs)
+    (λ c. search needs)
+    (λ c. search needs)
     returns-4
     returns-5)

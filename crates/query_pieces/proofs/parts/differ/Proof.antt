@@ -9,18 +9,6 @@ use mathlib.Core.Path.{ap}
 use borrow.Author.Needs.{needs}
 use Rattle.query_pieces.proofs.parts.differ.Statement.{statement}
 use Rattle.query_pieces.proofs.parts.differ.Tie as tie
-use Rattle.query_pieces.proofs.parts.differ.Reads as reads
-use Rattle.query_pieces.proofs.parts.differ.Lts as lts
-use Rattle.query_signs.proofs.expected.name_next.Reads as name-next-reads
-
-name-next-requires : tie.Need-name-next-requires
-name-next-requires c κs = search needs
-
-enum-known-u : tie.Need-enum-known-u
-enum-known-u c = search needs
-
-enum-told : tie.Need-enum-told
-enum-told c = search needs
 
 returns : tie.Need-returns
 unfolding stepOf walkAt pieceOf spotOf chainAt orStopped otherThen
@@ -52,4 +40,4 @@ returns-2 c =
     }
 
 pub differ-spec : {M : Type 1} → statement M
-differ-spec = tie.close (tie.spec name-next-requires enum-known-u enum-told returns returns-2)
+differ-spec = tie.close (tie.spec (λ c κs. search needs) (λ c. search needs) (λ c. search needs) returns returns-2)

@@ -15,21 +15,6 @@ use mathlib.Core.Path.{sym, ap, _∙_}
 use borrow.Author.Needs.{needs}
 use Rattle.query_pieces.proofs.parts.link.Statement.{statement}
 use Rattle.query_pieces.proofs.parts.link.Tie as tie
-use Rattle.query_pieces.proofs.parts.link.Reads as reads
-use Rattle.query_pieces.proofs.parts.link.Lts as lts
-use Rattle.query_pieces.proofs.parts.linked.Reads as linked-reads
-use Rattle.query_pieces.proofs.parts.vertex.Reads as vertex-reads
-use Rattle.query_signs.proofs.expected.mark_next.Reads as mark-next-reads
-use Rattle.query_signs.proofs.expected.name_next.Reads as name-next-reads
-
-mark-next-requires : tie.Need-mark-next-requires
-mark-next-requires c κs = search needs
-
-enum-known-a : tie.Need-enum-known-a
-enum-known-a c = search needs
-
-enum-told : tie.Need-enum-told
-enum-told c = search needs
 
 returns : tie.Need-returns
 unfolding linkThen stepOf orStopped markBytes
@@ -41,15 +26,6 @@ returns c =
       moves = tt;
       stands = tt;
     }
-
-name-next-requires : tie.Need-name-next-requires
-name-next-requires c κs = search needs
-
-enum-known-edge : tie.Need-enum-known-edge
-enum-known-edge c = search needs
-
-enum-told-2 : tie.Need-enum-told-2
-enum-told-2 c = search needs
 
 returns-2 : tie.Need-returns-2
 unfolding linkThen stepOf orStopped markBytes
@@ -65,15 +41,6 @@ returns-2 c =
       moves = tt;
       stands = tt;
     }
-
-mark-next-requires-2 : tie.Need-mark-next-requires-2
-mark-next-requires-2 c κs = search needs
-
-enum-known-c : tie.Need-enum-known-c
-enum-known-c c = search needs
-
-enum-told-3 : tie.Need-enum-told-3
-enum-told-3 c = search needs
 
 returns-3 : tie.Need-returns-3
 unfolding linkThen stepOf orStopped markBytes
@@ -93,15 +60,6 @@ returns-3 c =
       moves = tt;
       stands = tt;
     }
-
-name-next-requires-2 : tie.Need-name-next-requires-2
-name-next-requires-2 c κs = search needs
-
-enum-known-label : tie.Need-enum-known-label
-enum-known-label c = search needs
-
-enum-told-4 : tie.Need-enum-told-4
-enum-told-4 c = search needs
 
 returns-4 : tie.Need-returns-4
 unfolding linkThen stepOf orStopped markBytes
@@ -125,15 +83,6 @@ returns-4 c =
       moves = tt;
       stands = tt;
     }
-
-mark-next-requires-3 : tie.Need-mark-next-requires-3
-mark-next-requires-3 c κs = search needs
-
-enum-known-e : tie.Need-enum-known-e
-enum-known-e c = search needs
-
-enum-told-5 : tie.Need-enum-told-5
-enum-told-5 c = search needs
 
 returns-5 : tie.Need-returns-5
 unfolding linkThen stepOf orStopped markBytes
@@ -167,12 +116,6 @@ mark-next-requires-4 c κs =
     let at-pre = c .before .before .before .before .before .before .before .before .before .before .before .before .before .before .before .before .before .before .before .before .before in
     at-pre .pre
 
-enum-known-f : tie.Need-enum-known-f
-enum-known-f c = search needs
-
-enum-told-6 : tie.Need-enum-told-6
-enum-told-6 c = search needs
-
 returns-6 : tie.Need-returns-6
 unfolding linkThen stepOf orStopped markBytes
 returns-6 c =
@@ -203,15 +146,6 @@ returns-6 c =
       moves = tt;
       stands = tt;
     }
-
-vertex-requires : tie.Need-vertex-requires
-vertex-requires c κs = search needs
-
-enum-known-vertex : tie.Need-enum-known-vertex
-enum-known-vertex c = search needs
-
-enum-told-7 : tie.Need-enum-told-7
-enum-told-7 c = search needs
 
 returns-7 : tie.Need-returns-7
 unfolding linkThen stepOf orStopped markBytes
@@ -247,9 +181,6 @@ returns-7 c =
       moves = tt;
       stands = tt;
     }
-
-linked-requires : tie.Need-linked-requires
-linked-requires c κs = search needs
 
 returns-8 : tie.Need-returns-8
 unfolding linkThen stepOf walkAt spotOf chainAt orStopped markBytes bracketOf isMark same variableAt
@@ -328,33 +259,33 @@ pub link-spec : {M : Type 1} → statement M
 link-spec =
     tie.close
     (tie.spec
-    mark-next-requires
-    enum-known-a
-    enum-told
+    (λ c κs. search needs)
+    (λ c. search needs)
+    (λ c. search needs)
     returns
-    name-next-requires
-    enum-known-edge
-    enum-told-2
+    (λ c κs. search needs)
+    (λ c. search needs)
+    (λ c. search needs)
     returns-2
-    mark-next-requires-2
-    enum-known-c
-    enum-told-3
+    (λ c κs. search needs)
+    (λ c. search needs)
+    (λ c. search needs)
     returns-3
-    name-next-requires-2
-    enum-known-label
-    enum-told-4
+    (λ c κs. search needs)
+    (λ c. search needs)
+    (λ c. search needs)
     returns-4
-    mark-next-requires-3
-    enum-known-e
-    enum-told-5
+    (λ c κs. search needs)
+    (λ c. search needs)
+    (λ c. search needs)
     returns-5
     mark-next-requires-4
-    enum-known-f
-    enum-told-6
+    (λ c. search needs)
+    (λ c. search needs)
     returns-6
-    vertex-requires
-    enum-known-vertex
-    enum-told-7
+    (λ c κs. search needs)
+    (λ c. search needs)
+    (λ c. search needs)
     returns-7
-    linked-requires
+    (λ c κs. search needs)
     returns-8)

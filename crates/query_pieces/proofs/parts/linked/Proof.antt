@@ -3,8 +3,6 @@ use borrow.Author.Tests.{eq-eqb, ne-eqb}
 use mathlib.Core.Path.{refl}
 use Rattle.query_pieces.proofs.parts.linked.Statement.{statement}
 use Rattle.query_pieces.proofs.parts.linked.Tie as tie
-use Rattle.query_pieces.proofs.parts.linked.Reads as reads
-use Rattle.query_pieces.proofs.parts.linked.Lts as lts
 
 returns : tie.Need-returns
 unfolding linkPiece pieceOf pieceStanding

@@ -10,18 +10,6 @@ use mathlib.Core.Path.{ap, _∙_}
 use borrow.Author.Needs.{needs}
 use Rattle.query_pieces.proofs.parts.returned.Statement.{statement}
 use Rattle.query_pieces.proofs.parts.returned.Tie as tie
-use Rattle.query_pieces.proofs.parts.returned.Reads as reads
-use Rattle.query_pieces.proofs.parts.returned.Lts as lts
-use Rattle.query_signs.proofs.expected.name_next.Reads as name-next-reads
-
-name-next-requires : tie.Need-name-next-requires
-name-next-requires c κs = search needs
-
-enum-known-v : tie.Need-enum-known-v
-enum-known-v c = search needs
-
-enum-told : tie.Need-enum-told
-enum-told c = search needs
 
 returns : tie.Need-returns
 unfolding stepOf walkAt pieceOf spotOf chainAt orStopped
@@ -55,4 +43,4 @@ returns-2 c =
     }
 
 pub returned-spec : {M : Type 1} → statement M
-returned-spec = tie.close (tie.spec name-next-requires enum-known-v enum-told returns returns-2)
+returned-spec = tie.close (tie.spec (λ c κs. search needs) (λ c. search needs) (λ c. search needs) returns returns-2)

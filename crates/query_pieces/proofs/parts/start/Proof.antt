@@ -10,18 +10,6 @@ use mathlib.Core.Path.{ap, _∙_}
 use borrow.Author.Needs.{needs}
 use Rattle.query_pieces.proofs.parts.start.Statement.{statement}
 use Rattle.query_pieces.proofs.parts.start.Tie as tie
-use Rattle.query_pieces.proofs.parts.start.Reads as reads
-use Rattle.query_pieces.proofs.parts.start.Lts as lts
-use Rattle.query_pieces.proofs.parts.vertex.Reads as vertex-reads
-
-vertex-requires : tie.Need-vertex-requires
-vertex-requires c κs = search needs
-
-enum-known-v : tie.Need-enum-known-v
-enum-known-v c = search needs
-
-enum-told : tie.Need-enum-told
-enum-told c = search needs
 
 returns : tie.Need-returns
 unfolding stepOf walkAt pieceOf spotOf chainAt orStopped
@@ -55,4 +43,4 @@ returns-2 c =
     }
 
 pub start-spec : {M : Type 1} → statement M
-start-spec = tie.close (tie.spec vertex-requires enum-known-v enum-told returns returns-2)
+start-spec = tie.close (tie.spec (λ c κs. search needs) (λ c. search needs) (λ c. search needs) returns returns-2)

@@ -11,19 +11,6 @@ use mathlib.Core.Path.{ap, _∙_}
 use borrow.Author.Needs.{needs}
 use Rattle.query_pieces.proofs.parts.vertex.Statement.{statement}
 use Rattle.query_pieces.proofs.parts.vertex.Tie as tie
-use Rattle.query_pieces.proofs.parts.vertex.Reads as reads
-use Rattle.query_pieces.proofs.parts.vertex.Lts as lts
-use Rattle.query_signs.proofs.expected.mark_next.Reads as mark-next-reads
-use Rattle.query_signs.proofs.expected.name_next.Reads as name-next-reads
-
-mark-next-requires : tie.Need-mark-next-requires
-mark-next-requires c κs = search needs
-
-enum-known-a : tie.Need-enum-known-a
-enum-known-a c = search needs
-
-enum-told : tie.Need-enum-told
-enum-told c = search needs
 
 returns : tie.Need-returns
 unfolding vertexThen onVertex markBytes
@@ -35,15 +22,6 @@ returns c =
       moves = tt;
       stands = λ o. tt;
     }
-
-name-next-requires : tie.Need-name-next-requires
-name-next-requires c κs = search needs
-
-enum-known-v : tie.Need-enum-known-v
-enum-known-v c = search needs
-
-enum-told-2 : tie.Need-enum-told-2
-enum-told-2 c = search needs
 
 returns-2 : tie.Need-returns-2
 unfolding vertexThen onVertex markBytes
@@ -59,15 +37,6 @@ returns-2 c =
       moves = tt;
       stands = λ o. tt;
     }
-
-mark-next-requires-2 : tie.Need-mark-next-requires-2
-mark-next-requires-2 c κs = search needs
-
-enum-known-q : tie.Need-enum-known-q
-enum-known-q c = search needs
-
-enum-told-3 : tie.Need-enum-told-3
-enum-told-3 c = search needs
 
 returns-3 : tie.Need-returns-3
 unfolding vertexThen onVertex markBytes
@@ -127,16 +96,16 @@ pub vertex-spec : {M : Type 1} → statement M
 vertex-spec =
     tie.close
     (tie.spec
-    mark-next-requires
-    enum-known-a
-    enum-told
+    (λ c κs. search needs)
+    (λ c. search needs)
+    (λ c. search needs)
     returns
-    name-next-requires
-    enum-known-v
-    enum-told-2
+    (λ c κs. search needs)
+    (λ c. search needs)
+    (λ c. search needs)
     returns-2
-    mark-next-requires-2
-    enum-known-q
-    enum-told-3
+    (λ c κs. search needs)
+    (λ c. search needs)
+    (λ c. search needs)
     returns-3
     returns-4)

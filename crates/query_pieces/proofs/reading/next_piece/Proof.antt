@@ -8,19 +8,6 @@ use mathlib.Core.Path.{sym, ap, subst, _∙_}
 use borrow.Author.Needs.{needs}
 use Rattle.query_pieces.proofs.reading.next_piece.Statement.{statement}
 use Rattle.query_pieces.proofs.reading.next_piece.Tie as tie
-use Rattle.query_pieces.proofs.reading.next_piece.Reads as reads
-use Rattle.query_pieces.proofs.reading.next_piece.Lts as lts
-use Rattle.query_pieces.proofs.spots.ends_well.Reads as ends-well-reads
-use Rattle.query_pieces.proofs.spots.in_chain.Reads as in-chain-reads
-use Rattle.query_pieces.proofs.spots.piece_by.Reads as piece-by-reads
-use Rattle.query_signs.proofs.kinds.blanks_end.Reads as blanks-end-reads
-use Rattle.query_signs.proofs.reading.next_sign.Reads as next-sign-reads
-
-blanks-end-requires : tie.Need-blanks-end-requires
-blanks-end-requires c κs = search needs
-
-ends-well-requires : tie.Need-ends-well-requires
-ends-well-requires c κs = search needs
 
 returns : tie.Need-returns
 unfolding stepOf
@@ -32,18 +19,6 @@ returns c =
       moves = tt;
       stands = tt;
     }
-
-in-chain-requires : tie.Need-in-chain-requires
-in-chain-requires c κs = search needs
-
-next-sign-requires : tie.Need-next-sign-requires
-next-sign-requires c κs = search needs
-
-enum-known-t : tie.Need-enum-known-t
-enum-known-t c = search needs
-
-enum-told : tie.Need-enum-told
-enum-told c = search needs
 
 returns-2 : tie.Need-returns-2
 unfolding stepOf
@@ -61,9 +36,6 @@ returns-2 c =
       moves = tt;
       stands = tt;
     }
-
-piece-by-requires : tie.Need-piece-by-requires
-piece-by-requires c κs = search needs
 
 returns-3 : tie.Need-returns-3
 returns-3 c =
@@ -92,13 +64,13 @@ pub next-piece-spec : {M : Type 1} → statement M
 next-piece-spec =
     tie.close
     (tie.spec
-    blanks-end-requires
-    ends-well-requires
+    (λ c κs. search needs)
+    (λ c κs. search needs)
     returns
-    in-chain-requires
-    next-sign-requires
-    enum-known-t
-    enum-told
+    (λ c κs. search needs)
+    (λ c κs. search needs)
+    (λ c. search needs)
+    (λ c. search needs)
     returns-2
-    piece-by-requires
+    (λ c κs. search needs)
     returns-3)

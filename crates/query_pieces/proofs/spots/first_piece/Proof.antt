@@ -4,19 +4,6 @@ use mathlib.Core.Path.{sym, _∙_}
 use borrow.Author.Needs.{needs}
 use Rattle.query_pieces.proofs.spots.first_piece.Statement.{statement}
 use Rattle.query_pieces.proofs.spots.first_piece.Tie as tie
-use Rattle.query_pieces.proofs.spots.first_piece.Reads as reads
-use Rattle.query_pieces.proofs.spots.first_piece.Lts as lts
-use Rattle.query_pieces.proofs.parts.start.Reads as start-reads
-use Rattle.query_pieces.proofs.spots.is_word.Reads as is-word-reads
-
-slice-aggregate-is-word : tie.Need-slice-aggregate-is-word
-slice-aggregate-is-word c = search needs
-
-is-word-requires : tie.Need-is-word-requires
-is-word-requires c κs = search needs
-
-start-requires : tie.Need-start-requires
-start-requires c κs = search needs
 
 returns : tie.Need-returns
 returns c =
@@ -38,4 +25,4 @@ returns-2 c =
 
 pub first-piece-spec : {M : Type 1} → statement M
 first-piece-spec =
-    tie.close (tie.spec slice-aggregate-is-word is-word-requires start-requires returns returns-2)
+    tie.close (tie.spec (λ c. search needs) (λ c κs. search needs) (λ c κs. search needs) returns returns-2)

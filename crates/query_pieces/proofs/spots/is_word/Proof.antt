@@ -6,28 +6,6 @@ use mathlib.Core.Path.{sym, ap, _∙_}
 use borrow.Author.Needs.{needs}
 use Rattle.query_pieces.proofs.spots.is_word.Statement.{statement}
 use Rattle.query_pieces.proofs.spots.is_word.Tie as tie
-use Rattle.query_pieces.proofs.spots.is_word.Reads as reads
-use Rattle.query_pieces.proofs.spots.is_word.Lts as lts
-use Rattle.query_signs.proofs.expected.part.Reads as part-reads
-use Rattle.text.proofs.compare.same_bytes.Reads as same-bytes-reads
-
-enum-known-t : tie.Need-enum-known-t
-enum-known-t c = search needs
-
-part-requires : tie.Need-part-requires
-part-requires c κs = search needs
-
-same-bytes-requires : tie.Need-same-bytes-requires
-same-bytes-requires c κs = search needs
-
-enum-told : tie.Need-enum-told
-enum-told c = search needs
-
-enum-told-2 : tie.Need-enum-told-2
-enum-told-2 c = search needs
-
-enum-told-3 : tie.Need-enum-told-3
-enum-told-3 c = search needs
 
 returns : tie.Need-returns
 unfolding isWord signOf nameAt
@@ -58,12 +36,12 @@ pub is-word-spec : {M : Type 1} → statement M
 is-word-spec =
     tie.close
     (tie.spec
-    enum-known-t
-    part-requires
-    same-bytes-requires
-    enum-told
-    enum-told-2
-    enum-told-3
+    (λ c. search needs)
+    (λ c κs. search needs)
+    (λ c κs. search needs)
+    (λ c. search needs)
+    (λ c. search needs)
+    (λ c. search needs)
     returns
     returns-2
     returns-3

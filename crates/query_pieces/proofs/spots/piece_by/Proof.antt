@@ -2,36 +2,6 @@ use Rattle.query_pieces.proofs.SpotLaws.{step-same, by-spot}
 use borrow.Author.Needs.{needs}
 use Rattle.query_pieces.proofs.spots.piece_by.Statement.{statement}
 use Rattle.query_pieces.proofs.spots.piece_by.Tie as tie
-use Rattle.query_pieces.proofs.spots.piece_by.Reads as reads
-use Rattle.query_pieces.proofs.spots.piece_by.Lts as lts
-use Rattle.query_pieces.proofs.spots.chain_piece.Reads as chain-piece-reads
-use Rattle.query_pieces.proofs.spots.first_piece.Reads as first-piece-reads
-use Rattle.query_pieces.proofs.spots.return_piece.Reads as return-piece-reads
-use Rattle.query_pieces.proofs.spots.where_piece.Reads as where-piece-reads
-
-enum-told : tie.Need-enum-told
-enum-told c = search needs
-
-first-piece-requires : tie.Need-first-piece-requires
-first-piece-requires c κs = search needs
-
-enum-told-2 : tie.Need-enum-told-2
-enum-told-2 c = search needs
-
-chain-piece-requires : tie.Need-chain-piece-requires
-chain-piece-requires c κs = search needs
-
-enum-told-3 : tie.Need-enum-told-3
-enum-told-3 c = search needs
-
-where-piece-requires : tie.Need-where-piece-requires
-where-piece-requires c κs = search needs
-
-enum-told-4 : tie.Need-enum-told-4
-enum-told-4 c = search needs
-
-return-piece-requires : tie.Need-return-piece-requires
-return-piece-requires c κs = search needs
 
 returns : tie.Need-returns
 returns c =
@@ -61,14 +31,14 @@ pub piece-by-spec : {M : Type 1} → statement M
 piece-by-spec =
     tie.close
     (tie.spec
-    enum-told
-    first-piece-requires
-    enum-told-2
-    chain-piece-requires
-    enum-told-3
-    where-piece-requires
-    enum-told-4
-    return-piece-requires
+    (λ c. search needs)
+    (λ c κs. search needs)
+    (λ c. search needs)
+    (λ c κs. search needs)
+    (λ c. search needs)
+    (λ c κs. search needs)
+    (λ c. search needs)
+    (λ c κs. search needs)
     returns
     returns-2
     returns-3

@@ -4,16 +4,6 @@ use mathlib.Core.Path.{sym, _∙_}
 use borrow.Author.Needs.{needs}
 use Rattle.query_pieces.proofs.spots.return_piece.Statement.{statement}
 use Rattle.query_pieces.proofs.spots.return_piece.Tie as tie
-use Rattle.query_pieces.proofs.spots.return_piece.Reads as reads
-use Rattle.query_pieces.proofs.spots.return_piece.Lts as lts
-use Rattle.query_pieces.proofs.parts.returned.Reads as returned-reads
-use Rattle.query_signs.proofs.expected.mark_code.Reads as mark-code-reads
-
-mark-code-requires : tie.Need-mark-code-requires
-mark-code-requires c κs = search needs
-
-returned-requires : tie.Need-returned-requires
-returned-requires c κs = search needs
 
 returns : tie.Need-returns
 returns c =
@@ -33,4 +23,4 @@ returns-2 c =
     }
 
 pub return-piece-spec : {M : Type 1} → statement M
-return-piece-spec = tie.close (tie.spec mark-code-requires returned-requires returns returns-2)
+return-piece-spec = tie.close (tie.spec (λ c κs. search needs) (λ c κs. search needs) returns returns-2)

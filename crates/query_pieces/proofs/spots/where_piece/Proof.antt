@@ -4,21 +4,6 @@ use mathlib.Core.Path.{sym, _∙_}
 use borrow.Author.Needs.{needs}
 use Rattle.query_pieces.proofs.spots.where_piece.Statement.{statement}
 use Rattle.query_pieces.proofs.spots.where_piece.Tie as tie
-use Rattle.query_pieces.proofs.spots.where_piece.Reads as reads
-use Rattle.query_pieces.proofs.spots.where_piece.Lts as lts
-use Rattle.query_pieces.proofs.parts.condition.Reads as condition-reads
-use Rattle.query_pieces.proofs.parts.returned.Reads as returned-reads
-use Rattle.query_pieces.proofs.parts.start.Reads as start-reads
-use Rattle.query_pieces.proofs.spots.is_word.Reads as is-word-reads
-
-slice-aggregate-is-word : tie.Need-slice-aggregate-is-word
-slice-aggregate-is-word c = search needs
-
-is-word-requires : tie.Need-is-word-requires
-is-word-requires c κs = search needs
-
-condition-requires : tie.Need-condition-requires
-condition-requires c κs = search needs
 
 returns : tie.Need-returns
 returns c =
@@ -27,30 +12,12 @@ returns c =
     (where-and (at-args .args .s .now) (at-args .args .t) (at-args .args .q) (sym (c .before .before .is-word .ensures) ∙ c .before .if1 .taken))
     (c .condition .ensures)
 
-slice-aggregate-is-word-2 : tie.Need-slice-aggregate-is-word-2
-slice-aggregate-is-word-2 c = search needs
-
-is-word-requires-2 : tie.Need-is-word-requires-2
-is-word-requires-2 c κs = search needs
-
-start-requires : tie.Need-start-requires
-start-requires c κs = search needs
-
 returns-2 : tie.Need-returns-2
 returns-2 c =
     let at-args = c .before .before .before .before .before .before .before .before in
     step-same _ _ (at-args .args .s .now) (at-args .args .q) (c .start .result)
     (where-match (at-args .args .s .now) (at-args .args .t) (at-args .args .q) (sym (c .before .before .is-word2 .ensures) ∙ c .before .if2 .taken))
     (c .start .ensures)
-
-slice-aggregate-is-word-3 : tie.Need-slice-aggregate-is-word-3
-slice-aggregate-is-word-3 c = search needs
-
-is-word-requires-3 : tie.Need-is-word-requires-3
-is-word-requires-3 c κs = search needs
-
-returned-requires : tie.Need-returned-requires
-returned-requires c κs = search needs
 
 returns-3 : tie.Need-returns-3
 returns-3 c =
@@ -77,16 +44,16 @@ pub where-piece-spec : {M : Type 1} → statement M
 where-piece-spec =
     tie.close
     (tie.spec
-    slice-aggregate-is-word
-    is-word-requires
-    condition-requires
+    (λ c. search needs)
+    (λ c κs. search needs)
+    (λ c κs. search needs)
     returns
-    slice-aggregate-is-word-2
-    is-word-requires-2
-    start-requires
+    (λ c. search needs)
+    (λ c κs. search needs)
+    (λ c κs. search needs)
     returns-2
-    slice-aggregate-is-word-3
-    is-word-requires-3
-    returned-requires
+    (λ c. search needs)
+    (λ c κs. search needs)
+    (λ c κs. search needs)
     returns-3
     returns-4)

@@ -3,20 +3,6 @@ use mathlib.Core.Path.{sym, ap}
 use borrow.Author.Needs.{needs}
 use Rattle.query_signs.proofs.expected.mark_code.Statement.{statement}
 use Rattle.query_signs.proofs.expected.mark_code.Tie as tie
-use Rattle.query_signs.proofs.expected.mark_code.Reads as reads
-use Rattle.query_signs.proofs.expected.mark_code.Lts as lts
-
-enum-told : tie.Need-enum-told
-enum-told c = search needs
-
-enum-told-2 : tie.Need-enum-told-2
-enum-told-2 c = search needs
-
-enum-told-3 : tie.Need-enum-told-3
-enum-told-3 c = search needs
-
-enum-known-t : tie.Need-enum-known-t
-enum-known-t c = search needs
 
 returns : tie.Need-returns
 unfolding codeOf
@@ -37,4 +23,4 @@ returns-4 c = sym (ap codeOf (c .before .t .given .1))
 pub mark-code-spec : {M : Type 1} → statement M
 mark-code-spec =
     tie.close
-    (tie.spec enum-told enum-told-2 enum-told-3 enum-known-t returns returns-2 returns-3 returns-4)
+    (tie.spec (λ c. search needs) (λ c. search needs) (λ c. search needs) (λ c. search needs) returns returns-2 returns-3 returns-4)

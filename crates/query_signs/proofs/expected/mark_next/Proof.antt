@@ -9,18 +9,12 @@ use borrow.Author.Needs.{needs}
 use Rattle.query_signs.proofs.expected.mark_next.Statement.{statement}
 use Rattle.query_signs.proofs.expected.mark_next.Tie as tie
 
-blanks-end-requires : tie.Need-blanks-end-requires
-blanks-end-requires c κs = search needs
-
 returns : tie.Need-returns
 returns c =
     let at-args = c .before .before .before in
     mark-end (at-args .args .chain) (at-args .args .close) (at-args .args .s .now) (at-args .args .from) (at-args .args .code)
     (none-left (at-args .args .chain) (at-args .args .close) (at-args .args .s .now) (at-args .args .from) (c .before .blanks-end .result)
     (c .before .blanks-end .ensures) (c .if1 .taken))
-
-mark-at-requires : tie.Need-mark-at-requires
-mark-at-requires c κs = search needs
 
 returns-2 : tie.Need-returns-2
 returns-2 c =
@@ -29,9 +23,6 @@ returns-2 c =
     (c .before .before .before .blanks-end .ensures) (c .before .before .if1 .left) (at-args .args .code) (c .before .mark-at .result)
     (c .before .mark-at .ensures) (c .if2 .taken)
 
-starts-number-requires : tie.Need-starts-number-requires
-starts-number-requires c κs = search needs
-
 returns-3 : tie.Need-returns-3
 returns-3 c =
     let at-if1 = c .before .before .before .before in
@@ -39,9 +30,6 @@ returns-3 c =
     let at-args = at-blanks-end .before .before in
     mark-number (at-args .args .chain) (at-args .args .close) (at-args .args .s .now) (at-args .args .from) (at-blanks-end .blanks-end .result)
     (at-blanks-end .blanks-end .ensures) (at-if1 .if1 .left) (at-args .args .code) (sym (c .before .starts-number .ensures) ∙ c .if3 .taken)
-
-mark-size-requires : tie.Need-mark-size-requires
-mark-size-requires c κs = search needs
 
 add-t10 : tie.Need-add-t10
 add-t10 c = omega (arith, c .mark-size .ensures, mark-small (c .before .before .before .before .before .before .before .before .args .code))
@@ -61,12 +49,12 @@ pub mark-next-spec : {M : Type 1} → statement M
 mark-next-spec =
     tie.close
     (tie.spec
-    blanks-end-requires
+    (λ c κs. search needs)
     returns
-    mark-at-requires
+    (λ c κs. search needs)
     returns-2
-    starts-number-requires
+    (λ c κs. search needs)
     returns-3
-    mark-size-requires
+    (λ c κs. search needs)
     add-t10
     returns-4)

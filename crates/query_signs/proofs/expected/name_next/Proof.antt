@@ -9,30 +9,12 @@ use borrow.Author.Needs.{needs}
 use Rattle.query_signs.proofs.expected.name_next.Statement.{statement}
 use Rattle.query_signs.proofs.expected.name_next.Tie as tie
 
-blanks-end-requires : tie.Need-blanks-end-requires
-blanks-end-requires c κs = search needs
-
-peek-requires : tie.Need-peek-requires
-peek-requires c κs = search needs
-
-is-letter-requires : tie.Need-is-letter-requires
-is-letter-requires c κs = search needs
-
 returns : tie.Need-returns
 returns c =
     let at-args = c .before .before .before .before .before in
     name-other (at-args .args .chain) (at-args .args .close) (at-args .args .s .now) (at-args .args .from) (c .before .before .before .blanks-end .result)
     (c .before .before .before .blanks-end .ensures)
     (ap isLetter (sym (c .before .before .peek .ensures)) ∙ sym (c .before .is-letter .ensures) ∙ not-true (c .before .is-letter .result) (c .if1 .taken))
-
-word-requires : tie.Need-word-requires
-word-requires c κs = search needs
-
-enum-known-q : tie.Need-enum-known-q
-enum-known-q c = search needs
-
-enum-told : tie.Need-enum-told
-enum-told c = search needs
 
 returns-2 : tie.Need-returns-2
 returns-2 c =
@@ -43,9 +25,6 @@ returns-2 c =
     name-long (at-args .args .chain) (at-args .args .close) (at-args .args .s .now) (at-args .args .from) (at-blanks-end .blanks-end .result)
     (at-blanks-end .blanks-end .ensures) (ap isLetter (sym (at-peek .peek .ensures)) ∙ sym (at-is-letter .is-letter .ensures)
     ∙ not-false (at-is-letter .is-letter .result) (c .before .before .before .if1 .left)) (sym (c .enum-told .given .1) ∙ c .before .before .word .ensures)
-
-touches-requires : tie.Need-touches-requires
-touches-requires c κs = search needs
 
 returns-3 : tie.Need-returns-3
 returns-3 c =
@@ -111,9 +90,6 @@ part-is-name-end c =
           (sym (c .before .before .before .q .given .1) ∙ at-word .word .ensures),
     )
 
-is-name-requires : tie.Need-is-name-requires
-is-name-requires c κs = search needs
-
 sub-t16 : tie.Need-sub-t16
 sub-t16 c =
     let at-q = c .before .before .before .before .before .before in
@@ -167,20 +143,20 @@ pub name-next-spec : {M : Type 1} → statement M
 name-next-spec =
     tie.close
     (tie.spec
-    blanks-end-requires
-    peek-requires
-    is-letter-requires
+    (λ c κs. search needs)
+    (λ c κs. search needs)
+    (λ c κs. search needs)
     returns
-    word-requires
-    enum-known-q
-    enum-told
+    (λ c κs. search needs)
+    (λ c. search needs)
+    (λ c. search needs)
     returns-2
-    touches-requires
+    (λ c κs. search needs)
     returns-3
     sub-is-name
     part-is-name-start
     part-is-name-end
-    is-name-requires
+    (λ c κs. search needs)
     sub-t16
     returns-4
     returns-5)

@@ -5,32 +5,12 @@ use mathlib.Core.Path.{sym, ap, subst, _∙_}
 use borrow.Author.Needs.{needs}
 use Rattle.query_signs.proofs.expected.relation_next.Statement.{statement}
 use Rattle.query_signs.proofs.expected.relation_next.Tie as tie
-use Rattle.query_signs.proofs.expected.relation_next.Reads as reads
-use Rattle.query_signs.proofs.expected.relation_next.Lts as lts
-use Rattle.query_signs.proofs.expected.mark_code.Reads as mark-code-reads
-use Rattle.query_signs.proofs.expected.relation_or.Reads as relation-or-reads
-use Rattle.query_signs.proofs.reading.next_sign.Reads as next-sign-reads
-
-next-sign-requires : tie.Need-next-sign-requires
-next-sign-requires c κs = search needs
-
-enum-known-t : tie.Need-enum-known-t
-enum-known-t c = search needs
-
-enum-told : tie.Need-enum-told
-enum-told c = search needs
 
 returns : tie.Need-returns
 returns c =
     let at-args = c .before .before .before .before in
     relation-end (at-args .args .close) (at-args .args .s .now) (at-args .args .from) (c .before .before .next-sign .result)
     (c .before .before .next-sign .ensures) (c .enum-told .given .1)
-
-mark-code-requires : tie.Need-mark-code-requires
-mark-code-requires c κs = search needs
-
-relation-or-requires : tie.Need-relation-or-requires
-relation-or-requires c κs = search needs
 
 returns-2 : tie.Need-returns-2
 returns-2 c =
@@ -46,10 +26,10 @@ pub relation-next-spec : {M : Type 1} → statement M
 relation-next-spec =
     tie.close
     (tie.spec
-    next-sign-requires
-    enum-known-t
-    enum-told
+    (λ c κs. search needs)
+    (λ c. search needs)
+    (λ c. search needs)
     returns
-    mark-code-requires
-    relation-or-requires
+    (λ c κs. search needs)
+    (λ c κs. search needs)
     returns-2)

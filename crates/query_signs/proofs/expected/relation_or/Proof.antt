@@ -2,8 +2,6 @@ use Rattle.query_signs.specs.Expected.{relationOr}
 use borrow.Author.Tests.{eq-eqb, ne-eqb}
 use Rattle.query_signs.proofs.expected.relation_or.Statement.{statement}
 use Rattle.query_signs.proofs.expected.relation_or.Tie as tie
-use Rattle.query_signs.proofs.expected.relation_or.Reads as reads
-use Rattle.query_signs.proofs.expected.relation_or.Lts as lts
 
 returns : tie.Need-returns
 unfolding relationOr

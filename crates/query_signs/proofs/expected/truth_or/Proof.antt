@@ -5,29 +5,10 @@ use mathlib.Core.Path.{sym, ap, _∙_}
 use borrow.Author.Needs.{needs}
 use Rattle.query_signs.proofs.expected.truth_or.Statement.{statement}
 use Rattle.query_signs.proofs.expected.truth_or.Tie as tie
-use Rattle.query_signs.proofs.expected.truth_or.Reads as reads
-use Rattle.query_signs.proofs.expected.truth_or.Lts as lts
-use Rattle.query_signs.proofs.expected.part.Reads as part-reads
-use Rattle.text.proofs.compare.same_bytes.Reads as same-bytes-reads
-
-part-requires : tie.Need-part-requires
-part-requires c κs = search needs
-
-slice-aggregate-same-bytes : tie.Need-slice-aggregate-same-bytes
-slice-aggregate-same-bytes c = search needs
-
-same-bytes-requires : tie.Need-same-bytes-requires
-same-bytes-requires c κs = search needs
 
 returns : tie.Need-returns
 unfolding truthOr nameAt
 returns c = rw (ap (λ w. same w (bytesOf "true")) (sym (c .before .before .before .part .ensures)) ∙ sym (c .before .same-bytes .ensures) ∙ c .if1 .taken)
-
-slice-aggregate-same-bytes-2 : tie.Need-slice-aggregate-same-bytes-2
-slice-aggregate-same-bytes-2 c = search needs
-
-same-bytes-requires-2 : tie.Need-same-bytes-requires-2
-same-bytes-requires-2 c κs = search needs
 
 returns-2 : tie.Need-returns-2
 unfolding truthOr nameAt
@@ -57,11 +38,11 @@ pub truth-or-spec : {M : Type 1} → statement M
 truth-or-spec =
     tie.close
     (tie.spec
-    part-requires
-    slice-aggregate-same-bytes
-    same-bytes-requires
+    (λ c κs. search needs)
+    (λ c. search needs)
+    (λ c κs. search needs)
     returns
-    slice-aggregate-same-bytes-2
-    same-bytes-requires-2
+    (λ c. search needs)
+    (λ c κs. search needs)
     returns-2
     returns-3)

@@ -6,40 +6,12 @@ use mathlib.Core.Path.{sym, ap, subst, _∙_}
 use borrow.Author.Needs.{needs}
 use Rattle.query_signs.proofs.expected.value_next.Statement.{statement}
 use Rattle.query_signs.proofs.expected.value_next.Tie as tie
-use Rattle.query_signs.proofs.expected.value_next.Reads as reads
-use Rattle.query_signs.proofs.expected.value_next.Lts as lts
-use Rattle.query_signs.proofs.expected.truth_or.Reads as truth-or-reads
-use Rattle.query_signs.proofs.reading.next_sign.Reads as next-sign-reads
-
-next-sign-requires : tie.Need-next-sign-requires
-next-sign-requires c κs = search needs
-
-enum-known-t : tie.Need-enum-known-t
-enum-known-t c = search needs
-
-enum-told : tie.Need-enum-told
-enum-told c = search needs
 
 returns : tie.Need-returns
 returns c =
     let at-args = c .before .before .before .before in
     value-end (at-args .args .close) (at-args .args .s .now) (at-args .args .from) (c .before .before .next-sign .result)
     (c .before .before .next-sign .ensures) (c .enum-told .given .1)
-
-enum-known-t-2 : tie.Need-enum-known-t-2
-enum-known-t-2 c = search needs
-
-truth-or-requires : tie.Need-truth-or-requires
-truth-or-requires c κs = search needs
-
-enum-known-t-3 : tie.Need-enum-known-t-3
-enum-known-t-3 c = search needs
-
-enum-known-t-4 : tie.Need-enum-known-t-4
-enum-known-t-4 c = search needs
-
-enum-told-2 : tie.Need-enum-told-2
-enum-told-2 c = search needs
 
 returns-2 : tie.Need-returns-2
 returns-2 c =
@@ -82,15 +54,15 @@ pub value-next-spec : {M : Type 1} → statement M
 value-next-spec =
     tie.close
     (tie.spec
-    next-sign-requires
-    enum-known-t
-    enum-told
+    (λ c κs. search needs)
+    (λ c. search needs)
+    (λ c. search needs)
     returns
-    enum-known-t-2
-    truth-or-requires
-    enum-known-t-3
-    enum-known-t-4
-    enum-told-2
+    (λ c. search needs)
+    (λ c κs. search needs)
+    (λ c. search needs)
+    (λ c. search needs)
+    (λ c. search needs)
     returns-2
     returns-3
     returns-4

@@ -5,17 +5,11 @@ use borrow.Author.Needs.{needs}
 use Rattle.query_signs.proofs.kinds.adjoins.Statement.{statement}
 use Rattle.query_signs.proofs.kinds.adjoins.Tie as tie
 
-touches-requires : tie.Need-touches-requires
-touches-requires c κs = search needs
-
 returns : tie.Need-returns
 returns c = rw (sym (c .before .touches .ensures) ∙ not-true (c .before .touches .result) (c .if1 .taken))
-
-is-wordy-requires : tie.Need-is-wordy-requires
-is-wordy-requires c κs = search needs
 
 returns-2 : tie.Need-returns-2
 returns-2 c = rw (sym (c .before .before .touches .ensures) ∙ not-false (c .before .before .touches .result) (c .before .if1 .left)) (c .is-wordy .ensures)
 
 pub adjoins-spec : {M : Type 1} → statement M
-adjoins-spec = tie.close (tie.spec touches-requires returns is-wordy-requires returns-2)
+adjoins-spec = tie.close (tie.spec (λ c κs. search needs) returns (λ c κs. search needs) returns-2)

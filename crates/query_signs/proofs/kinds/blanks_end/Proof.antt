@@ -9,10 +9,6 @@ use mathlib.Core.Path.{_≡_, refl, sym, ap, _∙_}
 use borrow.Author.Needs.{needs}
 use Rattle.query_signs.proofs.kinds.blanks_end.Statement.{statement}
 use Rattle.query_signs.proofs.kinds.blanks_end.Tie as tie
-use Rattle.query_signs.proofs.kinds.blanks_end.Reads as reads
-use Rattle.query_signs.proofs.kinds.blanks_end.Lts as lts
-use Rattle.query_signs.proofs.kinds.is_blank.Reads as is-blank-reads
-use Rattle.text.proofs.bytes.peek.Reads as peek-reads
 
 abbrev Inv-loop : tie.InvT-loop
 Inv-loop s from i₀ i = past isBlank s i ≡ past isBlank s from
@@ -26,12 +22,6 @@ passes c = ap isBlank (sym (c .before .before .peek .ensures)) ∙ sym (c .befor
 
 loop-holds : tie.Need-loop-holds Inv-loop μ-loop
 loop-holds c = refl
-
-peek-requires : tie.Need-peek-requires Inv-loop μ-loop
-peek-requires c κs = search needs
-
-is-blank-requires : tie.Need-is-blank-requires Inv-loop μ-loop
-is-blank-requires c κs = search needs
 
 add-i : tie.Need-add-i Inv-loop μ-loop
 unfolding isBlank
@@ -60,8 +50,8 @@ blanks-end-spec =
     Inv-loop
     μ-loop
     loop-holds
-    peek-requires
-    is-blank-requires
+    (λ c κs. search needs)
+    (λ c κs. search needs)
     add-i
     loop-less
     loop-again

@@ -2,8 +2,6 @@ use Rattle.query_signs.specs.Reads.{isBlank}
 use borrow.Author.Tests.{eq-eqb, ne-eqb}
 use Rattle.query_signs.proofs.kinds.is_blank.Statement.{statement}
 use Rattle.query_signs.proofs.kinds.is_blank.Tie as tie
-use Rattle.query_signs.proofs.kinds.is_blank.Reads as reads
-use Rattle.query_signs.proofs.kinds.is_blank.Lts as lts
 
 returns : tie.Need-returns
 unfolding isBlank

@@ -3,20 +3,6 @@ use mathlib.Core.Path.{sym, ap}
 use borrow.Author.Needs.{needs}
 use Rattle.query_signs.proofs.kinds.is_wordy.Statement.{statement}
 use Rattle.query_signs.proofs.kinds.is_wordy.Tie as tie
-use Rattle.query_signs.proofs.kinds.is_wordy.Reads as reads
-use Rattle.query_signs.proofs.kinds.is_wordy.Lts as lts
-
-enum-told : tie.Need-enum-told
-enum-told c = search needs
-
-enum-told-2 : tie.Need-enum-told-2
-enum-told-2 c = search needs
-
-enum-told-3 : tie.Need-enum-told-3
-enum-told-3 c = search needs
-
-enum-told-4 : tie.Need-enum-told-4
-enum-told-4 c = search needs
 
 returns : tie.Need-returns
 unfolding isWordy
@@ -37,4 +23,4 @@ returns-4 c = sym (ap isWordy (c .enum-told4 .given .1))
 pub is-wordy-spec : {M : Type 1} → statement M
 is-wordy-spec =
     tie.close
-    (tie.spec enum-told enum-told-2 enum-told-3 enum-told-4 returns returns-2 returns-3 returns-4)
+    (tie.spec (λ c. search needs) (λ c. search needs) (λ c. search needs) (λ c. search needs) returns returns-2 returns-3 returns-4)

@@ -3,16 +3,6 @@ use mathlib.Core.Path.{sym, _∙_}
 use borrow.Author.Needs.{needs}
 use Rattle.query_signs.proofs.kinds.starts_number.Statement.{statement}
 use Rattle.query_signs.proofs.kinds.starts_number.Tie as tie
-use Rattle.query_signs.proofs.kinds.starts_number.Reads as reads
-use Rattle.query_signs.proofs.kinds.starts_number.Lts as lts
-use Rattle.text.proofs.bytes.is_digit.Reads as is-digit-reads
-use Rattle.text.proofs.bytes.peek.Reads as peek-reads
-
-peek-requires : tie.Need-peek-requires
-peek-requires c κs = search needs
-
-is-digit-requires : tie.Need-is-digit-requires
-is-digit-requires c κs = search needs
 
 returns : tie.Need-returns
 returns c =
@@ -25,15 +15,6 @@ returns-2 c =
     let at-args = c .before .before .before .before .before in
     number-none (at-args .args .s .now) (at-args .args .at) (c .before .before .before .peek .result) (c .before .before .before .peek .ensures)
     (sym (c .before .before .is-digit .ensures) ∙ c .before .if1 .left) (c .if2 .taken)
-
-add-peek : tie.Need-add-peek
-add-peek c = search needs
-
-peek-requires-2 : tie.Need-peek-requires-2
-peek-requires-2 c κs = search needs
-
-is-digit-requires-2 : tie.Need-is-digit-requires-2
-is-digit-requires-2 c κs = search needs
 
 returns-3 : tie.Need-returns-3
 returns-3 c =
@@ -48,11 +29,11 @@ pub starts-number-spec : {M : Type 1} → statement M
 starts-number-spec =
     tie.close
     (tie.spec
-    peek-requires
-    is-digit-requires
+    (λ c κs. search needs)
+    (λ c κs. search needs)
     returns
     returns-2
-    add-peek
-    peek-requires-2
-    is-digit-requires-2
+    (λ c. search needs)
+    (λ c κs. search needs)
+    (λ c κs. search needs)
     returns-3)

@@ -2,8 +2,6 @@ use Rattle.query_signs.specs.Marks.{isArrow}
 use borrow.Author.Tests.{eq-eqb, ne-eqb, not-true, not-false}
 use Rattle.query_signs.proofs.marks.is_arrow.Statement.{statement}
 use Rattle.query_signs.proofs.marks.is_arrow.Tie as tie
-use Rattle.query_signs.proofs.marks.is_arrow.Reads as reads
-use Rattle.query_signs.proofs.marks.is_arrow.Lts as lts
 
 returns : tie.Need-returns
 returns c = simp (not-true (c .before .args .chain) (c .if1 .taken))

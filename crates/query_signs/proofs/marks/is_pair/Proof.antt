@@ -2,8 +2,6 @@ use Rattle.query_signs.specs.Marks.{isPair}
 use borrow.Author.Tests.{eq-eqb, ne-eqb}
 use Rattle.query_signs.proofs.marks.is_pair.Statement.{statement}
 use Rattle.query_signs.proofs.marks.is_pair.Tie as tie
-use Rattle.query_signs.proofs.marks.is_pair.Reads as reads
-use Rattle.query_signs.proofs.marks.is_pair.Lts as lts
 
 returns : tie.Need-returns
 unfolding isPair

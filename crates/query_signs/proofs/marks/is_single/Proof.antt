@@ -2,8 +2,6 @@ use Rattle.query_signs.specs.Marks.{isSingle}
 use borrow.Author.Tests.{lt-ltb, le-ltb, le-leb, lt-leb, eq-eqb, ne-eqb}
 use Rattle.query_signs.proofs.marks.is_single.Statement.{statement}
 use Rattle.query_signs.proofs.marks.is_single.Tie as tie
-use Rattle.query_signs.proofs.marks.is_single.Reads as reads
-use Rattle.query_signs.proofs.marks.is_single.Lts as lts
 
 returns : tie.Need-returns
 unfolding isSingle

@@ -5,26 +5,11 @@ use mathlib.Core.Path.{sym, _∙_}
 use borrow.Author.Needs.{needs}
 use Rattle.query_signs.proofs.marks.mark_at.Statement.{statement}
 use Rattle.query_signs.proofs.marks.mark_at.Tie as tie
-use Rattle.query_signs.proofs.marks.mark_at.Reads as reads
-use Rattle.query_signs.proofs.marks.mark_at.Lts as lts
-use Rattle.query_signs.proofs.marks.is_arrow.Reads as is-arrow-reads
-use Rattle.query_signs.proofs.marks.is_pair.Reads as is-pair-reads
-use Rattle.query_signs.proofs.marks.is_single.Reads as is-single-reads
-use Rattle.text.proofs.bytes.peek.Reads as peek-reads
-
-peek-requires : tie.Need-peek-requires
-peek-requires c κs = search needs
 
 mul-pair : tie.Need-mul-pair
 mul-pair c =
     let at-args = c .before .before in
     omega (arith, c .peek .ensures, peek-bound (at-args .args .s .now) (at-args .args .at) (c .before .shared-slice-known .given (at-args .args .at) .fits))
-
-add-peek : tie.Need-add-peek
-add-peek c = search needs
-
-peek-requires-2 : tie.Need-peek-requires-2
-peek-requires-2 c κs = search needs
 
 add-pair : tie.Need-add-pair
 add-pair c =
@@ -39,9 +24,6 @@ add-pair c =
           (at-args .args .at + 1) (c .before .before .shared-slice-known .given (at-args .args .at + 1) .fits),
     )
 
-is-arrow-requires : tie.Need-is-arrow-requires
-is-arrow-requires c κs = search needs
-
 returns : tie.Need-returns
 returns c =
     let at-shared-slice-known = c .before .before .before .before in
@@ -49,9 +31,6 @@ returns c =
     mark-arrow (at-args .args .s .now) (at-args .args .at) (at-args .pre) (λ i. at-shared-slice-known .shared-slice-known .given i .fits)
     (c .before .before .before .peek .result) (c .before .before .peek2 .result) (c .before .before .before .peek .ensures)
     (c .before .before .peek2 .ensures) (at-args .args .chain) (sym (c .before .is-arrow .ensures) ∙ c .if1 .taken)
-
-is-pair-requires : tie.Need-is-pair-requires
-is-pair-requires c κs = search needs
 
 returns-2 : tie.Need-returns-2
 returns-2 c =
@@ -62,9 +41,6 @@ returns-2 c =
     mark-pair (at-args .args .s .now) (at-args .args .at) (at-args .pre) (λ i. at-shared-slice-known .shared-slice-known .given i .fits)
     (at-peek .peek .result) (at-peek2 .peek2 .result) (at-peek .peek .ensures) (at-peek2 .peek2 .ensures) (at-args .args .chain)
     (sym (c .before .before .before .is-arrow .ensures) ∙ c .before .before .if1 .left) (sym (c .before .is-pair .ensures) ∙ c .if2 .taken)
-
-is-single-requires : tie.Need-is-single-requires
-is-single-requires c κs = search needs
 
 returns-3 : tie.Need-returns-3
 returns-3 c =
@@ -96,15 +72,15 @@ pub mark-at-spec : {M : Type 1} → statement M
 mark-at-spec =
     tie.close
     (tie.spec
-    peek-requires
+    (λ c κs. search needs)
     mul-pair
-    add-peek
-    peek-requires-2
+    (λ c. search needs)
+    (λ c κs. search needs)
     add-pair
-    is-arrow-requires
+    (λ c κs. search needs)
     returns
-    is-pair-requires
+    (λ c κs. search needs)
     returns-2
-    is-single-requires
+    (λ c κs. search needs)
     returns-3
     returns-4)

@@ -2,8 +2,6 @@ use Rattle.query_signs.specs.Marks.{markSize}
 use borrow.Author.Tests.{lt-ltb, le-ltb}
 use Rattle.query_signs.proofs.marks.mark_size.Statement.{statement}
 use Rattle.query_signs.proofs.marks.mark_size.Tie as tie
-use Rattle.query_signs.proofs.marks.mark_size.Reads as reads
-use Rattle.query_signs.proofs.marks.mark_size.Lts as lts
 
 returns : tie.Need-returns
 unfolding markSize

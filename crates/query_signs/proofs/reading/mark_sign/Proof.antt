@@ -3,13 +3,6 @@ use native.Mathlib.Omega.{arith}
 use borrow.Author.Needs.{needs}
 use Rattle.query_signs.proofs.reading.mark_sign.Statement.{statement}
 use Rattle.query_signs.proofs.reading.mark_sign.Tie as tie
-use Rattle.query_signs.proofs.reading.mark_sign.Reads as reads
-use Rattle.query_signs.proofs.reading.mark_sign.Lts as lts
-use Rattle.query_signs.proofs.marks.mark_at.Reads as mark-at-reads
-use Rattle.query_signs.proofs.marks.mark_size.Reads as mark-size-reads
-
-mark-at-requires : tie.Need-mark-at-requires
-mark-at-requires c κs = search needs
 
 returns : tie.Need-returns
 returns c =
@@ -19,9 +12,6 @@ returns c =
           (c .before .mark-at .ensures) (c .if1 .taken);
       part = tt;
     }
-
-mark-size-requires : tie.Need-mark-size-requires
-mark-size-requires c κs = search needs
 
 add-t8 : tie.Need-add-t8
 add-t8 c = omega (arith, c .mark-size .ensures, mark-small (c .before .before .mark-at .result))
@@ -36,4 +26,4 @@ returns-2 c =
     }
 
 pub mark-sign-spec : {M : Type 1} → statement M
-mark-sign-spec = tie.close (tie.spec mark-at-requires returns mark-size-requires add-t8 returns-2)
+mark-sign-spec = tie.close (tie.spec (λ c κs. search needs) returns (λ c κs. search needs) add-t8 returns-2)

@@ -6,14 +6,6 @@ use mathlib.Core.Path.{sym, ap, _∙_, subst}
 use borrow.Author.Needs.{needs}
 use Rattle.query_signs.proofs.reading.next_sign.Statement.{statement}
 use Rattle.query_signs.proofs.reading.next_sign.Tie as tie
-use Rattle.query_signs.proofs.reading.next_sign.Reads as reads
-use Rattle.query_signs.proofs.reading.next_sign.Lts as lts
-use Rattle.query_signs.proofs.kinds.adjoins.Reads as adjoins-reads
-use Rattle.query_signs.proofs.kinds.blanks_end.Reads as blanks-end-reads
-use Rattle.query_signs.proofs.reading.sign_at.Reads as sign-at-reads
-
-blanks-end-requires : tie.Need-blanks-end-requires
-blanks-end-requires c κs = search needs
 
 returns : tie.Need-returns
 unfolding firstOf
@@ -25,15 +17,6 @@ returns c =
       moves = tt;
       stands = λ o. tt;
     }
-
-sign-at-requires : tie.Need-sign-at-requires
-sign-at-requires c κs = search needs
-
-enum-known-t : tie.Need-enum-known-t
-enum-known-t c = search needs
-
-enum-told : tie.Need-enum-told
-enum-told c = search needs
 
 returns-2 : tie.Need-returns-2
 unfolding firstOf
@@ -47,9 +30,6 @@ returns-2 c =
       moves = tt;
       stands = λ o. tt;
     }
-
-adjoins-requires : tie.Need-adjoins-requires
-adjoins-requires c κs = search needs
 
 returns-3 : tie.Need-returns-3
 unfolding firstOf
@@ -86,12 +66,12 @@ pub next-sign-spec : {M : Type 1} → statement M
 next-sign-spec =
     tie.close
     (tie.spec
-    blanks-end-requires
+    (λ c κs. search needs)
     returns
-    sign-at-requires
-    enum-known-t
-    enum-told
+    (λ c κs. search needs)
+    (λ c. search needs)
+    (λ c. search needs)
     returns-2
-    adjoins-requires
+    (λ c κs. search needs)
     returns-3
     returns-4)

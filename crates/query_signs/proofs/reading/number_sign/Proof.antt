@@ -3,18 +3,6 @@ use mathlib.Core.Path.{sym, _∙_}
 use borrow.Author.Needs.{needs}
 use Rattle.query_signs.proofs.reading.number_sign.Statement.{statement}
 use Rattle.query_signs.proofs.reading.number_sign.Tie as tie
-use Rattle.query_signs.proofs.reading.number_sign.Reads as reads
-use Rattle.query_signs.proofs.reading.number_sign.Lts as lts
-use Rattle.text.proofs.numbers.whole.Reads as whole-reads
-
-whole-requires : tie.Need-whole-requires
-whole-requires c κs = search needs
-
-enum-known-n : tie.Need-enum-known-n
-enum-known-n c = search needs
-
-enum-told : tie.Need-enum-told
-enum-told c = search needs
 
 returns : tie.Need-returns
 returns c =
@@ -31,4 +19,4 @@ returns-2 c =
     }
 
 pub number-sign-spec : {M : Type 1} → statement M
-number-sign-spec = tie.close (tie.spec whole-requires enum-known-n enum-told returns returns-2)
+number-sign-spec = tie.close (tie.spec (λ c κs. search needs) (λ c. search needs) (λ c. search needs) returns returns-2)

@@ -4,24 +4,6 @@ use mathlib.Core.Path.{sym, ap, _∙_}
 use borrow.Author.Needs.{needs}
 use Rattle.query_signs.proofs.reading.sign_at.Statement.{statement}
 use Rattle.query_signs.proofs.reading.sign_at.Tie as tie
-use Rattle.query_signs.proofs.reading.sign_at.Reads as reads
-use Rattle.query_signs.proofs.reading.sign_at.Lts as lts
-use Rattle.query_signs.proofs.kinds.starts_number.Reads as starts-number-reads
-use Rattle.query_signs.proofs.reading.mark_sign.Reads as mark-sign-reads
-use Rattle.query_signs.proofs.reading.number_sign.Reads as number-sign-reads
-use Rattle.query_signs.proofs.reading.text_sign.Reads as text-sign-reads
-use Rattle.query_signs.proofs.reading.word_sign.Reads as word-sign-reads
-use Rattle.text.proofs.bytes.is_letter.Reads as is-letter-reads
-use Rattle.text.proofs.bytes.peek.Reads as peek-reads
-
-peek-requires : tie.Need-peek-requires
-peek-requires c κs = search needs
-
-is-letter-requires : tie.Need-is-letter-requires
-is-letter-requires c κs = search needs
-
-word-sign-requires : tie.Need-word-sign-requires
-word-sign-requires c κs = search needs
 
 returns : tie.Need-returns
 returns c =
@@ -32,12 +14,6 @@ returns c =
           (c .word-sign .ensures .got);
       part = c .word-sign .ensures .part;
     }
-
-starts-number-requires : tie.Need-starts-number-requires
-starts-number-requires c κs = search needs
-
-number-sign-requires : tie.Need-number-sign-requires
-number-sign-requires c κs = search needs
 
 returns-2 : tie.Need-returns-2
 returns-2 c =
@@ -50,9 +26,6 @@ returns-2 c =
           (sym (c .before .before .starts-number .ensures) ∙ c .before .if2 .taken) (c .number-sign .ensures .got);
       part = c .number-sign .ensures .part;
     }
-
-text-sign-requires : tie.Need-text-sign-requires
-text-sign-requires c κs = search needs
 
 returns-3 : tie.Need-returns-3
 returns-3 c =
@@ -67,9 +40,6 @@ returns-3 c =
           (c .text-sign .ensures .got);
       part = c .text-sign .ensures .part;
     }
-
-mark-sign-requires : tie.Need-mark-sign-requires
-mark-sign-requires c κs = search needs
 
 returns-4 : tie.Need-returns-4
 returns-4 c =
@@ -89,14 +59,14 @@ pub sign-at-spec : {M : Type 1} → statement M
 sign-at-spec =
     tie.close
     (tie.spec
-    peek-requires
-    is-letter-requires
-    word-sign-requires
+    (λ c κs. search needs)
+    (λ c κs. search needs)
+    (λ c κs. search needs)
     returns
-    starts-number-requires
-    number-sign-requires
+    (λ c κs. search needs)
+    (λ c κs. search needs)
     returns-2
-    text-sign-requires
+    (λ c κs. search needs)
     returns-3
-    mark-sign-requires
+    (λ c κs. search needs)
     returns-4)

@@ -5,26 +5,11 @@ use mathlib.Core.Path.{sym, _∙_}
 use borrow.Author.Needs.{needs}
 use Rattle.query_signs.proofs.reading.text_sign.Statement.{statement}
 use Rattle.query_signs.proofs.reading.text_sign.Tie as tie
-use Rattle.query_signs.proofs.reading.text_sign.Reads as reads
-use Rattle.query_signs.proofs.reading.text_sign.Lts as lts
-use Rattle.text.proofs.quotes.text_value.Reads as text-value-reads
-
-text-value-requires : tie.Need-text-value-requires
-text-value-requires c κs = search needs
-
-enum-known-q : tie.Need-enum-known-q
-enum-known-q c = search needs
-
-enum-told : tie.Need-enum-told
-enum-told c = search needs
 
 returns : tie.Need-returns
 returns c =
     let at-args = c .before .before .before .before in
     record { got = text-none (at-args .args .s .now) (at-args .args .at) (sym (c .enum-told .given .1) ∙ c .before .before .text-value .ensures); part = tt }
-
-add-t5 : tie.Need-add-t5
-add-t5 c = search needs
 
 sub-t6 : tie.Need-sub-t6
 sub-t6 c =
@@ -57,4 +42,4 @@ returns-2 c =
 pub text-sign-spec : {M : Type 1} → statement M
 text-sign-spec =
     tie.close
-    (tie.spec text-value-requires enum-known-q enum-told returns add-t5 sub-t6 sub-t7 returns-2)
+    (tie.spec (λ c κs. search needs) (λ c. search needs) (λ c. search needs) returns (λ c. search needs) sub-t6 sub-t7 returns-2)

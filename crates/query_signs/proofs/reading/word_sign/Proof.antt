@@ -4,18 +4,6 @@ use mathlib.Core.Path.{sym, _∙_}
 use borrow.Author.Needs.{needs}
 use Rattle.query_signs.proofs.reading.word_sign.Statement.{statement}
 use Rattle.query_signs.proofs.reading.word_sign.Tie as tie
-use Rattle.query_signs.proofs.reading.word_sign.Reads as reads
-use Rattle.query_signs.proofs.reading.word_sign.Lts as lts
-use Rattle.text.proofs.words.word.Reads as word-reads
-
-word-requires : tie.Need-word-requires
-word-requires c κs = search needs
-
-enum-known-q : tie.Need-enum-known-q
-enum-known-q c = search needs
-
-enum-told : tie.Need-enum-told
-enum-told c = search needs
 
 returns : tie.Need-returns
 returns c =
@@ -38,4 +26,4 @@ returns-2 c =
     }
 
 pub word-sign-spec : {M : Type 1} → statement M
-word-sign-spec = tie.close (tie.spec word-requires enum-known-q enum-told returns sub-t5 returns-2)
+word-sign-spec = tie.close (tie.spec (λ c κs. search needs) (λ c. search needs) (λ c. search needs) returns sub-t5 returns-2)

@@ -18,12 +18,6 @@ abbrev μ-loop : tie.MeasureT-loop
 loop-holds : tie.Need-loop-holds Inv-loop μ-loop
 loop-holds c = refl
 
-claim-requires : tie.Need-claim-requires Inv-loop μ-loop
-claim-requires c κs = search needs
-
-enum-known-next : tie.Need-enum-known-next Inv-loop μ-loop
-enum-known-next c = search needs
-
 loop-less : tie.Need-loop-less Inv-loop μ-loop
 loop-less c =
     let at-loop = c .before .before .before .before .before in
@@ -38,12 +32,6 @@ loop-again c =
     let at-args = at-loop .before .before in
     read-on (at-args .args .s .now) (at-loop .loop .i) (sym (c .before .next .given .1) ∙ c .before .before .before .claim .ensures) ∙ at-loop .loop .inv
 
-enum-known-e : tie.Need-enum-known-e Inv-loop μ-loop
-enum-known-e c = search needs
-
-only-spaces-requires : tie.Need-only-spaces-requires Inv-loop μ-loop
-only-spaces-requires c κs = search needs
-
 returns : tie.Need-returns Inv-loop μ-loop
 returns c =
     let at-claim = c .before .before .before .before in
@@ -51,9 +39,6 @@ returns c =
     let at-args = at-loop .before .before in
     c .only-spaces .ensures ∙ read-closed (at-args .args .s .now) (at-loop .loop .i) (sym (c .before .before .e .given .1) ∙ at-claim .claim .ensures)
     ∙ at-loop .loop .inv
-
-enum-told : tie.Need-enum-told Inv-loop μ-loop
-enum-told c = search needs
 
 returns-2 : tie.Need-returns-2 Inv-loop μ-loop
 returns-2 c =
@@ -71,13 +56,13 @@ are-claims-spec =
     Inv-loop
     μ-loop
     loop-holds
-    claim-requires
-    enum-known-next
+    (λ c κs. search needs)
+    (λ c. search needs)
     loop-less
     loop-again
-    enum-known-e
-    only-spaces-requires
+    (λ c. search needs)
+    (λ c κs. search needs)
     returns
-    enum-told
+    (λ c. search needs)
     returns-2
     returns-3)

@@ -25,15 +25,6 @@ loop-holds c =
     let at-args = c .before .before in
     left-start (λ (xs : List Claim). mem (at-args .args .name .now) (actorsIn xs)) (at-args .args .s .now) (at-args .args .from)
 
-next-claim-requires : tie.Need-next-claim-requires Inv-loop μ-loop
-next-claim-requires c κs = search needs
-
-enum-known-actor-start : tie.Need-enum-known-actor-start Inv-loop μ-loop
-enum-known-actor-start c = search needs
-
-enum-told : tie.Need-enum-told Inv-loop μ-loop
-enum-told c = search needs
-
 returns : tie.Need-returns Inv-loop μ-loop
 returns c =
     let at-loop = c .before .before .before .before in
@@ -62,9 +53,6 @@ part-same-bytes-end c =
     let at-args = at-loop .before .before .before in
     let h = placed-at (at-args .args .s .now) (at-loop .loop .i) _ (c .before .actor-start .given .1)
     (c .before .before .before .next-claim .ensures .placed) in omega (arith, h .actor .some, h .actor .inside)
-
-same-bytes-requires : tie.Need-same-bytes-requires Inv-loop μ-loop
-same-bytes-requires c κs = search needs
 
 returns-2 : tie.Need-returns-2 Inv-loop μ-loop
 unfolding partOf
@@ -112,14 +100,14 @@ has-actor-spec =
     Inv-loop
     μ-loop
     loop-holds
-    next-claim-requires
-    enum-known-actor-start
-    enum-told
+    (λ c κs. search needs)
+    (λ c. search needs)
+    (λ c. search needs)
     returns
     sub-same-bytes
     part-same-bytes-start
     part-same-bytes-end
-    same-bytes-requires
+    (λ c κs. search needs)
     returns-2
     loop-less
     loop-again

@@ -23,15 +23,6 @@ abbrev μ-loop : tie.MeasureT-loop
 loop-holds : tie.Need-loop-holds Inv-loop μ-loop
 loop-holds c = left-start (λ (xs : List Claim). twice (actorsIn xs)) (c .before .args .s .now) (c .before .args .from)
 
-next-claim-requires : tie.Need-next-claim-requires Inv-loop μ-loop
-next-claim-requires c κs = search needs
-
-enum-known-actor-start : tie.Need-enum-known-actor-start Inv-loop μ-loop
-enum-known-actor-start c = search needs
-
-enum-told : tie.Need-enum-told Inv-loop μ-loop
-enum-told c = search needs
-
 returns : tie.Need-returns Inv-loop μ-loop
 returns c =
     let at-loop = c .before .before .before .before in
@@ -60,9 +51,6 @@ part-has-actor-end c =
     let at-args = at-loop .before .before in
     let h = placed-at (at-args .args .s .now) (at-loop .loop .i) _ (c .before .actor-start .given .1)
     (c .before .before .before .next-claim .ensures .placed) in omega (arith, h .actor .some, h .actor .inside)
-
-has-actor-requires : tie.Need-has-actor-requires Inv-loop μ-loop
-has-actor-requires c κs = search needs
 
 returns-2 : tie.Need-returns-2 Inv-loop μ-loop
 unfolding partOf
@@ -108,14 +96,14 @@ has-twice-spec =
     Inv-loop
     μ-loop
     loop-holds
-    next-claim-requires
-    enum-known-actor-start
-    enum-told
+    (λ c κs. search needs)
+    (λ c. search needs)
+    (λ c. search needs)
     returns
     sub-has-actor
     part-has-actor-start
     part-has-actor-end
-    has-actor-requires
+    (λ c κs. search needs)
     returns-2
     loop-less
     loop-again

@@ -29,15 +29,6 @@ loop-holds c =
     let a = at-args .args in left-start (any
     (isUnknown (actorsAt (a .rules .now) (a .table .now) (a .k)) (nodeNames (bookAt (a .book .now) (a .words .now) (a .counts))))) (a .s .now) (a .from)
 
-next-claim-requires : tie.Need-next-claim-requires Inv-loop μ-loop
-next-claim-requires c κs = search needs
-
-enum-known-actor-start : tie.Need-enum-known-actor-start Inv-loop μ-loop
-enum-known-actor-start c = search needs
-
-enum-told : tie.Need-enum-told Inv-loop μ-loop
-enum-told c = search needs
-
 returns : tie.Need-returns Inv-loop μ-loop
 returns c =
     let at-loop = c .before .before .before .before in
@@ -181,9 +172,9 @@ has-unknown-spec =
     Inv-loop
     μ-loop
     loop-holds
-    next-claim-requires
-    enum-known-actor-start
-    enum-told
+    (λ c κs. search needs)
+    (λ c. search needs)
+    (λ c. search needs)
     returns
     sub-is-actor
     part-is-actor-start

@@ -6,9 +6,6 @@ use Rattle.request.proofs.FaultLaws.{named-test}
 use Rattle.request.proofs.faults.is_node.Statement.{statement}
 use Rattle.request.proofs.faults.is_node.Tie as tie
 
-find-node-requires : tie.Need-find-node-requires
-find-node-requires c κs = search needs
-
 returns : tie.Need-returns
 returns c =
     let at-args = c .before .before .before .before .before in
@@ -17,4 +14,4 @@ returns c =
     (rw (node-names (a .book .now) (a .words .now) (a .counts)) at (c .before .find-node .ensures)))
 
 pub is-node-spec : {M : Type 1} → statement M
-is-node-spec = tie.close (tie.spec find-node-requires returns)
+is-node-spec = tie.close (tie.spec (λ c κs. search needs) returns)

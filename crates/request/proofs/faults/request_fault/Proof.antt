@@ -24,9 +24,6 @@ returns-2 c =
     (bookAt (a .book .now) (a .words .now) (a .counts)) w (a .k) e xs (c .before .before .if1 .left)
     (sym (c .before .has-unknown .ensures xs d) ∙ c .if2 .taken)
 
-has-twice-requires : tie.Need-has-twice-requires
-has-twice-requires c κs = search needs
-
 returns-3 : tie.Need-returns-3
 returns-3 c =
     let at-if1 = c .before .before .before .before in
@@ -34,12 +31,6 @@ returns-3 c =
     let a = at-pre .args in λ w xs e d. is-5 (a .rules .now) (a .table .now) (a .sizes) (at-pre .pre .1)
     (bookAt (a .book .now) (a .words .now) (a .counts)) w (a .k) e xs (at-if1 .if1 .left)
     (sym (c .before .before .before .has-unknown .ensures xs d) ∙ c .before .before .if2 .left) (sym (c .before .has-twice .ensures xs d) ∙ c .if3 .taken)
-
-slice-aggregate-has-actor : tie.Need-slice-aggregate-has-actor
-slice-aggregate-has-actor c = search needs
-
-has-actor-requires : tie.Need-has-actor-requires
-has-actor-requires c κs = search needs
 
 returns-4 : tie.Need-returns-4
 returns-4 c =
@@ -72,9 +63,9 @@ request-fault-spec =
     returns
     has-unknown-requires
     returns-2
-    has-twice-requires
+    (λ c κs. search needs)
     returns-3
-    slice-aggregate-has-actor
-    has-actor-requires
+    (λ c. search needs)
+    (λ c κs. search needs)
     returns-4
     returns-5)

@@ -9,26 +9,8 @@ use Rattle.request.proofs.FormLaws.{unopened, wordless, of-other, unnam
 use Rattle.request.proofs.forms.request_form.Statement.{statement}
 use Rattle.request.proofs.forms.request_form.Tie as tie
 
-open-form-requires : tie.Need-open-form-requires
-open-form-requires c κs = search needs
-
-enum-known-i : tie.Need-enum-known-i
-enum-known-i c = search needs
-
-enum-told : tie.Need-enum-told
-enum-told c = search needs
-
 returns : tie.Need-returns
 returns c = unopened (c .before .before .before .before .args .s .now) (sym (c .enum-told .given .1) ∙ c .before .before .open-form .ensures)
-
-next-word-requires : tie.Need-next-word-requires
-next-word-requires c κs = search needs
-
-enum-known-a : tie.Need-enum-known-a
-enum-known-a c = search needs
-
-enum-told-2 : tie.Need-enum-told-2
-enum-told-2 c = search needs
 
 returns-2 : tie.Need-returns-2
 returns-2 c =
@@ -56,12 +38,6 @@ part-same-bytes-end c =
     let h = placed-at (at-args .args .s .now) _ _ (c .before .a .given .1) (c .before .before .before .next-word .ensures .placed) in
     omega (arith, h .some, h .inside)
 
-slice-aggregate-same-bytes : tie.Need-slice-aggregate-same-bytes
-slice-aggregate-same-bytes c = search needs
-
-same-bytes-requires : tie.Need-same-bytes-requires
-same-bytes-requires c κs = search needs
-
 returns-3 : tie.Need-returns-3
 unfolding partOf
 returns-3 c =
@@ -72,15 +48,6 @@ returns-3 c =
     let at-args = at-open-form .before .before in
     of-other (at-args .args .s .now) (sym (at-i .i .given .1) ∙ at-open-form .open-form .ensures)
     (sym (at-a .a .given .1) ∙ at-next-word .next-word .ensures .is) (sym (c .before .same-bytes .ensures) ∙ not-true _ (c .if1 .taken))
-
-next-name-requires : tie.Need-next-name-requires
-next-name-requires c κs = search needs
-
-enum-known-p : tie.Need-enum-known-p
-enum-known-p c = search needs
-
-enum-told-3 : tie.Need-enum-told-3
-enum-told-3 c = search needs
 
 returns-4 : tie.Need-returns-4
 unfolding partOf
@@ -95,9 +62,6 @@ returns-4 c =
     (sym (at-a .a .given .1) ∙ at-next-word .next-word .ensures .is)
     (sym (at-same-bytes .same-bytes .ensures) ∙ not-false _ (c .before .before .before .if1 .left))
     (sym (c .enum-told3 .given .1) ∙ c .before .before .next-name .ensures .is)
-
-are-claims-requires : tie.Need-are-claims-requires
-are-claims-requires c κs = search needs
 
 returns-5 : tie.Need-returns-5
 unfolding partOf
@@ -135,24 +99,24 @@ pub request-form-spec : {M : Type 1} → statement M
 request-form-spec =
     tie.close
     (tie.spec
-    open-form-requires
-    enum-known-i
-    enum-told
+    (λ c κs. search needs)
+    (λ c. search needs)
+    (λ c. search needs)
     returns
-    next-word-requires
-    enum-known-a
-    enum-told-2
+    (λ c κs. search needs)
+    (λ c. search needs)
+    (λ c. search needs)
     returns-2
     sub-same-bytes
     part-same-bytes-start
     part-same-bytes-end
-    slice-aggregate-same-bytes
-    same-bytes-requires
+    (λ c. search needs)
+    (λ c κs. search needs)
     returns-3
-    next-name-requires
-    enum-known-p
-    enum-told-3
+    (λ c κs. search needs)
+    (λ c. search needs)
+    (λ c. search needs)
     returns-4
-    are-claims-requires
+    (λ c κs. search needs)
     returns-5
     returns-6)

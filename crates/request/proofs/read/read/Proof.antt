@@ -7,28 +7,10 @@ use Rattle.request.proofs.ReadLaws.{too-long, bad-line, allowed, bad-sm
 use Rattle.request.proofs.read.read.Statement.{statement}
 use Rattle.request.proofs.read.read.Tie as tie
 
-bytes-read-requires : tie.Need-bytes-read-requires
-bytes-read-requires c κs = search needs
-
-enum-told : tie.Need-enum-told
-enum-told c = search needs
-
-refused-requires : tie.Need-refused-requires
-refused-requires c κs = search needs
-
-enum-known-line : tie.Need-enum-known-line
-enum-known-line c = search needs
-
 cast-refused : tie.Need-cast-refused
 cast-refused c =
     let at-args = c .before .before .before .before .before .before .before .before .before in
     let a = at-args .args in omega (arith, bad-small (a .text .now) _ (c .before .before .before .bytes-read .ensures) _ (c .before .line .given .1))
-
-refused-requires-2 : tie.Need-refused-requires-2
-refused-requires-2 c κs = search needs
-
-enum-told-2 : tie.Need-enum-told-2
-enum-told-2 c = search needs
 
 read-one-requires : tie.Need-read-one-requires
 read-one-requires c κs = c .before .before .before .before .before .before .before .before .pre
@@ -59,13 +41,13 @@ pub read-spec : {M : Type 1} → statement M
 read-spec =
     tie.close
     (tie.spec
-    bytes-read-requires
-    enum-told
-    refused-requires
-    enum-known-line
+    (λ c κs. search needs)
+    (λ c. search needs)
+    (λ c κs. search needs)
+    (λ c. search needs)
     cast-refused
-    refused-requires-2
-    enum-told-2
+    (λ c κs. search needs)
+    (λ c. search needs)
     read-one-requires
     returns
     returns-2

@@ -17,18 +17,6 @@ use Rattle.request.proofs.FormLaws.{form-at, form-none}
 use Rattle.request.proofs.read.read_line.Statement.{statement}
 use Rattle.request.proofs.read.read_line.Tie as tie
 
-request-form-requires : tie.Need-request-form-requires
-request-form-requires c κs = search needs
-
-enum-known-p : tie.Need-enum-known-p
-enum-known-p c = search needs
-
-enum-told : tie.Need-enum-told
-enum-told c = search needs
-
-refused-requires : tie.Need-refused-requires
-refused-requires c κs = search needs
-
 returns : tie.Need-returns
 returns c =
     let at-args = c .before .before .before .before .before .before .before .before .before in
@@ -62,9 +50,6 @@ find-name-requires c κs =
 
 request-fault-requires : tie.Need-request-fault-requires
 request-fault-requires c κs = c .before .before .before .before .before .before .before .before .before .before .before .pre
-
-refused-requires-2 : tie.Need-refused-requires-2
-refused-requires-2 c κs = search needs
 
 returns-2 : tie.Need-returns-2
 unfolding partOf
@@ -126,17 +111,17 @@ pub read-line-spec : {M : Type 1} → statement M
 read-line-spec =
     tie.close
     (tie.spec
-    request-form-requires
-    enum-known-p
-    enum-told
-    refused-requires
+    (λ c κs. search needs)
+    (λ c. search needs)
+    (λ c. search needs)
+    (λ c κs. search needs)
     returns
     sub-find-name
     part-find-name-start
     part-find-name-end
     find-name-requires
     request-fault-requires
-    refused-requires-2
+    (λ c κs. search needs)
     returns-2
     identities-requires
     returns-3)

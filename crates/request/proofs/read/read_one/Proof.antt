@@ -10,42 +10,12 @@ use Rattle.request.proofs.ReadLaws.{no-feed, alone, followed, whole-tex
 use Rattle.request.proofs.read.read_one.Statement.{statement}
 use Rattle.request.proofs.read.read_one.Tie as tie
 
-line-end-requires : tie.Need-line-end-requires
-line-end-requires c κs = search needs
-
-refused-requires : tie.Need-refused-requires
-refused-requires c κs = search needs
-
 returns : tie.Need-returns
 returns c =
     let at-args = c .before .before .before .before .before .before .before .before in
     let a = at-args .args in reads-refused (a .counts .nodes) (a .rules .now) (a .table .now) (a .sizes .categories) (a .text .now) _ 3 1 _
     (c .refused .ensures) (no-feed (bookAt (a .book .now) (a .words .now) (a .counts)) (rulesAt (a .rules .now) (a .table .now) (a .sizes))
     (a .text .now) _ (c .before .before .line-end .ensures) (c .before .if1 .taken))
-
-sub-read-line : tie.Need-sub-read-line
-sub-read-line c = search needs
-
-part-read-line-start : tie.Need-part-read-line-start
-part-read-line-start c = search needs
-
-part-read-line-end : tie.Need-part-read-line-end
-part-read-line-end c = search needs
-
-read-line-requires : tie.Need-read-line-requires
-read-line-requires c κs = search needs
-
-enum-told : tie.Need-enum-told
-enum-told c = search needs
-
-enum-told-2 : tie.Need-enum-told-2
-enum-told-2 c = search needs
-
-add-if2 : tie.Need-add-if2
-add-if2 c = search needs
-
-refused-requires-2 : tie.Need-refused-requires-2
-refused-requires-2 c κs = search needs
 
 returns-2 : tie.Need-returns-2
 unfolding partOf
@@ -96,17 +66,17 @@ pub read-one-spec : {M : Type 1} → statement M
 read-one-spec =
     tie.close
     (tie.spec
-    line-end-requires
-    refused-requires
+    (λ c κs. search needs)
+    (λ c κs. search needs)
     returns
-    sub-read-line
-    part-read-line-start
-    part-read-line-end
-    read-line-requires
-    enum-told
-    enum-told-2
-    add-if2
-    refused-requires-2
+    (λ c. search needs)
+    (λ c. search needs)
+    (λ c. search needs)
+    (λ c κs. search needs)
+    (λ c. search needs)
+    (λ c. search needs)
+    (λ c. search needs)
+    (λ c κs. search needs)
     returns-2
     returns-3
     returns-4)

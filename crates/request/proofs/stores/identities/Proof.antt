@@ -23,15 +23,6 @@ loop-holds : tie.Need-loop-holds Inv-loop μ-loop
 loop-holds c = let a = c .before .before .before .args in
     storing-start (bookAt (a .book .now) (a .words .now) (a .counts)) (a .counts .nodes) (a .s .now) (a .from) (c .before .before .before .pre .1)
 
-next-claim-requires : tie.Need-next-claim-requires Inv-loop μ-loop
-next-claim-requires c κs = search needs
-
-enum-known-actor-start : tie.Need-enum-known-actor-start Inv-loop μ-loop
-enum-known-actor-start c = search needs
-
-enum-told : tie.Need-enum-told Inv-loop μ-loop
-enum-told c = search needs
-
 returns : tie.Need-returns Inv-loop μ-loop
 returns c =
     let at-loop = c .before .before .before .before in
@@ -149,9 +140,9 @@ identities-spec =
     Inv-loop
     μ-loop
     loop-holds
-    next-claim-requires
-    enum-known-actor-start
-    enum-told
+    (λ c κs. search needs)
+    (λ c. search needs)
+    (λ c. search needs)
     returns
     sub-find-node
     part-find-node-start

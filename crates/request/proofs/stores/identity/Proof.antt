@@ -4,11 +4,8 @@ use borrow.Author.Needs.{needs}
 use Rattle.request.proofs.stores.identity.Statement.{statement}
 use Rattle.request.proofs.stores.identity.Tie as tie
 
-sub-t4 : tie.Need-sub-t4
-sub-t4 c = search needs
-
 returns : tie.Need-returns
 returns c = refl
 
 pub identity-spec : {M : Type 1} → statement M
-identity-spec = tie.close (tie.spec sub-t4 returns)
+identity-spec = tie.close (tie.spec (λ c. search needs) returns)

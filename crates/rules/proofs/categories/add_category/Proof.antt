@@ -12,27 +12,9 @@ use Rattle.book_tables.specs.View.{namesAt}
 use Rattle.rules.proofs.categories.add_category.Statement.{statement}
 use Rattle.rules.proofs.categories.add_category.Tie as tie
 
-mul-store-names : tie.Need-mul-store-names
-mul-store-names c = search needs
-
-add-store-names : tie.Need-add-store-names
-add-store-names c = search needs
-
-add-store-names-2 : tie.Need-add-store-names-2
-add-store-names-2 c = search needs
-
 store-names-requires : tie.Need-store-names-requires
 store-names-requires c κs = let g = c .before .before .before .before .pre in let d = clear-of _ _ _ _ _ _ _ _ _ g in
     (record { read = g .actors; is = g .actors-are; room = omega (arith, d .few, d .few-actors, g .fits .room) }, omega (arith, g .line .inside, g .short))
-
-mul-store-names-2 : tie.Need-mul-store-names-2
-mul-store-names-2 c = search needs
-
-add-store-names-3 : tie.Need-add-store-names-3
-add-store-names-3 c = search needs
-
-add-store-names-4 : tie.Need-add-store-names-4
-add-store-names-4 c = search needs
 
 store-names-requires-2 : tie.Need-store-names-requires-2
 store-names-requires-2 c κs =
@@ -52,21 +34,6 @@ lower-set-requires c κs =
     (lower-asked (a .text .now) (a .words .now) (at-store-names .store-names .last .0) (at-store-names2 .store-names2 .last .0) (a .counts) (a .s .now)
     (a .base) (a .p) (a .q) (g .actors .names) (g .over .names) (g .fits) (g .line) (g .places) d (st1 .1) (st2 .1))
 
-add-name : tie.Need-add-name
-add-name c = search needs
-
-mul-name : tie.Need-mul-name
-mul-name c = search needs
-
-sub-name : tie.Need-sub-name
-sub-name c = search needs
-
-add-name-2 : tie.Need-add-name-2
-add-name-2 c = search needs
-
-cast-name : tie.Need-cast-name
-cast-name c = search needs
-
 store-category-requires : tie.Need-store-category-requires
 store-category-requires c κs =
     let at-store-names2 = c .before .before .before .before .before in
@@ -75,12 +42,6 @@ store-category-requires c κs =
     let g = at-pre .pre in let d = clear-of _ _ _ _ _ _ _ _ _ g in let st1 = at-store-names .store-names .ensures (g .actors) (g .actors-are) in
     let st2 = at-store-names2 .store-names2 .ensures (g .over) (g .over-are) in
     (omega (arith, g .fits .room, st1 .1 .size, st2 .1 .size), d .few, omega (arith, d .few-actors, st1 .0), omega (arith, d .few-over, st2 .0))
-
-add-t17 : tie.Need-add-t17
-add-t17 c = search needs
-
-same-length : tie.Need-same-length
-same-length c = search needs
 
 returns : tie.Need-returns
 returns c =
@@ -104,21 +65,21 @@ pub add-category-spec : {M : Type 1} → statement M
 add-category-spec =
     tie.close
     (tie.spec
-    mul-store-names
-    add-store-names
-    add-store-names-2
+    (λ c. search needs)
+    (λ c. search needs)
+    (λ c. search needs)
     store-names-requires
-    mul-store-names-2
-    add-store-names-3
-    add-store-names-4
+    (λ c. search needs)
+    (λ c. search needs)
+    (λ c. search needs)
     store-names-requires-2
     lower-set-requires
-    add-name
-    mul-name
-    sub-name
-    add-name-2
-    cast-name
+    (λ c. search needs)
+    (λ c. search needs)
+    (λ c. search needs)
+    (λ c. search needs)
+    (λ c. search needs)
     store-category-requires
-    add-t17
-    same-length
+    (λ c. search needs)
+    (λ c. search needs)
     returns)

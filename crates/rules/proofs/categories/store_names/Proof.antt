@@ -47,15 +47,6 @@ loop-holds c = let a = c .before .before .args in (
   },
 )
 
-next-name-requires : tie.Need-next-name-requires Inv-loop μ-loop
-next-name-requires c κs = search needs
-
-enum-known-p : tie.Need-enum-known-p Inv-loop μ-loop
-enum-known-p c = search needs
-
-enum-told : tie.Need-enum-told Inv-loop μ-loop
-enum-told c = search needs
-
 same-length : tie.Need-same-length Inv-loop μ-loop
 same-length c = c .before .before .before .before .loop .inv .0
 
@@ -128,9 +119,9 @@ store-names-spec =
     Inv-loop
     μ-loop
     loop-holds
-    next-name-requires
-    enum-known-p
-    enum-told
+    (λ c κs. search needs)
+    (λ c. search needs)
+    (λ c. search needs)
     same-length
     returns
     add-store-name

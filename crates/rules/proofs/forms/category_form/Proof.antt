@@ -6,31 +6,10 @@ use Rattle.items.proofs.PlacedLaws.{placed-at}
 use Rattle.rules.proofs.forms.category_form.Statement.{statement}
 use Rattle.rules.proofs.forms.category_form.Tie as tie
 
-next-name-requires : tie.Need-next-name-requires
-next-name-requires c κs = search needs
-
-enum-known-p : tie.Need-enum-known-p
-enum-known-p c = search needs
-
-enum-told : tie.Need-enum-told
-enum-told c = search needs
-
 returns : tie.Need-returns
 returns c =
     let at-args = c .before .before .before .before in
     category-unnamed (at-args .args .s .now) (at-args .args .from) (sym (c .enum-told .given .1) ∙ c .before .before .next-name .ensures .is)
-
-slice-aggregate-names-list : tie.Need-slice-aggregate-names-list
-slice-aggregate-names-list c = search needs
-
-names-list-requires : tie.Need-names-list-requires
-names-list-requires c κs = search needs
-
-enum-known-a : tie.Need-enum-known-a
-enum-known-a c = search needs
-
-enum-told-2 : tie.Need-enum-told-2
-enum-told-2 c = search needs
 
 returns-2 : tie.Need-returns-2
 returns-2 c =
@@ -39,18 +18,6 @@ returns-2 c =
     let at-args = at-next-name .before .before in
     category-no-actors (at-args .args .s .now) (at-args .args .from) (sym (at-p .p .given .1) ∙ at-next-name .next-name .ensures .is)
     (list-not _ _ _ _ (c .enum-told2 .given .1) (c .before .before .names-list .ensures))
-
-slice-aggregate-names-list-2 : tie.Need-slice-aggregate-names-list-2
-slice-aggregate-names-list-2 c = search needs
-
-names-list-requires-2 : tie.Need-names-list-requires-2
-names-list-requires-2 c κs = search needs
-
-enum-known-o : tie.Need-enum-known-o
-enum-known-o c = search needs
-
-enum-told-3 : tie.Need-enum-told-3
-enum-told-3 c = search needs
 
 returns-3 : tie.Need-returns-3
 returns-3 c =
@@ -62,9 +29,6 @@ returns-3 c =
     category-no-over (at-args .args .s .now) (at-args .args .from) (sym (at-p .p .given .1) ∙ at-next-name .next-name .ensures .is)
     (list-at _ _ _ _ (at-a .a .given .1) (at-names-list .names-list .ensures))
     (list-not _ _ _ _ (c .enum-told3 .given .1) (c .before .before .names-list2 .ensures))
-
-form-closes-requires : tie.Need-form-closes-requires
-form-closes-requires c κs = search needs
 
 returns-4 : tie.Need-returns-4
 returns-4 c =
@@ -95,20 +59,20 @@ pub category-form-spec : {M : Type 1} → statement M
 category-form-spec =
     tie.close
     (tie.spec
-    next-name-requires
-    enum-known-p
-    enum-told
+    (λ c κs. search needs)
+    (λ c. search needs)
+    (λ c. search needs)
     returns
-    slice-aggregate-names-list
-    names-list-requires
-    enum-known-a
-    enum-told-2
+    (λ c. search needs)
+    (λ c κs. search needs)
+    (λ c. search needs)
+    (λ c. search needs)
     returns-2
-    slice-aggregate-names-list-2
-    names-list-requires-2
-    enum-known-o
-    enum-told-3
+    (λ c. search needs)
+    (λ c κs. search needs)
+    (λ c. search needs)
+    (λ c. search needs)
     returns-3
-    form-closes-requires
+    (λ c κs. search needs)
     returns-4
     returns-5)

@@ -5,28 +5,10 @@ use Rattle.rules.proofs.FormLaws.{list-none, list-broken, list-read}
 use Rattle.rules.proofs.forms.names_list.Statement.{statement}
 use Rattle.rules.proofs.forms.names_list.Tie as tie
 
-headed-requires : tie.Need-headed-requires
-headed-requires c κs = search needs
-
-enum-known-a : tie.Need-enum-known-a
-enum-known-a c = search needs
-
-enum-told : tie.Need-enum-told
-enum-told c = search needs
-
 returns : tie.Need-returns
 returns c =
     let at-args = c .before .before .before .before .before in
     list-none (at-args .args .head .now) (at-args .args .s .now) (at-args .args .from) (sym (c .enum-told .given .1) ∙ c .before .before .headed .ensures)
-
-names-end-requires : tie.Need-names-end-requires
-names-end-requires c κs = search needs
-
-enum-known-e : tie.Need-enum-known-e
-enum-known-e c = search needs
-
-enum-told-2 : tie.Need-enum-told-2
-enum-told-2 c = search needs
 
 returns-2 : tie.Need-returns-2
 returns-2 c =
@@ -48,12 +30,12 @@ pub names-list-spec : {M : Type 1} → statement M
 names-list-spec =
     tie.close
     (tie.spec
-    headed-requires
-    enum-known-a
-    enum-told
+    (λ c κs. search needs)
+    (λ c. search needs)
+    (λ c. search needs)
     returns
-    names-end-requires
-    enum-known-e
-    enum-told-2
+    (λ c κs. search needs)
+    (λ c. search needs)
+    (λ c. search needs)
     returns-2
     returns-3)

@@ -7,28 +7,10 @@ use Rattle.items.proofs.PlacedLaws.{placed-at}
 use Rattle.rules.proofs.forms.policy_form.Statement.{statement}
 use Rattle.rules.proofs.forms.policy_form.Tie as tie
 
-next-name-requires : tie.Need-next-name-requires
-next-name-requires c κs = search needs
-
-enum-known-p : tie.Need-enum-known-p
-enum-known-p c = search needs
-
-enum-told : tie.Need-enum-told
-enum-told c = search needs
-
 returns : tie.Need-returns
 returns c =
     let at-args = c .before .before .before .before in
     policy-unnamed (at-args .args .s .now) (at-args .args .from) (sym (c .enum-told .given .1) ∙ c .before .before .next-name .ensures .is)
-
-next-quoted-requires : tie.Need-next-quoted-requires
-next-quoted-requires c κs = search needs
-
-enum-known-t : tie.Need-enum-known-t
-enum-known-t c = search needs
-
-enum-told-2 : tie.Need-enum-told-2
-enum-told-2 c = search needs
 
 returns-2 : tie.Need-returns-2
 returns-2 c =
@@ -42,9 +24,6 @@ add-form-closes : tie.Need-add-form-closes
 add-form-closes c =
     let at-args = c .before .before .before .before .before .before .before .before .before in
     let h = quoted-at (at-args .args .s .now) _ (c .before .t .given .1) (c .before .before .before .next-quoted .ensures .placed) in omega (arith, h .inside)
-
-form-closes-requires : tie.Need-form-closes-requires
-form-closes-requires c κs = search needs
 
 returns-3 : tie.Need-returns-3
 returns-3 c =
@@ -71,15 +50,15 @@ pub policy-form-spec : {M : Type 1} → statement M
 policy-form-spec =
     tie.close
     (tie.spec
-    next-name-requires
-    enum-known-p
-    enum-told
+    (λ c κs. search needs)
+    (λ c. search needs)
+    (λ c. search needs)
     returns
-    next-quoted-requires
-    enum-known-t
-    enum-told-2
+    (λ c κs. search needs)
+    (λ c. search needs)
+    (λ c. search needs)
     returns-2
     add-form-closes
-    form-closes-requires
+    (λ c κs. search needs)
     returns-3
     returns-4)

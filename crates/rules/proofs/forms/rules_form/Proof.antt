@@ -8,26 +8,8 @@ use Rattle.items.proofs.PlacedLaws.{placed-at}
 use Rattle.rules.proofs.forms.rules_form.Statement.{statement}
 use Rattle.rules.proofs.forms.rules_form.Tie as tie
 
-open-form-requires : tie.Need-open-form-requires
-open-form-requires c κs = search needs
-
-enum-known-i : tie.Need-enum-known-i
-enum-known-i c = search needs
-
-enum-told : tie.Need-enum-told
-enum-told c = search needs
-
 returns : tie.Need-returns
 returns c = unopened (c .before .before .before .before .args .s .now) (sym (c .enum-told .given .1) ∙ c .before .before .open-form .ensures)
-
-next-word-requires : tie.Need-next-word-requires
-next-word-requires c κs = search needs
-
-enum-known-p : tie.Need-enum-known-p
-enum-known-p c = search needs
-
-enum-told-2 : tie.Need-enum-told-2
-enum-told-2 c = search needs
 
 returns-2 : tie.Need-returns-2
 returns-2 c =
@@ -45,15 +27,6 @@ part-same-bytes-start c = let h = placed-at _ _ _ (c .before .p .given .1) (c .b
 
 part-same-bytes-end : tie.Need-part-same-bytes-end
 part-same-bytes-end c = let h = placed-at _ _ _ (c .before .p .given .1) (c .before .before .before .next-word .ensures .placed) in omega (arith, h .inside)
-
-slice-aggregate-same-bytes : tie.Need-slice-aggregate-same-bytes
-slice-aggregate-same-bytes c = search needs
-
-same-bytes-requires : tie.Need-same-bytes-requires
-same-bytes-requires c κs = search needs
-
-category-form-requires : tie.Need-category-form-requires
-category-form-requires c κs = search needs
 
 returns-3 : tie.Need-returns-3
 unfolding partOf
@@ -85,15 +58,6 @@ part-same-bytes-end-2 c =
     let at-p = c .before .before .before .before .before in
     let at-next-word = at-p .before .before in
     let h = placed-at _ _ _ (at-p .p .given .1) (at-next-word .next-word .ensures .placed) in omega (arith, h .inside)
-
-slice-aggregate-same-bytes-2 : tie.Need-slice-aggregate-same-bytes-2
-slice-aggregate-same-bytes-2 c = search needs
-
-same-bytes-requires-2 : tie.Need-same-bytes-requires-2
-same-bytes-requires-2 c κs = search needs
-
-policy-form-requires : tie.Need-policy-form-requires
-policy-form-requires c κs = search needs
 
 returns-4 : tie.Need-returns-4
 unfolding partOf
@@ -128,26 +92,26 @@ pub rules-form-spec : {M : Type 1} → statement M
 rules-form-spec =
     tie.close
     (tie.spec
-    open-form-requires
-    enum-known-i
-    enum-told
+    (λ c κs. search needs)
+    (λ c. search needs)
+    (λ c. search needs)
     returns
-    next-word-requires
-    enum-known-p
-    enum-told-2
+    (λ c κs. search needs)
+    (λ c. search needs)
+    (λ c. search needs)
     returns-2
     sub-same-bytes
     part-same-bytes-start
     part-same-bytes-end
-    slice-aggregate-same-bytes
-    same-bytes-requires
-    category-form-requires
+    (λ c. search needs)
+    (λ c κs. search needs)
+    (λ c κs. search needs)
     returns-3
     sub-same-bytes-2
     part-same-bytes-start-2
     part-same-bytes-end-2
-    slice-aggregate-same-bytes-2
-    same-bytes-requires-2
-    policy-form-requires
+    (λ c. search needs)
+    (λ c κs. search needs)
+    (λ c κs. search needs)
     returns-4
     returns-5)

@@ -6,9 +6,6 @@ use Rattle.rules.proofs.LoadLaws.{uncovered-refused, covered-accepted}
 use Rattle.rules.proofs.load.covered_rules.Statement.{statement}
 use Rattle.rules.proofs.load.covered_rules.Tie as tie
 
-is-uncovered-requires : tie.Need-is-uncovered-requires
-is-uncovered-requires c κs = search needs
-
 returns : tie.Need-returns
 unfolding refusal refusalOf
 returns c b = uncovered-refused _ _ _ (c .before .before .before .before .pre .0) _ (c .before .is-uncovered .ensures) (c .if1 .taken)
@@ -22,6 +19,6 @@ pub covered-rules-spec : {M : Type 1} → statement M
 covered-rules-spec =
     tie.close
     (tie.spec
-    is-uncovered-requires
+    (λ c κs. search needs)
     returns
     returns-2)

@@ -6,12 +6,6 @@ use Rattle.rules.proofs.LoadLaws.{of-category, of-policy, of-none}
 use Rattle.rules.proofs.load.form_step.Statement.{statement}
 use Rattle.rules.proofs.load.form_step.Tie as tie
 
-rules-form-requires : tie.Need-rules-form-requires
-rules-form-requires c κs = search needs
-
-enum-known-p : tie.Need-enum-known-p
-enum-known-p c = search needs
-
 category-step-requires : tie.Need-category-step-requires
 category-step-requires c κs =
     let at-rules-form = c .before .before .before .before in
@@ -28,9 +22,6 @@ category-step-requires c κs =
       actors-are = f .actors-are;
       over-are = f .over-are;
     }
-
-enum-known-p-2 : tie.Need-enum-known-p-2
-enum-known-p-2 c = search needs
 
 sub-fault-of : tie.Need-sub-fault-of
 sub-fault-of c = let f = of-policy _ _ _ (c .before .before .before .rules-form .ensures) _ _ _ _ (c .before .p2 .given .1) in omega (arith, f .some)
@@ -64,21 +55,12 @@ policy-step-requires c κs =
           c .before .fault-of .ensures;
     }
 
-enum-told : tie.Need-enum-told
-enum-told c = search needs
-
-same-length : tie.Need-same-length
-same-length c = search needs
-
 returns : tie.Need-returns
 returns c =
     let at-p = c .before .before .before .before .before in
     let at-rules-form = at-p .before .before in
     let f = of-category _ _ _ (at-rules-form .rules-form .ensures) _ _ _ _ (at-p .p .given .1) in
     rw (f .is) (c .before .before .category-step .ensures _ (f .actors) (f .over) (f .actors-are) (f .over-are))
-
-same-length-2 : tie.Need-same-length-2
-same-length-2 c = search needs
 
 returns-2 : tie.Need-returns-2
 unfolding partOf
@@ -96,18 +78,18 @@ pub form-step-spec : {M : Type 1} → statement M
 form-step-spec =
     tie.close
     (tie.spec
-    rules-form-requires
-    enum-known-p
+    (λ c κs. search needs)
+    (λ c. search needs)
     category-step-requires
-    enum-known-p-2
+    (λ c. search needs)
     sub-fault-of
     part-fault-of-start
     part-fault-of-end
     fault-of-requires
     policy-step-requires
-    enum-told
-    same-length
+    (λ c. search needs)
+    (λ c. search needs)
     returns
-    same-length-2
+    (λ c. search needs)
     returns-2
     returns-3)

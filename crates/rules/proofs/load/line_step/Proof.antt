@@ -11,20 +11,8 @@ returns c =
     let at-args = c .before .before .before .before .before in
     line-open (at-args .args .text .now) (at-args .args .from) (at-args .args .to) _ _ (omega (arith, c .if1 .taken))
 
-sub-form-step : tie.Need-sub-form-step
-sub-form-step c = search needs
-
-part-form-step-start : tie.Need-part-form-step-start
-part-form-step-start c = search needs
-
-part-form-step-end : tie.Need-part-form-step-end
-part-form-step-end c = search needs
-
 form-step-requires : tie.Need-form-step-requires
 form-step-requires c κs = line-asked _ _ _ _ _ _ _ _ (c .before .before .before .before .before .before .before .pre)
-
-same-length : tie.Need-same-length
-same-length c = search needs
 
 returns-2 : tie.Need-returns-2
 unfolding partOf
@@ -39,9 +27,9 @@ line-step-spec =
     tie.close
     (tie.spec
     returns
-    sub-form-step
-    part-form-step-start
-    part-form-step-end
+    (λ c. search needs)
+    (λ c. search needs)
+    (λ c. search needs)
     form-step-requires
-    same-length
+    (λ c. search needs)
     returns-2)

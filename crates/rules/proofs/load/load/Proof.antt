@@ -8,20 +8,11 @@ use Rattle.text.proofs.LineReads.{text-too-long, text-bad-line, text-allowed, t
 use Rattle.rules.proofs.load.load.Statement.{statement}
 use Rattle.rules.proofs.load.load.Tie as tie
 
-bytes-read-requires : tie.Need-bytes-read-requires
-bytes-read-requires c κs = search needs
-
-enum-told : tie.Need-enum-told
-enum-told c = search needs
-
 returns : tie.Need-returns
 unfolding refusal refusalOf readRules
 returns c =
     let at-args = c .before .before .before .before .before .before .before in
     text-too-long 16384 (at-args .args .text .now) _ (c .before .before .bytes-read .ensures) 2 (λ l. l) _ (c .enum-told .given .1)
-
-enum-known-line : tie.Need-enum-known-line
-enum-known-line c = search needs
 
 cast-t9 : tie.Need-cast-t9
 cast-t9 c =
@@ -34,9 +25,6 @@ returns-2 c =
     let at-args = c .before .before .before .before .before .before .before .before in
     text-bad-line 16384 (at-args .args .text .now) _ (c .before .before .before .bytes-read .ensures) 2 (λ l. l) _ _ (c .before .line .given .1)
 
-enum-told-2 : tie.Need-enum-told-2
-enum-told-2 c = search needs
-
 load-lines-requires : tie.Need-load-lines-requires
 load-lines-requires c κs =
     let at-pre = c .before .before .before .before .before .before .before .before in (
@@ -44,9 +32,6 @@ load-lines-requires c κs =
       text-short 16384 (at-pre .args .text .now) _ (c .before .before .before .bytes-read .ensures) (c .before .enum-told2 .given .1),
       at-pre .pre .1,
     )
-
-same-length : tie.Need-same-length
-same-length c = search needs
 
 returns-3 : tie.Need-returns-3
 unfolding readRules
@@ -61,13 +46,13 @@ pub load-spec : {M : Type 1} → statement M
 load-spec =
     tie.close
     (tie.spec
-    bytes-read-requires
-    enum-told
+    (λ c κs. search needs)
+    (λ c. search needs)
     returns
-    enum-known-line
+    (λ c. search needs)
     cast-t9
     returns-2
-    enum-told-2
+    (λ c. search needs)
     load-lines-requires
-    same-length
+    (λ c. search needs)
     returns-3)

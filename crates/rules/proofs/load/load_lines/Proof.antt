@@ -19,14 +19,8 @@ Inv-loop book words counts text rules-words₀ at₀ line₀ known₀ rules-word
 abbrev μ-loop : tie.MeasureT-loop
 μ-loop book words counts text rules-words₀ at₀ line₀ known₀ rules-words at line known = length text + 1 - at
 
-no-counts-requires : tie.Need-no-counts-requires Inv-loop μ-loop
-no-counts-requires c κs = search needs
-
 loop-holds : tie.Need-loop-holds Inv-loop μ-loop
 loop-holds c = reading-start _ _ _ (c .no-counts .ensures .0) (c .no-counts .ensures .1) _ (c .before .before .before .before .before .pre .2)
-
-line-end-requires : tie.Need-line-end-requires Inv-loop μ-loop
-line-end-requires c κs = search needs
 
 line-step-requires : tie.Need-line-step-requires Inv-loop μ-loop
 line-step-requires c κs =
@@ -40,12 +34,6 @@ line-step-requires c κs =
       inside = line-inside (at-pre .args .text .now) (at-loop .loop .at) _ (c .before .line-end .ensures) (c .before .before .loop-test .taken);
     }
 
-enum-known-number : tie.Need-enum-known-number Inv-loop μ-loop
-enum-known-number c = search needs
-
-same-length : tie.Need-same-length Inv-loop μ-loop
-same-length c = search needs
-
 returns : tie.Need-returns Inv-loop μ-loop
 unfolding refusal refusalOf
 returns c =
@@ -56,9 +44,6 @@ returns c =
     let at-args = at-loop .before .before .before .before .before .before in
     reading-fault _ (at-args .args .text .now) _ _ (at-loop .loop .at) _ _ (at-loop .loop .inv) _ (at-line-end .line-end .ensures)
     (at-loop-test .loop-test .taken) _ _ (at-line-step .line-step .ensures) _ (c .before .number .given .1)
-
-enum-known-more : tie.Need-enum-known-more Inv-loop μ-loop
-enum-known-more c = search needs
 
 add-at : tie.Need-add-at Inv-loop μ-loop
 add-at c =
@@ -93,9 +78,6 @@ loop-again c = reading-on _ (c .before .before .before .before .before .before .
 covered-rules-requires : tie.Need-covered-rules-requires Inv-loop μ-loop
 covered-rules-requires c κs = (c .before .before .loop .inv .fits, c .before .before .before .before .before .before .before .before .pre .1)
 
-same-length-2 : tie.Need-same-length-2 Inv-loop μ-loop
-same-length-2 c = search needs
-
 returns-2 : tie.Need-returns-2 Inv-loop μ-loop
 returns-2 c =
     let at-args = c .before .before .before .before .before .before .before .before .before in
@@ -109,18 +91,18 @@ load-lines-spec =
     (tie.spec
     Inv-loop
     μ-loop
-    no-counts-requires
+    (λ c κs. search needs)
     loop-holds
-    line-end-requires
+    (λ c κs. search needs)
     line-step-requires
-    enum-known-number
-    same-length
+    (λ c. search needs)
+    (λ c. search needs)
     returns
-    enum-known-more
+    (λ c. search needs)
     add-at
     add-line
     loop-less
     loop-again
     covered-rules-requires
-    same-length-2
+    (λ c. search needs)
     returns-2)

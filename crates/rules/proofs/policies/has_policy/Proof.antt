@@ -3,11 +3,8 @@ use borrow.Author.Needs.{needs}
 use Rattle.rules.proofs.policies.has_policy.Statement.{statement}
 use Rattle.rules.proofs.policies.has_policy.Tie as tie
 
-policy-place-requires : tie.Need-policy-place-requires
-policy-place-requires c κs = search needs
-
 returns : tie.Need-returns
 returns c = rw (c .before .policy-place .ensures)
 
 pub has-policy-spec : {M : Type 1} → statement M
-has-policy-spec = tie.close (tie.spec policy-place-requires returns)
+has-policy-spec = tie.close (tie.spec (λ c κs. search needs) returns)

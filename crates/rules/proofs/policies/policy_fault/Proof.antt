@@ -5,27 +5,6 @@ use Rattle.rules.proofs.PolicyFaults.{policy-answer}
 use Rattle.rules.proofs.policies.policy_fault.Statement.{statement}
 use Rattle.rules.proofs.policies.policy_fault.Tie as tie
 
-sub-find-name : tie.Need-sub-find-name
-sub-find-name c = search needs
-
-part-find-name-start : tie.Need-part-find-name-start
-part-find-name-start c = search needs
-
-part-find-name-end : tie.Need-part-find-name-end
-part-find-name-end c = search needs
-
-find-name-requires : tie.Need-find-name-requires
-find-name-requires c κs = search needs
-
-has-policy-requires : tie.Need-has-policy-requires
-has-policy-requires c κs = search needs
-
-sub-lowest-of : tie.Need-sub-lowest-of
-sub-lowest-of c = search needs
-
-lowest-of-requires : tie.Need-lowest-of-requires
-lowest-of-requires c κs = search needs
-
 returns : tie.Need-returns
 unfolding partOf
 returns c =
@@ -39,11 +18,11 @@ pub policy-fault-spec : {M : Type 1} → statement M
 policy-fault-spec =
     tie.close
     (tie.spec
-    sub-find-name
-    part-find-name-start
-    part-find-name-end
-    find-name-requires
-    has-policy-requires
-    sub-lowest-of
-    lowest-of-requires
+    (λ c. search needs)
+    (λ c. search needs)
+    (λ c. search needs)
+    (λ c κs. search needs)
+    (λ c κs. search needs)
+    (λ c. search needs)
+    (λ c κs. search needs)
     returns)

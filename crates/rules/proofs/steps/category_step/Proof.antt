@@ -6,12 +6,6 @@ use Rattle.rules.proofs.StepLaws.{step-fault, step-clear, step-known}
 use Rattle.rules.proofs.steps.category_step.Statement.{statement}
 use Rattle.rules.proofs.steps.category_step.Tie as tie
 
-category-fault-requires : tie.Need-category-fault-requires
-category-fault-requires c κs = search needs
-
-same-length : tie.Need-same-length
-same-length c = search needs
-
 returns : tie.Need-returns
 returns c b x y ex ey = step-fault b _ _ _ (c .before .category-fault .ensures b x y ex ey) (c .if1 .taken)
 
@@ -28,9 +22,6 @@ add-category-requires c κs = let g = c .before .before .before .before .before 
   clear = λ b. step-clear b _ _ _ (c .before .before .category-fault .ensures b (g .actors) (g .over) (g .actors-are) (g .over-are)) (c .before .if1 .left);
 }
 
-same-length-2 : tie.Need-same-length-2
-same-length-2 c = search needs
-
 returns-2 : tie.Need-returns-2
 returns-2 c b x y ex ey =
     let e = c .before .before .before .before .before .category-fault .ensures b x y ex ey in
@@ -41,9 +32,9 @@ pub category-step-spec : {M : Type 1} → statement M
 category-step-spec =
     tie.close
     (tie.spec
-    category-fault-requires
-    same-length
+    (λ c κs. search needs)
+    (λ c. search needs)
     returns
     add-category-requires
-    same-length-2
+    (λ c. search needs)
     returns-2)

@@ -5,12 +5,6 @@ use Rattle.rules.proofs.StepLaws.{number-fault, text-known}
 use Rattle.rules.proofs.steps.policy_step.Statement.{statement}
 use Rattle.rules.proofs.steps.policy_step.Tie as tie
 
-policy-fault-requires : tie.Need-policy-fault-requires
-policy-fault-requires c κs = search needs
-
-same-length : tie.Need-same-length
-same-length c = search needs
-
 returns : tie.Need-returns
 returns c b e = number-fault b _ _ _ (c .before .policy-fault .ensures b e) (c .if1 .taken)
 
@@ -26,9 +20,6 @@ add-policy-requires c κs = let g = c .before .before .before .before .before .b
   clear = sym (c .before .before .policy-fault .ensures (g .book) (g .is)) ∙ c .before .if1 .left;
 }
 
-same-length-2 : tie.Need-same-length-2
-same-length-2 c = search needs
-
 returns-2 : tie.Need-returns-2
 returns-2 c b e =
     let at-if1 = c .before .before .before .before in
@@ -40,9 +31,9 @@ pub policy-step-spec : {M : Type 1} → statement M
 policy-step-spec =
     tie.close
     (tie.spec
-    policy-fault-requires
-    same-length
+    (λ c κs. search needs)
+    (λ c. search needs)
     returns
     add-policy-requires
-    same-length-2
+    (λ c. search needs)
     returns-2)

@@ -30,9 +30,6 @@ returns-2 c =
     (sym (c .before .before .before .is-unknown .ensures y ey) ∙ c .before .before .if1 .left)
     (sym (c .before .is-second .ensures x y ex ey) ∙ c .if2 .taken)
 
-is-past-limit-requires : tie.Need-is-past-limit-requires
-is-past-limit-requires c κs = search needs
-
 returns-3 : tie.Need-returns-3
 returns-3 c =
     let at-if1 = c .before .before .before .before in
@@ -78,7 +75,7 @@ category-fault-spec =
     returns
     is-second-requires
     returns-2
-    is-past-limit-requires
+    (λ c κs. search needs)
     returns-3
     lacks-actor-requires
     returns-4

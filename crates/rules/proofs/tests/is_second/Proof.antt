@@ -28,9 +28,6 @@ returns c =
     (place-mem (a .text .now) (a .words .now) names (a .count) (between (a .s .now) (a .p) (a .q))
     (omega (arith, c .before .find-name .ensures, c .if1 .taken)))
 
-has-twice-requires : tie.Need-has-twice-requires
-has-twice-requires c κs = search needs
-
 returns-2 : tie.Need-returns-2
 unfolding partOf
 returns-2 c =
@@ -41,9 +38,6 @@ returns-2 c =
       ← c .before .has-twice .ensures x ex,
       c .if2 .taken,
     )
-
-has-twice-requires-2 : tie.Need-has-twice-requires-2
-has-twice-requires-2 c κs = search needs
 
 returns-3 : tie.Need-returns-3
 unfolding partOf
@@ -66,7 +60,7 @@ is-second-spec =
     part-find-name-end
     find-name-requires
     returns
-    has-twice-requires
+    (λ c κs. search needs)
     returns-2
-    has-twice-requires-2
+    (λ c κs. search needs)
     returns-3)

@@ -33,15 +33,6 @@ loop-holds c =
     left-start (λ (ns : List Bytes). not (all (λ w. mem w (namesAt (at-args .args .text .now) (at-args .args .words .now) names (at-args .args .count)))
     ns)) (at-args .args .s .now) (at-args .args .from)
 
-next-name-requires : tie.Need-next-name-requires Inv-loop μ-loop
-next-name-requires c κs = search needs
-
-enum-known-p : tie.Need-enum-known-p Inv-loop μ-loop
-enum-known-p c = search needs
-
-enum-told : tie.Need-enum-told Inv-loop μ-loop
-enum-told c = search needs
-
 returns : tie.Need-returns Inv-loop μ-loop
 returns c =
     let at-loop = c .before .before .before .before in
@@ -108,9 +99,9 @@ is-unknown-spec =
     Inv-loop
     μ-loop
     loop-holds
-    next-name-requires
-    enum-known-p
-    enum-told
+    (λ c κs. search needs)
+    (λ c. search needs)
+    (λ c. search needs)
     returns
     sub-find-name
     part-find-name-start

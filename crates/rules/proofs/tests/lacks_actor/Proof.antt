@@ -3,15 +3,6 @@ use borrow.Author.Needs.{needs}
 use Rattle.rules.proofs.tests.lacks_actor.Statement.{statement}
 use Rattle.rules.proofs.tests.lacks_actor.Tie as tie
 
-slice-aggregate-has-name : tie.Need-slice-aggregate-has-name
-slice-aggregate-has-name c = search needs
-
-has-name-requires : tie.Need-has-name-requires
-has-name-requires c κs = search needs
-
-lacks-lower-requires : tie.Need-lacks-lower-requires
-lacks-lower-requires c κs = search needs
-
 returns : tie.Need-returns
 returns c = λ x y ex ey. rw (← c .before .before .has-name .ensures x ex, c .before .if1 .taken) (c .lacks-lower .ensures x y ex ey)
 
@@ -21,4 +12,4 @@ returns-2 c = λ x y ex ey. rw (← c .before .has-name .ensures x ex, c .if1 .l
 pub lacks-actor-spec : {M : Type 1} → statement M
 lacks-actor-spec =
     tie.close
-    (tie.spec slice-aggregate-has-name has-name-requires lacks-lower-requires returns returns-2)
+    (tie.spec (λ c. search needs) (λ c κs. search needs) (λ c κs. search needs) returns returns-2)

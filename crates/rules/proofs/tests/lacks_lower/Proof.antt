@@ -47,12 +47,6 @@ returns c =
     ∙ scan-found (lacksOf (a .text .now) (a .words .now) (x .names) (y .names)) (λ i. i) (a .counts .categories) (c .before .before .before .loop .k)
     (c .before .before .loop-test .taken) (sym (c .before .lacks-of-lower .ensures x y ex ey) ∙ c .if1 .taken))
 
-add-k : tie.Need-add-k Inv-loop μ-loop
-add-k c = search needs
-
-loop-less : tie.Need-loop-less Inv-loop μ-loop
-loop-less c = search needs
-
 loop-again : tie.Need-loop-again Inv-loop μ-loop
 loop-again c =
     let at-args = c .before .before .before .before .before .before .before in
@@ -79,7 +73,7 @@ lacks-lower-spec =
     loop-holds
     lacks-of-lower-requires
     returns
-    add-k
-    loop-less
+    (λ c. search needs)
+    (λ c. search needs)
     loop-again
     returns-2)

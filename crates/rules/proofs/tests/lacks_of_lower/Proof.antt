@@ -10,16 +10,10 @@ use Rattle.book_tables.specs.View.{nameOf}
 use Rattle.rules.proofs.tests.lacks_of_lower.Statement.{statement}
 use Rattle.rules.proofs.tests.lacks_of_lower.Tie as tie
 
-add-name-at : tie.Need-add-name-at
-add-name-at c = search needs
-
 name-at-requires : tie.Need-name-at-requires
 name-at-requires c κs =
     let at-pre = c .before .before .before in
     (omega (arith, at-pre .pre .2, at-pre .pre .3), at-pre .pre .1 .inside (at-pre .args .k) (omega arith))
-
-has-name-requires : tie.Need-has-name-requires
-has-name-requires c κs = search needs
 
 lacks-one-of-requires : tie.Need-lacks-one-of-requires
 lacks-one-of-requires c κs =
@@ -45,9 +39,9 @@ pub lacks-of-lower-spec : {M : Type 1} → statement M
 lacks-of-lower-spec =
     tie.close
     (tie.spec
-    add-name-at
+    (λ c. search needs)
     name-at-requires
-    has-name-requires
+    (λ c κs. search needs)
     lacks-one-of-requires
     returns
     returns-2)

@@ -64,9 +64,6 @@ name-at-requires c κs =
     let at-pre = c .before .before .before .before .before .before in
     (omega (arith, at-pre .pre .1, at-pre .pre .2, at-pre .pre .0 .few-actors), at-pre .pre .0 .actors .inside (c .before .loop .i) (c .loop-test .taken))
 
-has-name-requires : tie.Need-has-name-requires Inv-loop μ-loop
-has-name-requires c κs = search needs
-
 returns : tie.Need-returns Inv-loop μ-loop
 unfolding actorsAt namesAt nameOf
 returns c =
@@ -77,12 +74,6 @@ returns c =
     (c .before .before .before .loop-test .taken)
     (ap (λ (w : Bytes). mem w (x .names)) (sym (c .before .before .name-at .ensures)) ∙ sym (c .before .has-name .ensures x ex)
     ∙ not-true _ (c .if1 .taken))))
-
-add-i : tie.Need-add-i Inv-loop μ-loop
-add-i c = search needs
-
-loop-less : tie.Need-loop-less Inv-loop μ-loop
-loop-less c = search needs
 
 loop-again : tie.Need-loop-again Inv-loop μ-loop
 unfolding nameOf
@@ -121,9 +112,9 @@ lacks-one-of-spec =
     add-name-at-2
     add-name-at-3
     name-at-requires
-    has-name-requires
+    (λ c κs. search needs)
     returns
-    add-i
-    loop-less
+    (λ c. search needs)
+    (λ c. search needs)
     loop-again
     returns-2)

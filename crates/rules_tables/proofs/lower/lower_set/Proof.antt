@@ -84,12 +84,6 @@ mul-set-2 c = omega (arith, earlier c)
 shared-slice-read-set : tie.Need-shared-slice-read-set Inv-loop μ-loop
 shared-slice-read-set c = omega (arith, earlier (c .before), c .before .before .before .before .before .before .before .before .pre .room)
 
-add-i : tie.Need-add-i Inv-loop μ-loop
-add-i c = search needs
-
-loop-less : tie.Need-loop-less Inv-loop μ-loop
-loop-less c = search needs
-
 loop-again : tie.Need-loop-again Inv-loop μ-loop
 loop-again c =
     let at-loop = c .before .before .before .before in
@@ -126,7 +120,7 @@ lower-set-spec =
     add-set-2
     mul-set-2
     shared-slice-read-set
-    add-i
-    loop-less
+    (λ c. search needs)
+    (λ c. search needs)
     loop-again
     returns)

@@ -8,26 +8,11 @@ use Rattle.book_tables.specs.View.{nameIn, wordAt}
 use Rattle.rules_tables.proofs.names.name_at.Statement.{statement}
 use Rattle.rules_tables.proofs.names.name_at.Tie as tie
 
-mul-word : tie.Need-mul-word
-mul-word c = search needs
-
-shared-slice-read-word : tie.Need-shared-slice-read-word
-shared-slice-read-word c = search needs
-
 cast-word : tie.Need-cast-word
 cast-word c = omega (arith, c .shared-slice-known .given (c .before .args .at))
 
 add-end : tie.Need-add-end
 add-end c = omega (arith, c .shared-slice-known .given (c .before .args .at))
-
-sub-result : tie.Need-sub-result
-sub-result c = search needs
-
-part-result-start : tie.Need-part-result-start
-part-result-start c = search needs
-
-part-result-end : tie.Need-part-result-end
-part-result-end c = search needs
 
 returns : tie.Need-returns
 unfolding nameIn partOf
@@ -38,11 +23,11 @@ pub name-at-spec : {M : Type 1} → statement M
 name-at-spec =
     tie.close
     (tie.spec
-    mul-word
-    shared-slice-read-word
+    (λ c. search needs)
+    (λ c. search needs)
     cast-word
     add-end
-    sub-result
-    part-result-start
-    part-result-end
+    (λ c. search needs)
+    (λ c. search needs)
+    (λ c. search needs)
     returns)

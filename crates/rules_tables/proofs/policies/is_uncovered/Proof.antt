@@ -30,12 +30,6 @@ returns c =
     sym (scan-found (uncovered (at-args .args .words .now) (at-args .args .counts)) (λ i. i) (at-args .args .counts .categories)
     (c .before .before .before .loop .k) (c .before .before .loop-test .taken) (sym (c .before .lacks-policy .ensures) ∙ c .if1 .taken))
 
-add-k : tie.Need-add-k Inv-loop μ-loop
-add-k c = search needs
-
-loop-less : tie.Need-loop-less Inv-loop μ-loop
-loop-less c = search needs
-
 loop-again : tie.Need-loop-again Inv-loop μ-loop
 loop-again c =
     let at-args = c .before .before .before .before .before in (
@@ -57,7 +51,7 @@ is-uncovered-spec =
     loop-holds
     lacks-policy-requires
     returns
-    add-k
-    loop-less
+    (λ c. search needs)
+    (λ c. search needs)
     loop-again
     returns-2)

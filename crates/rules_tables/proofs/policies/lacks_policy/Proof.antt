@@ -8,24 +8,6 @@ use Rattle.book_tables.specs.View.{wordAt}
 use Rattle.rules_tables.proofs.policies.lacks_policy.Statement.{statement}
 use Rattle.rules_tables.proofs.policies.lacks_policy.Tie as tie
 
-mul-if1 : tie.Need-mul-if1
-mul-if1 c = search needs
-
-add-if1 : tie.Need-add-if1
-add-if1 c = search needs
-
-add-if1-2 : tie.Need-add-if1-2
-add-if1-2 c = search needs
-
-mul-if1-2 : tie.Need-mul-if1-2
-mul-if1-2 c = search needs
-
-shared-slice-read-if1 : tie.Need-shared-slice-read-if1
-shared-slice-read-if1 c = search needs
-
-policy-place-requires : tie.Need-policy-place-requires
-policy-place-requires c κs = search needs
-
 returns : tie.Need-returns
 returns c =
     let at-args = c .before .before .before .before .before in
@@ -39,11 +21,11 @@ pub lacks-policy-spec : {M : Type 1} → statement M
 lacks-policy-spec =
     tie.close
     (tie.spec
-    mul-if1
-    add-if1
-    add-if1-2
-    mul-if1-2
-    shared-slice-read-if1
-    policy-place-requires
+    (λ c. search needs)
+    (λ c. search needs)
+    (λ c. search needs)
+    (λ c. search needs)
+    (λ c. search needs)
+    (λ c κs. search needs)
     returns
     returns-2)

@@ -45,12 +45,6 @@ returns c =
     sym (scan-place (λ w. eqb w (at-args .args .m)) (policyCategory (at-args .args .words .now)) (at-args .args .counts .policies)
     (c .before .before .before .loop .i) (c .before .before .loop-test .taken) (c .before .before .before .loop .inv .1) (eq-eqb _ _ (c .if1 .taken)))
 
-add-i : tie.Need-add-i Inv-loop μ-loop
-add-i c = search needs
-
-loop-less : tie.Need-loop-less Inv-loop μ-loop
-loop-less c = search needs
-
 loop-again : tie.Need-loop-again Inv-loop μ-loop
 loop-again c =
     let at-args = c .before .before .before .before in (
@@ -80,7 +74,7 @@ policy-place-spec =
     shared-slice-read-if1
     cast-if1
     returns
-    add-i
-    loop-less
+    (λ c. search needs)
+    (λ c. search needs)
     loop-again
     returns-2)

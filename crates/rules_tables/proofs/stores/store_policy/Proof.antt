@@ -6,53 +6,8 @@ use Rattle.rules_tables.specs.Stores.{withPolicy}
 use Rattle.rules_tables.proofs.stores.store_policy.Statement.{statement}
 use Rattle.rules_tables.proofs.stores.store_policy.Tie as tie
 
-cast-words : tie.Need-cast-words
-cast-words c = search needs
-
-mul-words : tie.Need-mul-words
-mul-words c = search needs
-
-add-words : tie.Need-add-words
-add-words c = search needs
-
-mul-words-2 : tie.Need-mul-words-2
-mul-words-2 c = search needs
-
-slice-write-words : tie.Need-slice-write-words
-slice-write-words c = search needs
-
-cast-words-2 : tie.Need-cast-words-2
-cast-words-2 c = search needs
-
-mul-words-3 : tie.Need-mul-words-3
-mul-words-3 c = search needs
-
-add-words-2 : tie.Need-add-words-2
-add-words-2 c = search needs
-
-add-words-3 : tie.Need-add-words-3
-add-words-3 c = search needs
-
-mul-words-4 : tie.Need-mul-words-4
-mul-words-4 c = search needs
-
 slice-write-words-2 : tie.Need-slice-write-words-2
 slice-write-words-2 c = simp length-set (omega arith)
-
-cast-words-3 : tie.Need-cast-words-3
-cast-words-3 c = search needs
-
-mul-words-5 : tie.Need-mul-words-5
-mul-words-5 c = search needs
-
-add-words-4 : tie.Need-add-words-4
-add-words-4 c = search needs
-
-add-words-5 : tie.Need-add-words-5
-add-words-5 c = search needs
-
-mul-words-6 : tie.Need-mul-words-6
-mul-words-6 c = search needs
 
 slice-write-words-3 : tie.Need-slice-write-words-3
 slice-write-words-3 c = simp length-set (omega arith)
@@ -68,22 +23,22 @@ pub store-policy-spec : {M : Type 1} → statement M
 store-policy-spec =
     tie.close
     (tie.spec
-    cast-words
-    mul-words
-    add-words
-    mul-words-2
-    slice-write-words
-    cast-words-2
-    mul-words-3
-    add-words-2
-    add-words-3
-    mul-words-4
+    (λ c. search needs)
+    (λ c. search needs)
+    (λ c. search needs)
+    (λ c. search needs)
+    (λ c. search needs)
+    (λ c. search needs)
+    (λ c. search needs)
+    (λ c. search needs)
+    (λ c. search needs)
+    (λ c. search needs)
     slice-write-words-2
-    cast-words-3
-    mul-words-5
-    add-words-4
-    add-words-5
-    mul-words-6
+    (λ c. search needs)
+    (λ c. search needs)
+    (λ c. search needs)
+    (λ c. search needs)
+    (λ c. search needs)
     slice-write-words-3
     same-length
     returns)

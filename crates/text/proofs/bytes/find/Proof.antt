@@ -21,31 +21,13 @@ returns c = let a = c .before .before .args in sym (past-end (isOther (a .byte))
 loop-holds : tie.Need-loop-holds Inv-loop μ-loop
 loop-holds c = (omega arith, refl)
 
-sub-loop : tie.Need-sub-loop Inv-loop μ-loop
-sub-loop c = search needs
-
-in-eight-requires : tie.Need-in-eight-requires Inv-loop μ-loop
-in-eight-requires c κs = search needs
-
-find-near-requires : tie.Need-find-near-requires Inv-loop μ-loop
-find-near-requires c κs = search needs
-
 returns-2 : tie.Need-returns-2 Inv-loop μ-loop
 returns-2 c = c .find-near .ensures ∙ c .before .before .before .before .loop .inv .1
-
-add-i : tie.Need-add-i Inv-loop μ-loop
-add-i c = search needs
-
-loop-less : tie.Need-loop-less Inv-loop μ-loop
-loop-less c = search needs
 
 loop-again : tie.Need-loop-again Inv-loop μ-loop
 loop-again c =
     let a = c .before .before .before .before .before .before .args in let l = c .before .before .before .loop in
     (omega arith, sym (past-none (a .s .now) (l .i) (a .byte) 7 (omega arith) (sym (c .before .in-eight .ensures) ∙ c .if2 .left)) ∙ l .inv .1)
-
-find-near-requires-2 : tie.Need-find-near-requires-2 Inv-loop μ-loop
-find-near-requires-2 c κs = search needs
 
 returns-3 : tie.Need-returns-3 Inv-loop μ-loop
 returns-3 c = c .find-near2 .ensures ∙ c .before .before .loop .inv .1
@@ -58,12 +40,12 @@ find-spec =
     μ-loop
     returns
     loop-holds
-    sub-loop
-    in-eight-requires
-    find-near-requires
+    (λ c. search needs)
+    (λ c κs. search needs)
+    (λ c κs. search needs)
     returns-2
-    add-i
-    loop-less
+    (λ c. search needs)
+    (λ c. search needs)
     loop-again
-    find-near-requires-2
+    (λ c κs. search needs)
     returns-3)

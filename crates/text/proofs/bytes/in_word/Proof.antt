@@ -7,15 +7,6 @@ use Rattle.text.proofs.WordBytes.{low-says, high-says}
 use Rattle.text.proofs.bytes.in_word.Statement.{statement}
 use Rattle.text.proofs.bytes.in_word.Tie as tie
 
-cast-result : tie.Need-cast-result
-cast-result c = search needs
-
-cast-result-2 : tie.Need-cast-result-2
-cast-result-2 c = search needs
-
-shr-result : tie.Need-shr-result
-shr-result c = search needs
-
 returns : tie.Need-returns
 returns c =
     let b = c .before .before .args .b in
@@ -24,4 +15,4 @@ returns c =
     ⊎-elim (λ x. low-says b bits (x .1) (x .0 .taken)) (λ x. high-says b bits (x .1) (omega (arith, x .0 .left)) byte) (c .before .if1 .came)
 
 pub in-word-spec : {M : Type 1} → statement M
-in-word-spec = tie.close (tie.spec cast-result cast-result-2 shr-result returns)
+in-word-spec = tie.close (tie.spec (λ c. search needs) (λ c. search needs) (λ c. search needs) returns)

@@ -21,12 +21,6 @@ returns : tie.Need-returns Inv-loop μ-loop
 returns c = sym (compare-longer (c .before .before .before .args .a .now) (c .before .before .before .args .b .now) (c .before .before .loop .i)
     (c .before .loop-test .taken) (c .if1 .taken)) ∙ c .before .before .loop .inv
 
-shared-slice-read-if2 : tie.Need-shared-slice-read-if2 Inv-loop μ-loop
-shared-slice-read-if2 c = search needs
-
-shared-slice-read-if2-2 : tie.Need-shared-slice-read-if2-2 Inv-loop μ-loop
-shared-slice-read-if2-2 c = search needs
-
 returns-2 : tie.Need-returns-2 Inv-loop μ-loop
 returns-2 c =
     let at-loop-test = c .before .before .before .before in
@@ -34,12 +28,6 @@ returns-2 c =
     let at-args = at-loop .before in
     sym (compare-less (at-args .args .a .now) (at-args .args .b .now) (at-loop .loop .i) (at-loop-test .loop-test .taken)
     (c .before .before .before .if1 .left) (c .if2 .taken)) ∙ at-loop .loop .inv
-
-shared-slice-read-if3 : tie.Need-shared-slice-read-if3 Inv-loop μ-loop
-shared-slice-read-if3 c = search needs
-
-shared-slice-read-if3-2 : tie.Need-shared-slice-read-if3-2 Inv-loop μ-loop
-shared-slice-read-if3-2 c = search needs
 
 returns-3 : tie.Need-returns-3 Inv-loop μ-loop
 returns-3 c =
@@ -49,12 +37,6 @@ returns-3 c =
     let at-args = at-loop .before in
     sym (compare-greater (at-args .args .a .now) (at-args .args .b .now) (at-loop .loop .i) (at-loop-test .loop-test .taken) (at-if1 .if1 .left)
     (c .if3 .taken)) ∙ at-loop .loop .inv
-
-add-i : tie.Need-add-i Inv-loop μ-loop
-add-i c = search needs
-
-loop-less : tie.Need-loop-less Inv-loop μ-loop
-loop-less c = search needs
 
 loop-again : tie.Need-loop-again Inv-loop μ-loop
 loop-again c =
@@ -81,14 +63,14 @@ compare-spec =
     μ-loop
     loop-holds
     returns
-    shared-slice-read-if2
-    shared-slice-read-if2-2
+    (λ c. search needs)
+    (λ c. search needs)
     returns-2
-    shared-slice-read-if3
-    shared-slice-read-if3-2
+    (λ c. search needs)
+    (λ c. search needs)
     returns-3
-    add-i
-    loop-less
+    (λ c. search needs)
+    (λ c. search needs)
     loop-again
     returns-4
     returns-5)

@@ -15,17 +15,8 @@ returns-2 c = name-by-length (c .before .before .before .args .w .now) (λ n l m
 shared-slice-read-begins-one-of-six : tie.Need-shared-slice-read-begins-one-of-six
 shared-slice-read-begins-one-of-six c = omega arith
 
-begins-one-of-six-requires : tie.Need-begins-one-of-six-requires
-begins-one-of-six-requires c κs = search needs
-
-is-none-of-six-requires : tie.Need-is-none-of-six-requires
-is-none-of-six-requires c κs = search needs
-
-returns-3 : tie.Need-returns-3
-returns-3 c = search needs
-
 returns-4 : tie.Need-returns-4
 returns-4 c = name-by-first (c .before .before .before .before .before .before .args .w .now) (sym (c .before .begins-one-of-six .ensures) ∙ c .if3 .left)
 
 pub is-name-spec : {M : Type 1} → statement M
-is-name-spec = tie.close (tie.spec returns returns-2 shared-slice-read-begins-one-of-six begins-one-of-six-requires is-none-of-six-requires returns-3 returns-4)
+is-name-spec = tie.close (tie.spec returns returns-2 shared-slice-read-begins-one-of-six (λ c κs. search needs) (λ c κs. search needs) (λ c. search needs) returns-4)

@@ -7,33 +7,15 @@ use borrow.Author.Needs.{needs}
 use Rattle.text.proofs.compare.is_none_of_six.Statement.{statement}
 use Rattle.text.proofs.compare.is_none_of_six.Tie as tie
 
-slice-aggregate-same-bytes : tie.Need-slice-aggregate-same-bytes
-slice-aggregate-same-bytes c = search needs
-
-same-bytes-requires : tie.Need-same-bytes-requires
-same-bytes-requires c κs = search needs
-
 returns : tie.Need-returns
 unfolding mem any neverNames
 returns c = simp (sym (c .before .same-bytes .ensures) ∙ c .if1 .taken)
-
-slice-aggregate-same-bytes-2 : tie.Need-slice-aggregate-same-bytes-2
-slice-aggregate-same-bytes-2 c = search needs
-
-same-bytes-requires-2 : tie.Need-same-bytes-requires-2
-same-bytes-requires-2 c κs = search needs
 
 returns-2 : tie.Need-returns-2
 unfolding mem any neverNames
 returns-2 c =
     let at-same-bytes = c .before .before .before .before in
     simp (sym (at-same-bytes .same-bytes .ensures) ∙ c .before .before .before .if1 .left, sym (c .before .same-bytes2 .ensures) ∙ c .if2 .taken)
-
-slice-aggregate-same-bytes-3 : tie.Need-slice-aggregate-same-bytes-3
-slice-aggregate-same-bytes-3 c = search needs
-
-same-bytes-requires-3 : tie.Need-same-bytes-requires-3
-same-bytes-requires-3 c κs = search needs
 
 returns-3 : tie.Need-returns-3
 unfolding mem any neverNames
@@ -47,12 +29,6 @@ returns-3 c =
           ∙ c .before .before .before .if2 .left,
       sym (c .before .same-bytes3 .ensures) ∙ c .if3 .taken,
     )
-
-slice-aggregate-same-bytes-4 : tie.Need-slice-aggregate-same-bytes-4
-slice-aggregate-same-bytes-4 c = search needs
-
-same-bytes-requires-4 : tie.Need-same-bytes-requires-4
-same-bytes-requires-4 c κs = search needs
 
 returns-4 : tie.Need-returns-4
 unfolding mem any neverNames
@@ -70,12 +46,6 @@ returns-4 c =
       sym (c .before .same-bytes4 .ensures)
           ∙ c .if4 .taken,
     )
-
-slice-aggregate-same-bytes-5 : tie.Need-slice-aggregate-same-bytes-5
-slice-aggregate-same-bytes-5 c = search needs
-
-same-bytes-requires-5 : tie.Need-same-bytes-requires-5
-same-bytes-requires-5 c κs = search needs
 
 returns-5 : tie.Need-returns-5
 unfolding mem any neverNames
@@ -96,12 +66,6 @@ returns-5 c =
           ∙ c .before .before .before .if4 .left,
       sym (c .before .same-bytes5 .ensures) ∙ c .if5 .taken,
     )
-
-slice-aggregate-same-bytes-6 : tie.Need-slice-aggregate-same-bytes-6
-slice-aggregate-same-bytes-6 c = search needs
-
-same-bytes-requires-6 : tie.Need-same-bytes-requires-6
-same-bytes-requires-6 c κs = search needs
 
 returns-6 : tie.Need-returns-6
 unfolding mem any neverNames
@@ -155,22 +119,22 @@ pub is-none-of-six-spec : {M : Type 1} → statement M
 is-none-of-six-spec =
     tie.close
     (tie.spec
-    slice-aggregate-same-bytes
-    same-bytes-requires
+    (λ c. search needs)
+    (λ c κs. search needs)
     returns
-    slice-aggregate-same-bytes-2
-    same-bytes-requires-2
+    (λ c. search needs)
+    (λ c κs. search needs)
     returns-2
-    slice-aggregate-same-bytes-3
-    same-bytes-requires-3
+    (λ c. search needs)
+    (λ c κs. search needs)
     returns-3
-    slice-aggregate-same-bytes-4
-    same-bytes-requires-4
+    (λ c. search needs)
+    (λ c κs. search needs)
     returns-4
-    slice-aggregate-same-bytes-5
-    same-bytes-requires-5
+    (λ c. search needs)
+    (λ c κs. search needs)
     returns-5
-    slice-aggregate-same-bytes-6
-    same-bytes-requires-6
+    (λ c. search needs)
+    (λ c κs. search needs)
     returns-6
     returns-7)

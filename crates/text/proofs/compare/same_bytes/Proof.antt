@@ -22,24 +22,12 @@ returns c = let p = c .before .before .before .args in sym (same-lengths (p .a .
 loop-holds : tie.Need-loop-holds Inv-loop μ-loop
 loop-holds c = (omega arith, refl)
 
-sub-loop : tie.Need-sub-loop Inv-loop μ-loop
-sub-loop c = search needs
-
-same-four-requires : tie.Need-same-four-requires Inv-loop μ-loop
-same-four-requires c κs = search needs
-
 returns-2 : tie.Need-returns-2 Inv-loop μ-loop
 returns-2 c =
     let at-args = c .before .before .before .before .before .before .before in
     let p = at-args .args in let l = c .before .before .before .loop in
     sym (row-differs (p .a .now) (p .b .now) (l .i) 3 (omega arith) (omega arith) (sym (c .before .same-four .ensures) ∙ not-true _ (c .if2 .taken)))
     ∙ l .inv .1
-
-add-i : tie.Need-add-i Inv-loop μ-loop
-add-i c = search needs
-
-loop-less : tie.Need-loop-less Inv-loop μ-loop
-loop-less c = search needs
 
 loop-again : tie.Need-loop-again Inv-loop μ-loop
 loop-again c =
@@ -49,9 +37,6 @@ loop-again c =
       sym (row-same (p .a .now) (p .b .now) (l .i) 3 (omega arith) (omega arith) (sym (c .before .same-four .ensures) ∙ not-false _ (c .if2 .left)))
           ∙ l .inv .1,
     )
-
-same-from-requires : tie.Need-same-from-requires Inv-loop μ-loop
-same-from-requires c κs = search needs
 
 returns-3 : tie.Need-returns-3 Inv-loop μ-loop
 returns-3 c = c .same-from .ensures ∙ c .before .before .loop .inv .1
@@ -64,11 +49,11 @@ same-bytes-spec =
     μ-loop
     returns
     loop-holds
-    sub-loop
-    same-four-requires
+    (λ c. search needs)
+    (λ c κs. search needs)
     returns-2
-    add-i
-    loop-less
+    (λ c. search needs)
+    (λ c. search needs)
     loop-again
-    same-from-requires
+    (λ c κs. search needs)
     returns-3)

@@ -20,12 +20,6 @@ abbrev μ-loop : tie.MeasureT-loop
 loop-holds : tie.Need-loop-holds Inv-loop μ-loop
 loop-holds c = (refl, omega arith)
 
-shared-slice-read-b : tie.Need-shared-slice-read-b Inv-loop μ-loop
-shared-slice-read-b c = search needs
-
-is-bad-requires : tie.Need-is-bad-requires Inv-loop μ-loop
-is-bad-requires c κs = search needs
-
 returns : tie.Need-returns Inv-loop μ-loop
 unfolding onLine
 returns c =
@@ -34,20 +28,11 @@ returns c =
     ap onLine (sym (bad-here (at-args .args .s .now) (at-loop .loop .i) (c .before .before .before .loop-test .taken) (at-loop .loop .line)
     (sym (c .before .is-bad .ensures) ∙ c .if1 .taken)) ∙ at-loop .loop .inv .0)
 
-feed-count-requires : tie.Need-feed-count-requires Inv-loop μ-loop
-feed-count-requires c κs = search needs
-
 add-line : tie.Need-add-line Inv-loop μ-loop
 add-line c =
     let at-loop = c .before .before .before .before .before in
     let at-args = at-loop .before .before in
     omega (arith, c .feed-count .ensures, feed-count-small (getD (at-args .args .s .now) (at-loop .loop .i) 0))
-
-add-i : tie.Need-add-i Inv-loop μ-loop
-add-i c = search needs
-
-loop-less : tie.Need-loop-less Inv-loop μ-loop
-loop-less c = search needs
 
 loop-again : tie.Need-loop-again Inv-loop μ-loop
 loop-again c =
@@ -73,12 +58,12 @@ bad-line-spec =
     Inv-loop
     μ-loop
     loop-holds
-    shared-slice-read-b
-    is-bad-requires
+    (λ c. search needs)
+    (λ c κs. search needs)
     returns
-    feed-count-requires
+    (λ c κs. search needs)
     add-line
-    add-i
-    loop-less
+    (λ c. search needs)
+    (λ c. search needs)
     loop-again
     returns-2)

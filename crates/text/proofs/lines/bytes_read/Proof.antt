@@ -11,12 +11,6 @@ returns : tie.Need-returns
 unfolding bytesOf
 returns c = simp (lt-ltb _ _ (c .if1 .taken))
 
-some-bad-requires : tie.Need-some-bad-requires
-some-bad-requires c κs = search needs
-
-bad-line-requires : tie.Need-bad-line-requires
-bad-line-requires c κs = search needs
-
 returns-2 : tie.Need-returns-2
 unfolding bytesOf
 returns-2 c = c .bad-line .ensures ∙ simp (le-ltb _ _ (c .before .before .before .if1 .left))
@@ -29,4 +23,4 @@ returns-3 c =
 
 pub bytes-read-spec : {M : Type 1} → statement M
 bytes-read-spec =
-    tie.close (tie.spec returns some-bad-requires bad-line-requires returns-2 returns-3)
+    tie.close (tie.spec returns (λ c κs. search needs) (λ c κs. search needs) returns-2 returns-3)

@@ -33,12 +33,6 @@ here c = digit-at (c .before .before .before .before .before .before .before .ar
 loop-holds : tie.Need-loop-holds Inv-loop μ-loop
 loop-holds c = (refl, refl, omega arith)
 
-peek-requires : tie.Need-peek-requires Inv-loop μ-loop
-peek-requires c κs = search needs
-
-is-digit-requires : tie.Need-is-digit-requires Inv-loop μ-loop
-is-digit-requires c κs = search needs
-
 returns : tie.Need-returns Inv-loop μ-loop
 returns c =
     let at-loop = c .before .before .before .before in
@@ -54,9 +48,6 @@ returns c =
           (at-loop .loop .v * 10 + (getD (at-args .args .s .now) (at-loop .loop .i) 0 - 48))
           (run isDigit (drop (at-loop .loop .i + 1) (at-args .args .s .now))),
     ))
-
-mul-v : tie.Need-mul-v Inv-loop μ-loop
-mul-v c = search needs
 
 shared-slice-read-v : tie.Need-shared-slice-read-v Inv-loop μ-loop
 shared-slice-read-v c = omega (arith, here c)
@@ -112,10 +103,10 @@ digits-spec =
     Inv-loop
     μ-loop
     loop-holds
-    peek-requires
-    is-digit-requires
+    (λ c κs. search needs)
+    (λ c κs. search needs)
     returns
-    mul-v
+    (λ c. search needs)
     shared-slice-read-v
     sub-v
     cast-v

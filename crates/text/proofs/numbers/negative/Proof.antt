@@ -19,18 +19,6 @@ returns c =
     (none-not-whole true (run isDigit (drop (at-args .args .at + 1) (at-args .args .s .now)))
     (run-none isDigit (at-args .args .s .now) (at-args .args .at + 1) (omega (arith, c .if1 .taken))))
 
-add-from : tie.Need-add-from
-add-from c = search needs
-
-digits-requires : tie.Need-digits-requires
-digits-requires c κs = search needs
-
-enum-known-v : tie.Need-enum-known-v
-enum-known-v c = search needs
-
-enum-told : tie.Need-enum-told
-enum-told c = search needs
-
 returns-2 : tie.Need-returns-2
 returns-2 c =
     let at-args = c .before .before .before .before .before in
@@ -44,9 +32,6 @@ returns-3 c =
     let t = told (at-args .args .s .now) (at-args .args .at + 1) _ _ (sym (c .before .before .v .given .1) ∙ at-digits .digits .ensures) in
     not-number true (at-args .args .s .now) (at-args .args .at) (at-args .args .at + 1)
     (none-not-whole true (run isDigit (drop (at-args .args .at + 1) (at-args .args .s .now))) (omega (arith, c .if2 .taken, t .end)))
-
-peek-requires : tie.Need-peek-requires
-peek-requires c κs = search needs
 
 returns-4 : tie.Need-returns-4
 returns-4 c =
@@ -85,13 +70,13 @@ negative-spec =
     tie.close
     (tie.spec
     returns
-    add-from
-    digits-requires
-    enum-known-v
-    enum-told
+    (λ c. search needs)
+    (λ c κs. search needs)
+    (λ c. search needs)
+    (λ c. search needs)
     returns-2
     returns-3
-    peek-requires
+    (λ c κs. search needs)
     returns-4
     sub-t9
     returns-5)

@@ -13,15 +13,6 @@ use borrow.Author.Needs.{needs}
 use Rattle.text.proofs.numbers.plain.Statement.{statement}
 use Rattle.text.proofs.numbers.plain.Tie as tie
 
-digits-requires : tie.Need-digits-requires
-digits-requires c κs = search needs
-
-enum-known-v : tie.Need-enum-known-v
-enum-known-v c = search needs
-
-enum-told : tie.Need-enum-told
-enum-told c = search needs
-
 returns : tie.Need-returns
 returns c =
     let at-args = c .before .before .before .before in
@@ -35,9 +26,6 @@ returns-2 c =
     let t = told (at-args .args .s .now) (at-args .args .at) _ _ (sym (c .before .before .v .given .1) ∙ at-digits .digits .ensures) in
     not-number false (at-args .args .s .now) (at-args .args .at) (at-args .args .at)
     (none-not-whole false (run isDigit (drop (at-args .args .at) (at-args .args .s .now))) (omega (arith, c .if1 .taken, t .end)))
-
-peek-requires : tie.Need-peek-requires
-peek-requires c κs = search needs
 
 sub-if3 : tie.Need-sub-if3
 sub-if3 c =
@@ -103,12 +91,12 @@ pub plain-spec : {M : Type 1} → statement M
 plain-spec =
     tie.close
     (tie.spec
-    digits-requires
-    enum-known-v
-    enum-told
+    (λ c κs. search needs)
+    (λ c. search needs)
+    (λ c. search needs)
     returns
     returns-2
-    peek-requires
+    (λ c κs. search needs)
     sub-if3
     returns-3
     returns-4

@@ -5,19 +5,10 @@ use borrow.Author.Needs.{needs}
 use Rattle.text.proofs.numbers.whole.Statement.{statement}
 use Rattle.text.proofs.numbers.whole.Tie as tie
 
-peek-requires : tie.Need-peek-requires
-peek-requires c κs = search needs
-
-negative-requires : tie.Need-negative-requires
-negative-requires c κs = search needs
-
 returns : tie.Need-returns
 returns c =
     let at-args = c .before .before .before .before in
     c .negative .ensures ∙ whole-minus (at-args .args .s .now) (at-args .args .at) (sym (c .before .before .peek .ensures) ∙ c .before .if1 .taken)
-
-plain-requires : tie.Need-plain-requires
-plain-requires c κs = search needs
 
 returns-2 : tie.Need-returns-2
 returns-2 c =
@@ -25,4 +16,4 @@ returns-2 c =
     c .plain .ensures ∙ whole-plain (at-args .args .s .now) (at-args .args .at) (λ h. c .before .if1 .left (c .before .before .peek .ensures ∙ h))
 
 pub whole-spec : {M : Type 1} → statement M
-whole-spec = tie.close (tie.spec peek-requires negative-requires returns plain-requires returns-2)
+whole-spec = tie.close (tie.spec (λ c κs. search needs) (λ c κs. search needs) returns (λ c κs. search needs) returns-2)

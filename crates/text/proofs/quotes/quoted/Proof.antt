@@ -12,15 +12,6 @@ use Rattle.text.proofs.quotes.quoted.Tie as tie
 returns : tie.Need-returns
 returns c = quoted-past (c .before .before .args .s .now) (c .before .before .args .at) (c .if1 .taken)
 
-add-find : tie.Need-add-find
-add-find c = search needs
-
-find-requires : tie.Need-find-requires
-find-requires c κs = search needs
-
-peek-requires : tie.Need-peek-requires
-peek-requires c κs = search needs
-
 returns-2 : tie.Need-returns-2
 returns-2 c =
     let at-args = c .before .before .before .before .before in
@@ -40,4 +31,4 @@ returns-3 c =
 
 pub quoted-spec : {M : Type 1} → statement M
 quoted-spec =
-    tie.close (tie.spec returns add-find find-requires peek-requires returns-2 add-t4 returns-3)
+    tie.close (tie.spec returns (λ c. search needs) (λ c κs. search needs) (λ c κs. search needs) returns-2 add-t4 returns-3)

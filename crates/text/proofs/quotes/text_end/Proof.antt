@@ -18,24 +18,12 @@ abbrev μ-loop : tie.MeasureT-loop
 loop-holds : tie.Need-loop-holds Inv-loop μ-loop
 loop-holds c = refl
 
-shared-slice-read-in-text : tie.Need-shared-slice-read-in-text Inv-loop μ-loop
-shared-slice-read-in-text c = search needs
-
-in-text-requires : tie.Need-in-text-requires Inv-loop μ-loop
-in-text-requires c κs = search needs
-
 returns : tie.Need-returns Inv-loop μ-loop
 returns c =
     let at-loop = c .before .before .before .before in
     let at-args = at-loop .before .before in
     sym (past-stop-in isInText (at-args .args .s .now) (at-loop .loop .i) (c .before .before .before .loop-test .taken)
     (sym (c .before .in-text .ensures) ∙ not-true _ (c .if1 .taken))) ∙ at-loop .loop .inv
-
-add-i : tie.Need-add-i Inv-loop μ-loop
-add-i c = search needs
-
-loop-less : tie.Need-loop-less Inv-loop μ-loop
-loop-less c = search needs
 
 loop-again : tie.Need-loop-again Inv-loop μ-loop
 loop-again c =
@@ -54,10 +42,10 @@ text-end-spec =
     Inv-loop
     μ-loop
     loop-holds
-    shared-slice-read-in-text
-    in-text-requires
+    (λ c. search needs)
+    (λ c κs. search needs)
     returns
-    add-i
-    loop-less
+    (λ c. search needs)
+    (λ c. search needs)
     loop-again
     returns-2)

@@ -12,15 +12,6 @@ use Rattle.text.proofs.quotes.text_value.Tie as tie
 returns : tie.Need-returns
 returns c = text-past (c .before .before .args .s .now) (c .before .before .args .at) (c .if1 .taken)
 
-add-from : tie.Need-add-from
-add-from c = search needs
-
-text-end-requires : tie.Need-text-end-requires
-text-end-requires c κs = search needs
-
-peek-requires : tie.Need-peek-requires
-peek-requires c κs = search needs
-
 returns-2 : tie.Need-returns-2
 returns-2 c =
     let at-args = c .before .before .before .before .before in
@@ -54,9 +45,9 @@ text-value-spec =
     tie.close
     (tie.spec
     returns
-    add-from
-    text-end-requires
-    peek-requires
+    (λ c. search needs)
+    (λ c κs. search needs)
+    (λ c κs. search needs)
     returns-2
     sub-if3
     add-t7

@@ -24,9 +24,6 @@ space c = eq-eqb _ 32 (sym (c .before .peek .ensures) ∙ c .if1 .taken)
 loop-holds : tie.Need-loop-holds Inv-loop μ-loop
 loop-holds c = refl
 
-peek-requires : tie.Need-peek-requires Inv-loop μ-loop
-peek-requires c κs = search needs
-
 add-i : tie.Need-add-i Inv-loop μ-loop
 unfolding isSpace
 add-i c = omega (arith, test-in isSpace (c .before .before .before .before .args .s .now) (c .before .before .loop .i) refl (space c))
@@ -51,4 +48,4 @@ returns c =
 pub spaces-end-spec : {M : Type 1} → statement M
 spaces-end-spec =
     tie.close
-    (tie.spec Inv-loop μ-loop loop-holds peek-requires add-i loop-less loop-again returns)
+    (tie.spec Inv-loop μ-loop loop-holds (λ c κs. search needs) add-i loop-less loop-again returns)

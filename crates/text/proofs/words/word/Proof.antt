@@ -7,9 +7,6 @@ use borrow.Author.Needs.{needs}
 use Rattle.text.proofs.words.word.Statement.{statement}
 use Rattle.text.proofs.words.word.Tie as tie
 
-run-end-requires : tie.Need-run-end-requires
-run-end-requires c κs = search needs
-
 sub-if1 : tie.Need-sub-if1
 sub-if1 c = omega (arith, c .run-end .ensures, past-on isWordByte (c .before .before .args .s .now) (c .before .before .args .at))
 
@@ -22,4 +19,4 @@ returns-2 c = word-long (c .before .before .before .args .s .now) (c .before .be
     (c .before .run-end .ensures) (c .if1 .left)
 
 pub word-spec : {M : Type 1} → statement M
-word-spec = tie.close (tie.spec run-end-requires sub-if1 returns returns-2)
+word-spec = tie.close (tie.spec (λ c κs. search needs) sub-if1 returns returns-2)
