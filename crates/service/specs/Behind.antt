@@ -24,7 +24,7 @@ use Rattle.model.specs.Answers.{writerAnswer, listAnswer}
 use Rattle.model.specs.declared.QueryWritten.{QueryWritten}
 use Rattle.model.specs.declared.RowsListed.{RowsListed}
 use Rattle.rows.specs.Order.{Row}
-use Rattle.backjump.specs.Problem.{AllRows}
+use Rattle.jumps.specs.Problem.{AllRows}
 use Rattle.problem.specs.ProblemOf.{problemOf}
 use Rattle.weave.specs.Given.{Identified}
 
