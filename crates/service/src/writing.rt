@@ -8,15 +8,15 @@ ghost use Rattle.book_tables.specs.Fits.{Fits};
 ghost use Rattle.service.specs.Behind.{textFrom, textOfRules, Wrote};
 use crate::NO_ROOM;
 use book::BookLoad;
+use book_tables::BookCounts;
 use model::QueryWritten;
 use model::Refusal;
 use model::Verdict;
+use putting::Written;
 use query::read::QUERY;
 use query::read::QUERY_LINE;
-use rules_tables::RULES_WORDS;
 use rules::RulesLoad;
-use book_tables::BookCounts;
-use query_writer::Written;
+use rules_tables::RULES_WORDS;
 
 // Reads the book, then the rules and the query, and writes it.
 pub fn from_texts(
