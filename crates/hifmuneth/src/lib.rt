@@ -1,9 +1,8 @@
 // The services for programs in other languages: numbers pass as themselves, texts and buffers as a pointer and a length.
 pub mod list; // list.rt: listing the rows
-pub mod node_names; // node_names.rt: the names of a book's nodes
+pub mod names; // names.rt: the names of a book's nodes
 pub mod read_book; // read_book.rt: reading a book
 pub mod read_query; // read_query.rt: reading a query
 pub mod read_request; // read_request.rt: reading a request
 pub mod read_rules; // read_rules.rt: reading rules
-mod tell; // tell.rt: telling a verdict in numbers
 pub mod write_query; // write_query.rt: writing a query
