@@ -23,7 +23,7 @@ use Rattle.model.proofs.Places.{getD-in}
 use Rattle.book_tables.specs.Listed.{listed}
 use Rattle.book_tables.specs.declared.BookCounts.{BookCounts}
 use Rattle.book_tables.proofs.ListedLaws.{length-listed, getD-listed, map-listed}
-use Rattle.query_writer.specs.Pieces.{noEdge, noClause}
+use Rattle.model.specs.PlainData.{noEdge, noClause}
 use Rattle.query_writer.specs.Writable.{ConditionFits, countLimits, PatternFits}
 use Rattle.woven_tables.specs.declared.WovenCounts.{WovenCounts}
 use Rattle.woven_tables.specs.Tables.{textOf, edgeAt, clauseAt, edgesAt, clausesAt, wovenAt}

@@ -2,10 +2,8 @@
 ghost use mathlib.Core.Path.{_≡_};
 ghost use lib.ListN.{length};
 ghost use Rattle.model.specs.Service.{ones, listService};
-ghost use Rattle.hifmuneth.specs.Told.{RowsTold};
-use crate::tell::tell;
-use model::RowsListed;
-use model::Verdict;
+ghost use Rattle.telling.specs.Told.{RowsTold};
+use telling::counts::tell_rows;
 
 // Lists the rows that may be had into the row words, one after another, a word for each node's number: true, how many rows there are and how
 // many Return names each answers, or false and the refusal. Row words past the rows are all ones, after a refusal all of them. What does not
@@ -28,16 +26,6 @@ pub extern "C" fn hifmuneth_list(
     ensures rows { λ _. ⌜ now (rows .exit) ≡ listService (length (now (work .entry))) (length (now (rows .entry))) (now (book .entry)) (now (rules .entry)) (now (query .entry)) (now (request .entry)) .rows ⌝ }
     ensures cleared { λ _. ⌜ now (work .exit) ≡ ones (length (now (work .entry))) ⌝ }
 {
-    match service::list(book, rules, query, request, rows, work) {
-        RowsListed::Count(n, w) => {
-            *count = n;
-            *width = w;
-            return tell(Verdict::Accepted, number, text, line);
-        }
-        RowsListed::Refused(refusal) => {
-            *count = 0;
-            *width = 0;
-            return tell(Verdict::Refused(refusal), number, text, line);
-        }
-    }
+    let listed = service::list(book, rules, query, request, rows, work);
+    tell_rows(listed, count, width, number, text, line)
 }

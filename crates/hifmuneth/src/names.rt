@@ -3,11 +3,9 @@ ghost use mathlib.Core.Path.{_≡_};
 ghost use lib.ListN.{length};
 ghost use Rattle.model.specs.Service.{ones, bookService};
 ghost use Rattle.node_names.specs.Names.{namesLeft};
-ghost use Rattle.hifmuneth.specs.Told.{NamesTold};
-use crate::tell::tell;
-use model::BookRead;
-use model::Verdict;
+ghost use Rattle.telling.specs.Told.{NamesTold};
 use node_names::ALL_NAME_BYTES;
+use telling::counts::tell_names;
 
 // Gives the names of a book's nodes, 25 bytes for each: the name, then zeros. True and the number of nodes, or false and the refusal. What does
 // not apply is 0. The working memory ends all ones.
@@ -25,14 +23,6 @@ pub extern "C" fn hifmuneth_node_names(
     ensures names { λ _. ⌜ now (names .exit) ≡ namesLeft (length (now (work .entry))) (now (book .entry)) ⌝ }
     ensures cleared { λ _. ⌜ now (work .exit) ≡ ones (length (now (work .entry))) ⌝ }
 {
-    match node_names::node_names(book, names, work) {
-        BookRead::Counts(nodes, _, _) => {
-            *count = nodes;
-            return tell(Verdict::Accepted, number, text, line);
-        }
-        BookRead::Refused(refusal) => {
-            *count = 0;
-            return tell(Verdict::Refused(refusal), number, text, line);
-        }
-    }
+    let read = node_names::node_names(book, names, work);
+    tell_names(read, count, number, text, line)
 }

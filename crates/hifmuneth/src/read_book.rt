@@ -2,10 +2,8 @@
 ghost use mathlib.Core.Path.{_≡_};
 ghost use lib.ListN.{length};
 ghost use Rattle.model.specs.Service.{ones, bookService};
-ghost use Rattle.hifmuneth.specs.Told.{BookTold};
-use crate::tell::tell;
-use model::BookRead;
-use model::Verdict;
+ghost use Rattle.telling.specs.Told.{BookTold};
+use telling::counts::tell_book;
 
 // Reads a book: true and its counts, or false and the refusal. What does not apply is 0. The working memory ends all ones.
 #[no_mangle]
@@ -22,18 +20,6 @@ pub extern "C" fn hifmuneth_read_book(
     ensures answer { λ r. ⌜ BookTold (bookService (length (now (work .entry))) (now (book .entry)) .answer) r (now (nodes .exit)) (now (relationships .exit)) (now (entries .exit)) (now (number .exit)) (now (text .exit)) (now (line .exit)) ⌝ }
     ensures cleared { λ _. ⌜ now (work .exit) ≡ ones (length (now (work .entry))) ⌝ }
 {
-    match book::read_book(book, work) {
-        BookRead::Counts(n, r, e) => {
-            *nodes = n;
-            *relationships = r;
-            *entries = e;
-            return tell(Verdict::Accepted, number, text, line);
-        }
-        BookRead::Refused(refusal) => {
-            *nodes = 0;
-            *relationships = 0;
-            *entries = 0;
-            return tell(Verdict::Refused(refusal), number, text, line);
-        }
-    }
+    let read = book::read_book(book, work);
+    tell_book(read, nodes, relationships, entries, number, text, line)
 }

@@ -3,14 +3,12 @@ ghost use mathlib.Core.Path.{_≡_};
 ghost use lib.ListN.{length};
 ghost use Rattle.model.specs.Service.{ones};
 ghost use Rattle.model.specs.WholeAnswers.{queryRead};
-ghost use Rattle.hifmuneth.specs.Told.{QueryTold};
-use crate::tell::tell;
-use answer_words::conditions;
+ghost use Rattle.telling.specs.Told.{QueryTold};
 use answer_words::conditions::ALL_CONDITION_WORDS;
-use answer_words::patterns;
 use answer_words::patterns::ALL_EDGE_WORDS;
 use answer_words::patterns::ALL_VERTEX_WORDS;
 use model::limits::MAX_RETURNS;
+use telling::reads::tell_query;
 
 // Reads a query: true and its pattern, or false and the refusal. Beside the counts each vertex has two words, each edge five, each condition
 // seven and each Return name one, as `answer_words/specs/Words.antt` sets out. What does not apply is 0. The working memory ends all ones.
@@ -35,15 +33,18 @@ pub extern "C" fn hifmuneth_read_query(
     ensures cleared { λ _. ⌜ now (work .exit) ≡ ones (length (now (work .entry))) ⌝ }
 {
     let read = service::read_query(book, query, work);
-    let pattern = read.pattern;
-    *vertices = pattern.counts.vertices;
-    *edges = pattern.counts.edges;
-    *conditions = pattern.counts.clauses;
-    *returns = pattern.counts.returns;
-    *vertex_words = patterns::vertex_words(pattern);
-    *edge_words = patterns::edge_words(pattern);
-    *condition_words = conditions::condition_words(pattern);
-    *return_words = patterns::return_words(pattern);
-    let verdict = read.verdict;
-    tell(verdict, number, text, line)
+    tell_query(
+        read,
+        vertices,
+        edges,
+        conditions,
+        returns,
+        vertex_words,
+        edge_words,
+        condition_words,
+        return_words,
+        number,
+        text,
+        line,
+    )
 }

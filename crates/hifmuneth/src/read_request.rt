@@ -3,10 +3,9 @@ ghost use mathlib.Core.Path.{_≡_};
 ghost use lib.ListN.{length};
 ghost use Rattle.model.specs.Service.{ones};
 ghost use Rattle.model.specs.RequestAnswer.{requestRead};
-ghost use Rattle.hifmuneth.specs.Told.{RequestTold};
-use crate::tell::tell;
+ghost use Rattle.telling.specs.Told.{RequestTold};
 use answer_words::identities::ALL_IDENTITY_WORDS;
-use answer_words::identities::identity_words;
+use telling::reads::tell_request;
 
 // Reads a request: true, the category's number and the identities, or false and the refusal. An identity has three words: where its actor's
 // name starts in the request, the name's length, and the node's number. What does not apply is 0. The working memory ends all ones.
@@ -27,9 +26,5 @@ pub extern "C" fn hifmuneth_read_request(
     ensures cleared { λ _. ⌜ now (work .exit) ≡ ones (length (now (work .entry))) ⌝ }
 {
     let read = service::read_request(book, rules, request, work);
-    *category = read.category;
-    *count = read.count;
-    *identities = identity_words(read);
-    let verdict = read.verdict;
-    tell(verdict, number, text, line)
+    tell_request(read, category, count, identities, number, text, line)
 }

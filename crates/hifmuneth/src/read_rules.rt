@@ -2,10 +2,8 @@
 ghost use mathlib.Core.Path.{_≡_};
 ghost use lib.ListN.{length};
 ghost use Rattle.model.specs.Service.{ones, rulesService};
-ghost use Rattle.hifmuneth.specs.Told.{RulesTold};
-use crate::tell::tell;
-use model::RulesRead;
-use model::Verdict;
+ghost use Rattle.telling.specs.Told.{RulesTold};
+use telling::counts::tell_rules;
 
 // Reads rules: true and their counts, or false and the refusal. What does not apply is 0. The working memory ends all ones.
 #[no_mangle]
@@ -22,16 +20,6 @@ pub extern "C" fn hifmuneth_read_rules(
     ensures answer { λ r. ⌜ RulesTold (rulesService (length (now (work .entry))) (now (book .entry)) (now (rules .entry)) .answer) r (now (categories .exit)) (now (policies .exit)) (now (number .exit)) (now (text .exit)) (now (line .exit)) ⌝ }
     ensures cleared { λ _. ⌜ now (work .exit) ≡ ones (length (now (work .entry))) ⌝ }
 {
-    match service::read_rules(book, rules, work) {
-        RulesRead::Counts(c, p) => {
-            *categories = c;
-            *policies = p;
-            return tell(Verdict::Accepted, number, text, line);
-        }
-        RulesRead::Refused(refusal) => {
-            *categories = 0;
-            *policies = 0;
-            return tell(Verdict::Refused(refusal), number, text, line);
-        }
-    }
+    let read = service::read_rules(book, rules, work);
+    tell_rules(read, categories, policies, number, text, line)
 }

@@ -2,10 +2,8 @@
 ghost use mathlib.Core.Path.{_≡_};
 ghost use lib.ListN.{length};
 ghost use Rattle.model.specs.Service.{ones, writerService};
-ghost use Rattle.hifmuneth.specs.Told.{CountTold};
-use crate::tell::tell;
-use model::QueryWritten;
-use model::Verdict;
+ghost use Rattle.telling.specs.Told.{CountTold};
+use telling::counts::tell_length;
 
 // Writes a query in front of the text buffer: true and its length in bytes, or false and the refusal, which leaves the buffer as it is.
 // What does not apply is 0. The working memory ends all ones.
@@ -25,14 +23,6 @@ pub extern "C" fn hifmuneth_write_query(
     ensures written { λ _. ⌜ now (out .exit) ≡ writerService (length (now (work .entry))) (now (out .entry)) (now (book .entry)) (now (rules .entry)) (now (query .entry)) .text ⌝ }
     ensures cleared { λ _. ⌜ now (work .exit) ≡ ones (length (now (work .entry))) ⌝ }
 {
-    match service::write_query(book, rules, query, out, work) {
-        QueryWritten::Length(n) => {
-            *size = n;
-            return tell(Verdict::Accepted, number, text, line);
-        }
-        QueryWritten::Refused(refusal) => {
-            *size = 0;
-            return tell(Verdict::Refused(refusal), number, text, line);
-        }
-    }
+    let written = service::write_query(book, rules, query, out, work);
+    tell_length(written, size, number, text, line)
 }

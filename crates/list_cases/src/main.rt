@@ -6,8 +6,8 @@ use model::limits::MAX_BOOK_BYTES;
 use model::limits::MAX_QUERY_BYTES;
 use model::limits::MAX_REQUEST_BYTES;
 use model::limits::MAX_RULES_BYTES;
-use query_writer::bytes::put_byte;
-use query_writer::bytes::put_bytes;
+use putting::bytes::put_byte;
+use putting::bytes::put_bytes;
 
 // The cases are counted from 1.
 const CASES: usize = 40;

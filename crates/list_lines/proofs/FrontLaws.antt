@@ -8,8 +8,8 @@ use lib.ListN.{length, take, drop, set, take-append-drop, drop-of-length-le}
 use lib.Seq.{sets, sets-eq, length-sets, set-out, take-all, length-take-le}
 use Rattle.logic.specs.Tests.{either, below-or-not}
 use Rattle.model.specs.Bytes.{Bytes}
-use Rattle.query_writer.specs.Putting.{Buffer, Puts}
-use Rattle.query_writer.proofs.PuttingLaws.{counts-length, bytes-stored, fits-in-front}
+use Rattle.putting.specs.Putting.{Buffer, lastPlace, Puts}
+use Rattle.putting.proofs.PuttingLaws.{counts-length, bytes-stored, fits-in-front}
 use Rattle.list_lines.specs.Printing.{inFront, Prints}
 
 -- stores past the end of a buffer change nothing
@@ -39,7 +39,7 @@ stored-as-fits t o h =
 pub prints : {t o o′ : Bytes} {n : ℕ} → length t ≤ 622605 → Puts o 0 t o′ n → Prints t o o′ n
 unfolding inFront
 prints {t} {o} {o′} {n} h p =
-    let e : n ≡ min 1048577 (length t) = counts-length p in
+    let e : n ≡ min lastPlace (length t) = counts-length p in
     let m : n ≡ length t = omega arith in
     record {
       answer = m;
@@ -51,4 +51,4 @@ prints {t} {o} {o′} {n} h p =
 
 -- a text that is short ends soon
 pub ends-inside : {t o o′ : Bytes} {n : ℕ} (k : ℕ) → length t ≤ k → Puts o 0 t o′ n → n ≤ k
-ends-inside {t} {n = n} k h p = let e : n ≡ min 1048577 (length t) = counts-length p in omega arith
+ends-inside {t} {n = n} k h p = let e : n ≡ min lastPlace (length t) = counts-length p in omega arith

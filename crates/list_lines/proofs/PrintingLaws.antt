@@ -16,10 +16,10 @@ use Rattle.book_tables.specs.View.{nameOf, namesAt, bookAt}
 use Rattle.book_tables.proofs.ListedLaws.{length-listed}
 use Rattle.book_tables.proofs.NameLaws.{node-names}
 use Rattle.book_tables.specs.declared.BookCounts.{BookCounts}
-use Rattle.query_writer.specs.Pieces.{before, listing}
-use Rattle.query_writer.specs.Putting.{Puts}
-use Rattle.query_writer.proofs.PuttingLaws.{puts-same}
-use Rattle.query_writer.proofs.PieceLaws.{before-all, puts-none, puts-one-more}
+use Rattle.putting.specs.Listing.{before, listing}
+use Rattle.putting.specs.Putting.{Puts}
+use Rattle.putting.proofs.PuttingLaws.{puts-same}
+use Rattle.putting.proofs.ListingLaws.{before-all, puts-none, puts-one-more}
 use Rattle.list_lines.specs.Printing.{headerText, nameIn, namesText}
 
 -- with one text before the first and between two, each stands behind it

@@ -13,8 +13,8 @@ use Rattle.model.specs.Printed.{rowText, rowsText}
 use Rattle.model.proofs.Places.{joined-append}
 use Rattle.rows.specs.Buffer.{rowsIn}
 use Rattle.rows.specs.BufferLaws.{length-rowsIn, row-at}
-use Rattle.query_writer.specs.Putting.{Puts}
-use Rattle.query_writer.proofs.PuttingLaws.{puts-nothing, puts-then, puts-same}
+use Rattle.putting.specs.Putting.{Puts}
+use Rattle.putting.proofs.PuttingLaws.{puts-nothing, puts-then, puts-same}
 use Rattle.list_lines.specs.Printing.{headerText}
 use Rattle.list_lines.proofs.PrintingLaws.{whole-list}
 

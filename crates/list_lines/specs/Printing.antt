@@ -5,7 +5,7 @@ use mathlib.Core.List.{List, [], _++_, map}
 use lib.ListN.{length, getD, take, drop}
 use Rattle.model.specs.Bytes.{Bytes, bytesOf}
 use Rattle.model.specs.Writing.{digits}
-use Rattle.query_writer.specs.Pieces.{listing}
+use Rattle.putting.specs.Listing.{listing}
 
 -- the header with the row count
 unfoldable pub headerText : ℕ → Bytes

@@ -10,13 +10,13 @@ ghost use Rattle.model.specs.Answers.{refusalOf};
 ghost use Rattle.book_tables.specs.View.{bookAt};
 ghost use Rattle.book_tables.specs.Fits.{Fits};
 ghost use Rattle.rows.specs.Buffer.{rowsIn};
-ghost use Rattle.query_writer.specs.Putting.{Puts};
+ghost use Rattle.putting.specs.Putting.{Puts};
 ghost use Rattle.list_lines.specs.Printing.{headerText, nameIn, namesText};
 use book_lookup::names;
 use book_tables::BookCounts;
 use model::Refusal;
-use query_writer::bytes;
-use query_writer::values;
+use putting::bytes;
+use putting::values;
 
 // No number that is printed has more decimal digits: a line, a count of rows, a refusal's number.
 pub const MAX_DIGITS: usize = 5;

@@ -21,8 +21,8 @@ use Rattle.book.specs.declared.BookLoad.{BookLoad}
 use Rattle.book.specs.declared.BookLoad.the-variants as load
 use Rattle.book.specs.Loaded.{Loaded}
 use Rattle.rows.specs.Buffer.{rowsIn}
-use Rattle.query_writer.specs.Putting.{Puts}
-use Rattle.query_writer.proofs.PuttingLaws.{puts-same}
+use Rattle.putting.specs.Putting.{Puts}
+use Rattle.putting.proofs.PuttingLaws.{puts-same}
 use Rattle.list_lines.specs.Printing.{Prints}
 use Rattle.list_lines.proofs.FrontLaws.{prints}
 use Rattle.list_lines.proofs.LengthLaws.{refusal-short, names-short, list-short}

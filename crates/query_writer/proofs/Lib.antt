@@ -1,6 +1,4 @@
 -- The laws behind the query writer.
-pub mod PuttingLaws
-pub mod PieceLaws
 pub mod ValueLaws
 pub mod ModelLaws
-pub mod AnswerLaws
+pub mod InsideLaws

@@ -22,7 +22,9 @@ use Rattle.book_tables.specs.Layout.{vattrNames, eattrNames, labelNames}
 use Rattle.book_tables.specs.View.{nameOf, namesAt, attrsAt, bookAt}
 use Rattle.book_tables.proofs.ListedLaws.{getD-listed}
 use Rattle.book_tables.proofs.NameLaws.{attr-names}
-use Rattle.query_writer.specs.Pieces.{noPart, noEdge, noClause, listing, vertexAt, edgeAt, vertexPiece, edgePiece, requirementPiece, conditionPiece, verticesText, edgesText, conditionsText, returnsText, patternText}
+use Rattle.model.specs.PlainData.{noPart, noEdge, noClause}
+use Rattle.putting.specs.Listing.{listing}
+use Rattle.query_writer.specs.Pieces.{vertexAt, edgeAt, vertexPiece, edgePiece, requirementPiece, conditionPiece, verticesText, edgesText, conditionsText, returnsText, patternText}
 use Rattle.query_writer.specs.Writable.{EdgeFits, ConditionFits, PatternFits, countLimits, Writable}
 
 -- Names by number: of a vertex, of an edge, of a label, of attributes.

@@ -1,39 +1,13 @@
--- Laws of written values: the digits of a number, its sign, and each kind of value. Assumes nothing.
-use Prim.Native.Nat.{ℕ, zero, suc, _+_, _-_, _≤_, _<_, _/_, _%_, _^_}
-use mathlib.Core.Path.{_≡_, refl, sym, ap}
-use mathlib.Core.List.{[], _∷_, _++_}
-use mathlib.Core.Bool.{Bool, true, false}
-use native.Mathlib.Omega.{arith}
-use borrow.Author.Tests.{lt-ltb, le-ltb, le-leb, lt-leb}
-use Rattle.model.specs.Bytes.{Bytes, bytesOf}
+-- The text of a value, by its kind. Assumes nothing.
+use Prim.Native.Nat.{ℕ}
+use mathlib.Core.Path.{_≡_, sym, ap}
+use mathlib.Core.Bool.{Bool}
+use Rattle.model.specs.Bytes.{Bytes}
 use Rattle.model.specs.Values.{str, bool}
 use Rattle.model.specs.Answers.{partOf, valueOf}
-use Rattle.model.specs.Writing.{digits, wholeText, valueText}
+use Rattle.model.specs.Writing.{wholeText, valueText}
 use Rattle.model.specs.declared.Value.{Value}
 use Rattle.model.specs.declared.Value.the-variants.{Number, Text, Truth}
-
-pub no-digits : (k n : ℕ) → k ≡ 0 → [] ≡ digits k n
-unfolding digits
-no-digits zero n e = refl
-no-digits (suc k) n e = absurd (omega arith)
-
-pub one-digit : (k n : ℕ) → (k ≡ 0 → ⊥) → n < 10 → (48 + n) ∷ [] ≡ digits k n
-unfolding digits
-one-digit zero n h l = absurd (h refl)
-one-digit (suc k) n h l = rw (lt-ltb n 10 l)
-
-pub more-digits : (k n : ℕ) → (k ≡ 0 → ⊥) → 10 ≤ n → digits (k - 1) (n / 10) ++ ((48 + n % 10) ∷ []) ≡ digits k n
-unfolding digits
-more-digits zero n h l = absurd (h refl)
-more-digits (suc k) n h l = let e : suc k - 1 ≡ k = omega arith in rw (le-ltb n 10 l, e)
-
-pub not-negative : (n : ℕ) → 2 ^ 63 ≤ n → digits 20 (n - 2 ^ 63) ≡ wholeText n
-unfolding wholeText
-not-negative n h = rw (le-leb (2 ^ 63) n h)
-
-pub negative : (n : ℕ) → n < 2 ^ 63 → 45 ∷ digits 20 (2 ^ 63 - n) ≡ wholeText n
-unfolding wholeText
-negative n h = rw (lt-leb (2 ^ 63) n h)
 
 pub number-value : (q : Bytes) (v : Value) (n : ℕ) → v ≡ Number n → wholeText n ≡ valueText (valueOf q v)
 unfolding valueText valueOf
@@ -46,11 +20,3 @@ text-value q v start size e = sym (ap (λ (x : Value). valueText (valueOf q x)) 
 pub truth-value : (q : Bytes) (v : Value) (t : Bool) → v ≡ Truth t → valueText (bool t) ≡ valueText (valueOf q v)
 unfolding valueText valueOf
 truth-value q v t e = sym (ap (λ (x : Value). valueText (valueOf q x)) e)
-
-pub true-text : (t : Bool) → t ≡ true → bytesOf "true" ≡ valueText (bool t)
-unfolding valueText
-true-text t e = sym (ap (λ (x : Bool). valueText (bool x)) e)
-
-pub false-text : (t : Bool) → t ≡ false → bytesOf "false" ≡ valueText (bool t)
-unfolding valueText
-false-text t e = sym (ap (λ (x : Bool). valueText (bool x)) e)

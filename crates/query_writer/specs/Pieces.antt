@@ -1,12 +1,11 @@
 -- The written text of a pattern that is given as plain data, piece by piece in the order in which it is put.
 use Prim.Native.Nat.{ℕ}
-use mathlib.Core.List.{List, [], _∷_, _++_, map}
+use mathlib.Core.List.{List, [], _++_, map}
 use lib.ListN.{getD, take}
-use lib.Dec.{eqb}
 use Rattle.model.specs.Bytes.{Bytes, bytesOf}
-use Rattle.model.specs.Choice.{pick}
 use Rattle.model.specs.Answers.{nameAt, relationOf, valueOf}
-use Rattle.model.specs.Writing.{eachBehind, demandText}
+use Rattle.model.specs.Writing.{demandText}
+use Rattle.model.specs.PlainData.{noPart, noEdge}
 use Rattle.model.specs.declared.Part.{Part}
 use Rattle.model.specs.declared.Edge.{Edge}
 use Rattle.model.specs.declared.Requirement.{Requirement}
@@ -16,24 +15,7 @@ use Rattle.model.specs.declared.Clause.{Clause}
 use Rattle.model.specs.declared.Pattern.{Pattern}
 use Rattle.book_tables.specs.Layout.{vattrNames, eattrNames, labelNames}
 use Rattle.book_tables.specs.View.{nameOf}
-
--- what stands past the end of an array
-abbrev pub noPart : Part
-noPart = record { start = 0; length = 0 }
-
-abbrev pub noEdge : Edge
-noEdge = record { name = noPart; label = 0; from = 0; to = 0 }
-
-abbrev pub noClause : Clause
-noClause = record { condition = Excluded 0 0 }
-
--- the first of several behind one text, the others behind another
-unfoldable pub before : Bytes → Bytes → ℕ → Bytes
-before first next i = pick (eqb i 0) first next
-
-unfoldable pub listing : Bytes → Bytes → List Bytes → Bytes
-listing first next [] = []
-listing first next (t ∷ ts) = first ++ t ++ eachBehind next ts
+use Rattle.putting.specs.Listing.{listing}
 
 -- a vertex's name
 unfoldable pub vertexAt : Bytes → List Part → ℕ → Bytes

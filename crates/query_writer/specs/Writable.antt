@@ -1,12 +1,9 @@
--- What the query writer asks of its caller, and what it answers.
+-- What the query writer asks of its caller.
 use Prim.Native.Nat.{ℕ, _≤_, _<_}
-use mathlib.Core.Path.{_≡_}
-use mathlib.Core.Bool.{Bool, _||_}
-use mathlib.Core.List.{List, _++_}
-use lib.ListN.{length, drop, getD}
-use lib.Dec.{ltb}
+use mathlib.Core.List.{List}
+use lib.ListN.{getD}
 use Rattle.model.specs.Bytes.{Bytes}
-use Rattle.model.specs.Choice.{pick}
+use Rattle.model.specs.PlainData.{noEdge, noClause}
 use Rattle.model.specs.declared.Edge.{Edge}
 use Rattle.model.specs.declared.Condition.{Condition}
 use Rattle.model.specs.declared.Condition.the-variants.{Excluded, OfVertex, OfEdge}
@@ -14,9 +11,6 @@ use Rattle.model.specs.declared.Clause.{Clause}
 use Rattle.model.specs.declared.Pattern.{Pattern}
 use Rattle.book_tables.specs.declared.BookCounts.{BookCounts}
 use Rattle.book_tables.specs.Fits.{Fits}
-use Rattle.query_writer.specs.declared.Written.{Written}
-use Rattle.query_writer.specs.declared.Written.the-variants.{Length, TooLong}
-use Rattle.query_writer.specs.Pieces.{noEdge, noClause}
 
 -- how many there are of what a pattern names by number
 pub record Limits : Type 0 where
@@ -70,12 +64,3 @@ countLimits c p = record { vertices = p .counts .vertices; edges = p .counts .ed
 pub record Writable (book : Bytes) (words : List ℕ) (c : BookCounts) (p : Pattern) : Type 0 where
   pub fits : Fits book words c
   pub pattern : PatternFits (countLimits c p) p
-
--- a text does not fit a buffer of so many bytes, or 2,048 bytes
-abbrev pub tooLong : ℕ → Bytes → Bool
-tooLong room t = ltb room (length t) || ltb 2048 (length t)
-
--- a text is written in front of a buffer and its length is answered, or it does not fit and the buffer stays
-pub record Writes (t out out′ : Bytes) (r : Written) : Type 0 where
-  pub answer : r ≡ pick (tooLong (length out) t) TooLong (Length (length t))
-  pub text : out′ ≡ pick (tooLong (length out) t) out (t ++ drop (length t) out)

@@ -4,10 +4,10 @@ ghost use Prim.Native.Nat.{_+_, _<_, _≤_};
 ghost use lib.ListN.{length};
 ghost use Rattle.model.specs.Bytes.{bytesOf};
 ghost use Rattle.model.specs.Answers.{nameAt};
-ghost use Rattle.query_writer.specs.Putting.{Puts};
-ghost use Rattle.query_writer.specs.Pieces.{before, requirementPiece, conditionPiece, conditionsText};
+ghost use Rattle.putting.specs.Putting.{Puts};
+ghost use Rattle.putting.specs.Listing.{before};
+ghost use Rattle.query_writer.specs.Pieces.{requirementPiece, conditionPiece, conditionsText};
 ghost use Rattle.query_writer.specs.Writable.{arrayLimits, ConditionFits, ClausesFit};
-use crate::bytes;
 use crate::values;
 use book_tables::EATTR_NAMES;
 use book_tables::VATTR_NAMES;
@@ -19,6 +19,7 @@ use model::Requirement;
 use model::limits::MAX_CONDITIONS;
 use model::limits::MAX_EDGES;
 use model::limits::MAX_VERTICES;
+use putting::bytes;
 
 // Puts all conditions.
 pub fn put_conditions(

@@ -4,24 +4,20 @@ ghost use lib.ListN.{length};
 ghost use Rattle.model.specs.Answers.{patternIn};
 ghost use Rattle.model.specs.Writing.{writtenQuery};
 ghost use Rattle.book_tables.specs.View.{bookAt};
-ghost use Rattle.query_writer.specs.Putting.{Puts};
+ghost use Rattle.putting.specs.Putting.{Puts};
+ghost use Rattle.putting.specs.Whole.{Writes};
 ghost use Rattle.query_writer.specs.Pieces.{patternText};
-ghost use Rattle.query_writer.specs.Writable.{arrayLimits, PatternFits, Writable, Writes};
+ghost use Rattle.query_writer.specs.Writable.{arrayLimits, PatternFits, Writable};
 use book_tables::BookCounts;
 use model::Pattern;
 use model::limits::MAX_QUERY_BYTES;
+use putting::Written;
+use putting::bytes;
 
-pub mod bytes; // bytes.rt: putting bytes, texts and names
 mod conditions;
 mod matches;
 mod returns;
-pub mod values; // values.rt: putting numbers, texts and truth values
-
-// What writing a query gives: the length of its text, or that the text does not fit.
-pub enum Written {
-    Length(usize),
-    TooLong,
-}
+mod values;
 
 // Writes the query of a pattern in front of a buffer; a text that does not fit leaves the buffer as it is.
 pub fn write_query(
@@ -33,14 +29,11 @@ pub fn write_query(
     out: &mut [u8],
 ) -> Written
     requires { ⌜ Writable (now book) (now words) counts pattern ⌝ }
-    ensures { λ r. ⌜ Writes (writtenQuery (patternIn (bookAt (now (book .entry)) (now (words .entry)) counts) (now (query .entry)) pattern))
+    ensures { λ r. ⌜ Writes 2048 (writtenQuery (patternIn (bookAt (now (book .entry)) (now (words .entry)) counts) (now (query .entry)) pattern))
         (now (out .entry)) (now (out .exit)) r ⌝ }
 {
     let length = put_query(book, words, query, pattern, &mut out[..0], 0);
-    if MAX_QUERY_BYTES < length {
-        return Written::TooLong;
-    }
-    if out.len() < length {
+    if putting::too_long(MAX_QUERY_BYTES, out.len(), length) {
         return Written::TooLong;
     }
     put_query(book, words, query, pattern, out, 0);

@@ -3,15 +3,16 @@ ghost use mathlib.Core.List.{[], _++_};
 ghost use Prim.Native.Nat.{_<_, _≤_};
 ghost use lib.ListN.{length};
 ghost use Rattle.model.specs.Bytes.{bytesOf};
-ghost use Rattle.query_writer.specs.Putting.{Puts};
-ghost use Rattle.query_writer.specs.Pieces.{before, vertexPiece, edgePiece, verticesText, edgesText};
+ghost use Rattle.putting.specs.Putting.{Puts};
+ghost use Rattle.putting.specs.Listing.{before};
+ghost use Rattle.query_writer.specs.Pieces.{vertexPiece, edgePiece, verticesText, edgesText};
 ghost use Rattle.query_writer.specs.Writable.{arrayLimits, EdgeFits, EdgesFit};
-use crate::bytes;
 use book_tables::LABEL_NAMES;
 use model::Edge;
 use model::Part;
 use model::limits::MAX_EDGES;
 use model::limits::MAX_VERTICES;
+use putting::bytes;
 
 // Puts a Match for each vertex.
 pub fn put_vertices(

@@ -2,13 +2,14 @@
 ghost use mathlib.Core.List.{[], _++_};
 ghost use Rattle.model.specs.Bytes.{bytesOf};
 ghost use Rattle.model.specs.Answers.{nameAt};
-ghost use Rattle.query_writer.specs.Putting.{Puts};
-ghost use Rattle.query_writer.specs.Pieces.{before, returnsText};
+ghost use Rattle.putting.specs.Putting.{Puts};
+ghost use Rattle.putting.specs.Listing.{before};
+ghost use Rattle.query_writer.specs.Pieces.{returnsText};
 ghost use Rattle.query_writer.specs.Writable.{arrayLimits, ReturnsFit};
-use crate::bytes;
 use model::Part;
 use model::limits::MAX_RETURNS;
 use model::limits::MAX_VERTICES;
+use putting::bytes;
 
 // Puts the names of all Return vertices.
 pub fn put_returns(

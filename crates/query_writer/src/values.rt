@@ -1,72 +1,20 @@
-// Putting values and relations: whole numbers in decimal, texts between apostrophes, true and false.
-ghost use Rattle.model.specs.Values.{bool, str};
-ghost use Rattle.model.specs.Answers.{partOf, relationOf, valueOf};
-ghost use Rattle.model.specs.Writing.{digits, wholeText, valueText, relationText};
-ghost use Rattle.query_writer.specs.Putting.{Puts};
-use crate::bytes;
+// Putting values and relations.
+ghost use Rattle.model.specs.Answers.{relationOf, valueOf};
+ghost use Rattle.model.specs.Writing.{valueText, relationText};
+ghost use Rattle.putting.specs.Putting.{Puts};
 use model::Relation;
 use model::Value;
-
-// A whole number z is kept as z + 2^63.
-const ZERO_KEPT: u64 = 9223372036854775808;
-
-// No number of 64 bits has more decimal digits.
-const MAX_DIGITS: usize = 20;
-
-const TEN: u64 = 10;
-
-// Puts the decimal digits of a number, at most so many of them.
-pub fn put_digits(most: usize, n: u64, out: &mut [u8], at: usize) -> usize
-    ensures { λ r. ⌜ Puts (now (out .entry)) at (digits most n) (now (out .exit)) r ⌝ }
-{
-    if most == 0 {
-        return at;
-    }
-    if n < TEN {
-        return bytes::put_byte(b'0' + n as u8, out, at);
-    }
-    let next = put_digits(most - 1, n / TEN, out, at);
-    bytes::put_byte(b'0' + (n % TEN) as u8, out, next)
-}
-
-// Puts a whole number, with a minus if it is below zero.
-fn put_whole(n: u64, out: &mut [u8], at: usize) -> usize
-    ensures { λ r. ⌜ Puts (now (out .entry)) at (wholeText n) (now (out .exit)) r ⌝ }
-{
-    if ZERO_KEPT <= n {
-        return put_digits(MAX_DIGITS, n - ZERO_KEPT, out, at);
-    }
-    let next = bytes::put_byte(b'-', out, at);
-    put_digits(MAX_DIGITS, ZERO_KEPT - n, out, next)
-}
-
-// Puts a text value between apostrophes.
-fn put_quoted(query: &[u8], start: usize, length: usize, out: &mut [u8], at: usize) -> usize
-    ensures { λ r. ⌜ Puts (now (out .entry)) at (valueText (str (partOf (now (query .entry)) start length))) (now (out .exit)) r ⌝ }
-{
-    let opened = bytes::put_byte(b'\'', out, at);
-    let next = bytes::put_part(query, start, length, out, opened);
-    bytes::put_byte(b'\'', out, next)
-}
-
-// Puts a truth value.
-fn put_truth(truth: bool, out: &mut [u8], at: usize) -> usize
-    ensures { λ r. ⌜ Puts (now (out .entry)) at (valueText (bool truth)) (now (out .exit)) r ⌝ }
-{
-    if truth {
-        return bytes::put_bytes(b"true", out, at);
-    }
-    bytes::put_bytes(b"false", out, at)
-}
+use putting::bytes;
+use putting::values;
 
 // Puts a value, whose text stands in the query's.
 pub fn put_value(query: &[u8], value: Value, out: &mut [u8], at: usize) -> usize
     ensures { λ r. ⌜ Puts (now (out .entry)) at (valueText (valueOf (now (query .entry)) value)) (now (out .exit)) r ⌝ }
 {
     match value {
-        Value::Number(n) => put_whole(n, out, at),
-        Value::Text(start, length) => put_quoted(query, start, length, out, at),
-        Value::Truth(t) => put_truth(t, out, at),
+        Value::Number(n) => values::put_whole(n, out, at),
+        Value::Text(start, length) => values::put_quoted(query, start, length, out, at),
+        Value::Truth(t) => values::put_truth(t, out, at),
     }
 }
 

@@ -20,9 +20,9 @@ use Rattle.model.specs.declared.QueryWritten.{QueryWritten}
 use Rattle.model.specs.declared.QueryWritten.the-variants as answer
 use Rattle.model.proofs.AcceptedQuery.{query-accepted}
 use Rattle.book_tables.specs.declared.BookCounts.{BookCounts}
-use Rattle.query_writer.specs.declared.Written.{Written}
-use Rattle.query_writer.specs.declared.Written.the-variants.{Length, TooLong}
-use Rattle.query_writer.specs.Writable.{tooLong, Writes}
+use Rattle.putting.specs.declared.Written.{Written}
+use Rattle.putting.specs.declared.Written.the-variants.{Length, TooLong}
+use Rattle.putting.specs.Whole.{tooLong, Writes}
 use Rattle.query.specs.QueryReads.{QueryReads}
 use Rattle.service.specs.Behind.{textFrom, textOfRules, Wrote}
 use Rattle.service.proofs.BookLaws.{tooLittle, little, enough}
@@ -42,17 +42,17 @@ module _ (b : Book) (k : BookCounts) (s : Bytes) (r : QueryRead) (reads : QueryR
   abbrev written : Bytes
   written = writtenQuery (patternIn b s (r .pattern))
 
-  text-of : (room : ℕ) → textOfRules room s b ≡ pick (tooLong room written) (refusal 14 3 1) (accepted written)
+  text-of : (room : ℕ) → textOfRules room s b ≡ pick (tooLong 2048 room (length written)) (refusal 14 3 1) (accepted written)
   unfolding textOfRules onAccept
   text-of room =
       let q = query-tree b k s r reads yes in
       let e = query-read b k s r reads yes in
-      rw e (ap (λ (t : Bytes). pick (tooLong room t) (refusal 14 3 1) (accepted t)) (ap writtenQuery (sym (query-pattern b k s r reads yes .is q (query-accepted b s q e .is-text)))))
+      rw e (ap (λ (t : Bytes). pick (tooLong 2048 room (length t)) (refusal 14 3 1) (accepted t)) (ap writtenQuery (sym (query-pattern b k s r reads yes .is q (query-accepted b s q e .is-text)))))
 
-  module _ (out out′ : Bytes) (w : Written) (writes : Writes written out out′ w) where
+  module _ (out out′ : Bytes) (w : Written) (writes : Writes 2048 written out out′ w) where
     pub wrote-length : (n : ℕ) → w ≡ Length n → Wrote (textOfRules (length out) s b) out out′ (answer.Length n)
     unfolding writerAnswer onAccept onto
-    wrote-length n e = wrote-as _ _ out out′ _ (text-of (length out)) (go (tooLong (length out) written) (sym e ∙ writes .answer) (writes .text))
+    wrote-length n e = wrote-as _ _ out out′ _ (text-of (length out)) (go (tooLong 2048 (length out) (length written)) (sym e ∙ writes .answer) (writes .text))
       where
         go : (t : Bool) → Length n ≡ pick t TooLong (Length (length written)) → out′ ≡ pick t out (written ++ drop (length written) out)
             → Wrote (pick t (refusal 14 3 1) (accepted written)) out out′ (answer.Length n)
@@ -61,7 +61,7 @@ module _ (b : Book) (k : BookCounts) (s : Bytes) (r : QueryRead) (reads : QueryR
 
     pub wrote-too-long : w ≡ TooLong → Wrote (textOfRules (length out) s b) out out′ (answer.Refused (record { number = 14; text = 3; line = 1 }))
     unfolding writerAnswer onAccept onto refusal refusalOf
-    wrote-too-long e = wrote-as _ _ out out′ _ (text-of (length out)) (go (tooLong (length out) written) (sym e ∙ writes .answer) (writes .text))
+    wrote-too-long e = wrote-as _ _ out out′ _ (text-of (length out)) (go (tooLong 2048 (length out) (length written)) (sym e ∙ writes .answer) (writes .text))
       where
         go : (t : Bool) → TooLong ≡ pick t TooLong (Length (length written)) → out′ ≡ pick t out (written ++ drop (length written) out)
             → Wrote (pick t (refusal 14 3 1) (accepted written)) out out′ (answer.Refused (record { number = 14; text = 3; line = 1 }))

@@ -14,7 +14,7 @@ use model::Verdict;
 use model::refusal_numbers::NO_ROOM;
 use model::refusal_numbers::QUERY;
 use model::refusal_numbers::QUERY_LINE;
-use query_writer::Written;
+use putting::Written;
 use rules::RulesLoad;
 use rules_tables::RULES_WORDS;
 

@@ -1,12 +1,12 @@
-use Rattle.query_writer.proofs.PuttingLaws.{puts-then, puts-keeps-length}
+use Rattle.putting.proofs.PuttingLaws.{puts-then, puts-keeps-length}
 use Rattle.list_lines.specs.Printing.{headerText}
 use borrow.Author.Needs.{needs}
 use Rattle.list_lines.proofs.put_header.Statement.{statement}
 use Rattle.list_lines.proofs.put_header.Tie as tie
 use Rattle.list_lines.proofs.put_header.Reads as reads
 use Rattle.list_lines.proofs.put_header.Lts as lts
-use Rattle.query_writer.proofs.bytes.put_bytes.Reads as put-bytes-reads
-use Rattle.query_writer.proofs.values.put_digits.Reads as put-digits-reads
+use Rattle.putting.proofs.bytes.put_bytes.Reads as put-bytes-reads
+use Rattle.putting.proofs.values.put_digits.Reads as put-digits-reads
 
 slice-aggregate-put-bytes : tie.Need-slice-aggregate-put-bytes
 slice-aggregate-put-bytes c = search needs

@@ -1,7 +1,7 @@
 -- `put_list` meets its contract: the header, then the rows' lines.
 use Rattle.model.specs.Book.{nodeNames}
 use Rattle.book_tables.specs.View.{bookAt}
-use Rattle.query_writer.proofs.PuttingLaws.{puts-then, puts-same}
+use Rattle.putting.proofs.PuttingLaws.{puts-then, puts-same}
 use Rattle.list_lines.proofs.RowLaws.{header-then-rows}
 use borrow.Author.Needs.{needs}
 use Rattle.list_lines.proofs.put_list.Statement.{statement}

@@ -4,8 +4,8 @@ use lib.ListN.{length}
 use native.Mathlib.Omega.{arith}
 use Rattle.model.specs.Book.{nodeNames}
 use Rattle.book_tables.specs.View.{bookAt}
-use Rattle.query_writer.specs.Putting.{Puts}
-use Rattle.query_writer.proofs.PuttingLaws.{puts-same, puts-keeps-length}
+use Rattle.putting.specs.Putting.{Puts}
+use Rattle.putting.proofs.PuttingLaws.{puts-same, puts-keeps-length}
 use Rattle.list_lines.specs.Printing.{namesText}
 use Rattle.list_lines.proofs.PrintingLaws.{names-more, no-names}
 use borrow.Author.Needs.{needs}

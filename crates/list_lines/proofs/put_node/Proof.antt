@@ -1,4 +1,4 @@
-use Rattle.query_writer.proofs.PuttingLaws.{puts-then, puts-same, puts-keeps-length}
+use Rattle.putting.proofs.PuttingLaws.{puts-then, puts-same, puts-keeps-length}
 use Rattle.list_lines.specs.Printing.{nameIn}
 use Rattle.list_lines.proofs.PrintingLaws.{no-name}
 use borrow.Author.Needs.{needs}
@@ -7,7 +7,7 @@ use Rattle.list_lines.proofs.put_node.Tie as tie
 use Rattle.list_lines.proofs.put_node.Reads as reads
 use Rattle.list_lines.proofs.put_node.Lts as lts
 use Rattle.book_lookup.proofs.names.node_name.Reads as node-name-reads
-use Rattle.query_writer.proofs.bytes.put_bytes.Reads as put-bytes-reads
+use Rattle.putting.proofs.bytes.put_bytes.Reads as put-bytes-reads
 
 slice-aggregate-put-bytes : tie.Need-slice-aggregate-put-bytes
 slice-aggregate-put-bytes c = search needs

@@ -1,4 +1,4 @@
-use Rattle.query_writer.proofs.PuttingLaws.{puts-then, puts-keeps-length}
+use Rattle.putting.proofs.PuttingLaws.{puts-then, puts-keeps-length}
 use Rattle.model.specs.Printed.{refusalText}
 use Rattle.model.specs.Answers.{refusalOf}
 use borrow.Author.Needs.{needs}
@@ -6,8 +6,8 @@ use Rattle.list_lines.proofs.put_refusal.Statement.{statement}
 use Rattle.list_lines.proofs.put_refusal.Tie as tie
 use Rattle.list_lines.proofs.put_refusal.Reads as reads
 use Rattle.list_lines.proofs.put_refusal.Lts as lts
-use Rattle.query_writer.proofs.bytes.put_bytes.Reads as put-bytes-reads
-use Rattle.query_writer.proofs.values.put_digits.Reads as put-digits-reads
+use Rattle.putting.proofs.bytes.put_bytes.Reads as put-bytes-reads
+use Rattle.putting.proofs.values.put_digits.Reads as put-digits-reads
 
 slice-aggregate-put-bytes : tie.Need-slice-aggregate-put-bytes
 slice-aggregate-put-bytes c = search needs

@@ -1,6 +1,6 @@
 use Rattle.model.specs.Book.{nodeNames}
 use Rattle.book_tables.specs.View.{bookAt}
-use Rattle.query_writer.proofs.PuttingLaws.{puts-then, puts-same, puts-keeps-length}
+use Rattle.putting.proofs.PuttingLaws.{puts-then, puts-same, puts-keeps-length}
 use Rattle.list_lines.proofs.PrintingLaws.{row-text}
 use borrow.Author.Needs.{needs}
 use Rattle.list_lines.proofs.put_row.Statement.{statement}
@@ -8,7 +8,7 @@ use Rattle.list_lines.proofs.put_row.Tie as tie
 use Rattle.list_lines.proofs.put_row.Reads as reads
 use Rattle.list_lines.proofs.put_row.Lts as lts
 use Rattle.list_lines.proofs.put_names.Reads as put-names-reads
-use Rattle.query_writer.proofs.bytes.put_bytes.Reads as put-bytes-reads
+use Rattle.putting.proofs.bytes.put_bytes.Reads as put-bytes-reads
 
 slice-aggregate-put-bytes : tie.Need-slice-aggregate-put-bytes
 slice-aggregate-put-bytes c = search needs

@@ -9,8 +9,8 @@ use Rattle.model.specs.Printed.{rowText}
 use Rattle.book_tables.specs.View.{bookAt}
 use Rattle.rows.specs.Buffer.{rowsIn}
 use Rattle.rows.specs.BufferLaws.{length-rowsIn}
-use Rattle.query_writer.specs.Putting.{Puts}
-use Rattle.query_writer.proofs.PuttingLaws.{puts-same, puts-keeps-length}
+use Rattle.putting.specs.Putting.{Puts}
+use Rattle.putting.proofs.PuttingLaws.{puts-same, puts-keeps-length}
 use Rattle.list_lines.proofs.RowLaws.{no-rows, rows-more, rows-all, row-inside, row-part, next-row}
 use borrow.Author.Needs.{needs}
 use Rattle.list_lines.proofs.put_rows.Statement.{statement}

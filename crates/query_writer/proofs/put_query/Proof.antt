@@ -1,6 +1,6 @@
 -- `put_query` meets its contract. Assumes nothing.
 use Rattle.query_writer.specs.Pieces.{patternText}
-use Rattle.query_writer.proofs.PuttingLaws.{puts-then}
+use Rattle.putting.proofs.PuttingLaws.{puts-then}
 use borrow.Author.Needs.{needs}
 use Rattle.query_writer.proofs.put_query.Statement.{statement}
 use Rattle.query_writer.proofs.put_query.Tie as tie

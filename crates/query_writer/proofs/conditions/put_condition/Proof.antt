@@ -3,7 +3,7 @@ use mathlib.Core.Path.{sym, ap, subst}
 use native.Mathlib.Omega.{arith}
 use Rattle.query_writer.specs.Pieces.{vertexAt, edgeAt, conditionPiece}
 use Rattle.query_writer.specs.Writable.{arrayLimits, ConditionFits}
-use Rattle.query_writer.proofs.PuttingLaws.{puts-same}
+use Rattle.putting.proofs.PuttingLaws.{puts-same}
 use borrow.Author.Needs.{needs}
 use Rattle.query_writer.proofs.conditions.put_condition.Statement.{statement}
 use Rattle.query_writer.proofs.conditions.put_condition.Tie as tie

@@ -5,10 +5,11 @@ use lib.ListN.{length}
 use native.Mathlib.Omega.{arith}
 use borrow.Author.Needs.{needs}
 use Rattle.model.specs.Bytes.{bytesOf}
-use Rattle.query_writer.specs.Putting.{Puts}
-use Rattle.query_writer.specs.Pieces.{noClause, conditionPiece, conditionsText}
-use Rattle.query_writer.proofs.PuttingLaws.{puts-same, puts-then, puts-keeps-length}
-use Rattle.query_writer.proofs.PieceLaws.{puts-none, puts-one-more}
+use Rattle.putting.specs.Putting.{Puts}
+use Rattle.model.specs.PlainData.{noClause}
+use Rattle.query_writer.specs.Pieces.{conditionPiece, conditionsText}
+use Rattle.putting.proofs.PuttingLaws.{puts-same, puts-then, puts-keeps-length}
+use Rattle.putting.proofs.ListingLaws.{puts-none, puts-one-more}
 use Rattle.query_writer.proofs.conditions.put_conditions.Statement.{statement}
 use Rattle.query_writer.proofs.conditions.put_conditions.Tie as tie
 

@@ -1,6 +1,6 @@
 -- `put_exclusion` meets its contract. Assumes nothing.
 use Rattle.model.specs.Answers.{nameAt}
-use Rattle.query_writer.proofs.PuttingLaws.{puts-then}
+use Rattle.putting.proofs.PuttingLaws.{puts-then}
 use borrow.Author.Needs.{needs}
 use Rattle.query_writer.proofs.conditions.put_exclusion.Statement.{statement}
 use Rattle.query_writer.proofs.conditions.put_exclusion.Tie as tie

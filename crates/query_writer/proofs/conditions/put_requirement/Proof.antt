@@ -2,7 +2,7 @@
 use Rattle.model.specs.Answers.{nameAt}
 use Rattle.model.specs.Writing.{demandText}
 use Rattle.query_writer.specs.Pieces.{requirementPiece}
-use Rattle.query_writer.proofs.PuttingLaws.{puts-then}
+use Rattle.putting.proofs.PuttingLaws.{puts-then}
 use borrow.Author.Needs.{needs}
 use Rattle.query_writer.proofs.conditions.put_requirement.Statement.{statement}
 use Rattle.query_writer.proofs.conditions.put_requirement.Tie as tie

@@ -2,7 +2,7 @@
 use native.Mathlib.Omega.{arith}
 use Rattle.model.specs.Answers.{nameAt}
 use Rattle.query_writer.specs.Pieces.{vertexAt, edgePiece}
-use Rattle.query_writer.proofs.PuttingLaws.{puts-then, puts-keeps-length}
+use Rattle.putting.proofs.PuttingLaws.{puts-then, puts-keeps-length}
 use borrow.Author.Needs.{needs}
 use Rattle.query_writer.proofs.matches.put_edge.Statement.{statement}
 use Rattle.query_writer.proofs.matches.put_edge.Tie as tie

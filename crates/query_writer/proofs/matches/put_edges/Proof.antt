@@ -6,10 +6,11 @@ use lib.ListN.{length, getD}
 use native.Mathlib.Omega.{arith}
 use borrow.Author.Needs.{needs}
 use Rattle.model.specs.Bytes.{bytesOf}
-use Rattle.query_writer.specs.Putting.{Puts}
-use Rattle.query_writer.specs.Pieces.{noEdge, edgePiece, edgesText}
-use Rattle.query_writer.proofs.PuttingLaws.{puts-same, puts-keeps-length}
-use Rattle.query_writer.proofs.PieceLaws.{puts-none, puts-one-more, before-all}
+use Rattle.putting.specs.Putting.{Puts}
+use Rattle.model.specs.PlainData.{noEdge}
+use Rattle.query_writer.specs.Pieces.{edgePiece, edgesText}
+use Rattle.putting.proofs.PuttingLaws.{puts-same, puts-keeps-length}
+use Rattle.putting.proofs.ListingLaws.{puts-none, puts-one-more, before-all}
 use Rattle.query_writer.proofs.matches.put_edges.Statement.{statement}
 use Rattle.query_writer.proofs.matches.put_edges.Tie as tie
 

@@ -1,7 +1,7 @@
 -- `put_vertex` meets its contract. Assumes nothing.
 use Rattle.model.specs.Answers.{nameAt}
 use Rattle.query_writer.specs.Pieces.{vertexPiece}
-use Rattle.query_writer.proofs.PuttingLaws.{puts-then}
+use Rattle.putting.proofs.PuttingLaws.{puts-then}
 use borrow.Author.Needs.{needs}
 use Rattle.query_writer.proofs.matches.put_vertex.Statement.{statement}
 use Rattle.query_writer.proofs.matches.put_vertex.Tie as tie

@@ -1,6 +1,6 @@
 -- `put_return` meets its contract. Assumes nothing.
 use Rattle.model.specs.Answers.{nameAt}
-use Rattle.query_writer.proofs.PuttingLaws.{puts-then}
+use Rattle.putting.proofs.PuttingLaws.{puts-then}
 use borrow.Author.Needs.{needs}
 use Rattle.query_writer.proofs.returns.put_return.Statement.{statement}
 use Rattle.query_writer.proofs.returns.put_return.Tie as tie

@@ -6,10 +6,10 @@ use lib.ListN.{length}
 use native.Mathlib.Omega.{arith}
 use borrow.Author.Needs.{needs}
 use Rattle.model.specs.Bytes.{bytesOf}
-use Rattle.query_writer.specs.Putting.{Puts}
+use Rattle.putting.specs.Putting.{Puts}
 use Rattle.query_writer.specs.Pieces.{vertexAt, returnsText}
-use Rattle.query_writer.proofs.PuttingLaws.{puts-same, puts-keeps-length}
-use Rattle.query_writer.proofs.PieceLaws.{puts-none, puts-one-more}
+use Rattle.putting.proofs.PuttingLaws.{puts-same, puts-keeps-length}
+use Rattle.putting.proofs.ListingLaws.{puts-none, puts-one-more}
 use Rattle.query_writer.proofs.returns.put_returns.Statement.{statement}
 use Rattle.query_writer.proofs.returns.put_returns.Tie as tie
 

@@ -2,7 +2,7 @@
 use mathlib.Core.Path.{sym, ap}
 use Rattle.model.specs.Answers.{relationOf}
 use Rattle.model.specs.Writing.{relationText}
-use Rattle.query_writer.proofs.PuttingLaws.{puts-same}
+use Rattle.putting.proofs.PuttingLaws.{puts-same}
 use borrow.Author.Needs.{needs}
 use Rattle.query_writer.proofs.values.put_relation.Statement.{statement}
 use Rattle.query_writer.proofs.values.put_relation.Tie as tie

@@ -1,5 +1,5 @@
 -- `put_value` meets its contract, by the value's kind. Assumes nothing.
-use Rattle.query_writer.proofs.PuttingLaws.{puts-same}
+use Rattle.putting.proofs.PuttingLaws.{puts-same}
 use Rattle.query_writer.proofs.ValueLaws.{number-value, text-value, truth-value}
 use borrow.Author.Needs.{needs}
 use Rattle.query_writer.proofs.values.put_value.Statement.{statement}

@@ -1,2 +1,0 @@
--- What the exported services' contracts speak of.
-pub mod Told

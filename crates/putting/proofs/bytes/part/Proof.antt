@@ -1,0 +1,63 @@
+-- `part` meets its contract: the bytes that are there, where the part runs past the end. Assumes nothing.
+use Prim.Native.Nat.{_+_, _-_}
+use mathlib.Core.Path.{_≡_}
+use native.Mathlib.Omega.{arith}
+use Rattle.model.specs.Answers.{partOf}
+use Rattle.putting.proofs.ListingLaws.{part-long, part-none}
+use borrow.Author.Needs.{needs}
+use Rattle.putting.proofs.bytes.part.Statement.{statement}
+use Rattle.putting.proofs.bytes.part.Tie as tie
+
+sub-if2 : tie.Need-sub-if2
+sub-if2 c = search needs
+
+add-result : tie.Need-add-result
+add-result c = search needs
+
+sub-result : tie.Need-sub-result
+sub-result c = search needs
+
+part-result-start : tie.Need-part-result-start
+part-result-start c = search needs
+
+part-result-end : tie.Need-part-result-end
+part-result-end c = search needs
+
+sub-result-2 : tie.Need-sub-result-2
+sub-result-2 c = search needs
+
+part-result-start-2 : tie.Need-part-result-start-2
+part-result-start-2 c = search needs
+
+part-result-end-2 : tie.Need-part-result-end-2
+part-result-end-2 c = search needs
+
+slice-aggregate-result : tie.Need-slice-aggregate-result
+slice-aggregate-result c = search needs
+
+returns : tie.Need-returns
+unfolding partOf
+returns c = let e : c .before .before .before .args .start + c .before .before .before .args .length - c .before .before .before .args .start ≡ c .before .before .before .args .length = omega arith in rw e
+
+returns-2 : tie.Need-returns-2
+returns-2 c = part-long (c .before .before .before .args .text .now) (c .before .before .before .args .start) (c .before .before .before .args .length) (c .before .if2 .left)
+
+returns-3 : tie.Need-returns-3
+returns-3 c = part-none (c .before .before .args .text .now) (c .before .before .args .start) (c .before .before .args .length) (c .before .if1 .left)
+
+pub part-spec : {M : Type 1} → statement M
+part-spec =
+    tie.close
+    (tie.spec
+    sub-if2
+    add-result
+    sub-result
+    part-result-start
+    part-result-end
+    sub-result-2
+    part-result-start-2
+    part-result-end-2
+    slice-aggregate-result
+    returns
+    returns-2
+    returns-3)

@@ -1,0 +1,3 @@
+-- The reasoning behind telling answers in numbers.
+pub mod ToldLaws
+pub mod AnswerLaws

@@ -1,0 +1,2 @@
+-- What is told of answers.
+pub mod Told
