@@ -1,4 +1,5 @@
-// The query reader and writer on many texts: book.txt, rules.txt, and queries.txt with a query on each line. Prints each query, and what the writer writes for it or the refusal.
+// The query reader and writer on many texts: book.txt and rules.txt in the folder `queries`, and queries.txt with a query on each line.
+// Prints each query, and what the writer writes for it or the refusal.
 use libc::STDOUT_FILENO;
 use program_io::files;
 
@@ -8,13 +9,14 @@ const RULES_BYTES: usize = 4096;
 
 const QUERIES_BYTES: usize = 65536;
 
-fn main() {
+// Prints every query with its answer.
+pub fn run() {
     let mut book = [0u8; BOOK_BYTES];
     let mut rules = [0u8; RULES_BYTES];
     let mut queries = [0u8; QUERIES_BYTES];
-    let book_length = files::read_text(b"book.txt", &mut book).length;
-    let rules_length = files::read_text(b"rules.txt", &mut rules).length;
-    let queries_length = files::read_text(b"queries.txt", &mut queries).length;
+    let book_length = files::read_text(b"queries/book.txt", &mut book).length;
+    let rules_length = files::read_text(b"queries/rules.txt", &mut rules).length;
+    let queries_length = files::read_text(b"queries/queries.txt", &mut queries).length;
     print_queries(
         &book[..book_length],
         &rules[..rules_length],

@@ -7,6 +7,8 @@ use model::limits::MAX_DECLARED;
 use model::limits::MAX_NODES;
 use model::limits::MAX_RELATIONSHIPS;
 use model::limits::WORK_WORDS;
+use putting::bytes::put_byte;
+use putting::bytes::put_bytes;
 
 // Room for the longest text tried.
 const TEXT_BYTES: usize = 65600;
@@ -16,39 +18,19 @@ const ENDS: usize = 33;
 
 const OWNERS: usize = 64;
 
-// Puts a byte at a place and gives the next place; past the room nothing is put.
-fn put_byte(text: &mut [u8], at: usize, b: u8) -> usize {
-    if at < text.len() {
-        text[at] = b;
-        return at + 1;
-    }
-    at
-}
-
-// Puts bytes from a place on and gives the place behind them.
-fn put(text: &mut [u8], at: usize, bytes: &[u8]) -> usize {
-    let mut next = at;
-    let mut i = 0;
-    while i < bytes.len() {
-        next = put_byte(text, next, bytes[i]);
-        i += 1;
-    }
-    next
-}
-
 // Puts four digits.
 fn put_digits(text: &mut [u8], at: usize, n: usize) -> usize {
-    let thousands = put_byte(text, at, (n / 1000 % 10) as u8 + b'0');
-    let hundreds = put_byte(text, thousands, (n / 100 % 10) as u8 + b'0');
-    let tens = put_byte(text, hundreds, (n / 10 % 10) as u8 + b'0');
-    put_byte(text, tens, (n % 10) as u8 + b'0')
+    let thousands = put_byte((n / 1000 % 10) as u8 + b'0', text, at);
+    let hundreds = put_byte((n / 100 % 10) as u8 + b'0', text, thousands);
+    let tens = put_byte((n / 10 % 10) as u8 + b'0', text, hundreds);
+    put_byte((n % 10) as u8 + b'0', text, tens)
 }
 
 // Puts a line: a beginning, a number and an end.
 fn put_line(text: &mut [u8], at: usize, before: &[u8], n: usize, behind: &[u8]) -> usize {
-    let named = put(text, at, before);
+    let named = put_bytes(before, text, at);
     let numbered = put_digits(text, named, n);
-    put(text, numbered, behind)
+    put_bytes(behind, text, numbered)
 }
 
 // Puts as many lines as are asked, numbered from 0.
@@ -62,12 +44,12 @@ fn put_lines(text: &mut [u8], at: usize, count: usize, before: &[u8], behind: &[
 
 // A label, 33 nodes, and as many relationships between them.
 fn put_relationships(text: &mut [u8], count: usize) -> usize {
-    let labelled = put(text, 0, b"(label runs)\n");
+    let labelled = put_bytes(b"(label runs)\n", text, 0);
     let mut next = put_lines(text, labelled, ENDS, b"(node n", b")\n");
     for i in 0..count {
         let from = put_line(text, next, b"(rel runs n", i / ENDS, b" n");
         let to = put_digits(text, from, i % ENDS);
-        next = put(text, to, b")\n");
+        next = put_bytes(b")\n", text, to);
     }
     next
 }
@@ -76,7 +58,7 @@ fn put_relationships(text: &mut [u8], count: usize) -> usize {
 fn put_owner(text: &mut [u8], at: usize, n: usize) -> usize {
     let named = put_line(text, at, b"(node n", n, b"");
     let listed = put_lines(text, named, MAX_DECLARED, b"(a", b" 1)");
-    put(text, listed, b")\n")
+    put_bytes(b")\n", text, listed)
 }
 
 // 32 attributes, and 64 nodes that have them all.
@@ -90,11 +72,11 @@ fn put_entries(text: &mut [u8]) -> usize {
 
 // A line of as many bytes, its line feed included.
 fn put_long_line(text: &mut [u8], bytes: usize) -> usize {
-    let mut next = put(text, 0, b"(node a)");
+    let mut next = put_bytes(b"(node a)", text, 0);
     for _ in 9..bytes {
-        next = put_byte(text, next, b' ');
+        next = put_byte(b' ', text, next);
     }
-    put_byte(text, next, b'\n')
+    put_byte(b'\n', text, next)
 }
 
 // Prints a number behind a space.
@@ -150,7 +132,7 @@ fn try_entries(name: &[u8], last: &[u8]) {
     let text: &mut [u8] = &mut space;
     let mut work = [0u32; WORK_WORDS];
     let all = put_entries(text);
-    let n = put(text, all, last);
+    let n = put_bytes(last, text, all);
     try_book(name, text, n, &mut work);
 }
 
@@ -168,9 +150,9 @@ fn try_number(name: &[u8], digits: &[u8]) {
     let mut space = [0u8; TEXT_BYTES];
     let text: &mut [u8] = &mut space;
     let mut work = [0u32; WORK_WORDS];
-    let opened = put(text, 0, b"(vattr rate int)\n(node a (rate ");
-    let numbered = put(text, opened, digits);
-    let n = put(text, numbered, b"))\n");
+    let opened = put_bytes(b"(vattr rate int)\n(node a (rate ", text, 0);
+    let numbered = put_bytes(digits, text, opened);
+    let n = put_bytes(b"))\n", text, numbered);
     try_book(name, text, n, &mut work);
 }
 
@@ -197,7 +179,8 @@ fn try_numbers() {
     try_number(b"-9223372036854775809", b"-9223372036854775809");
 }
 
-fn main() {
+// Tries every limit.
+pub fn run() {
     try_lines(b"256 nodes", MAX_NODES, b"(node n", b")\n");
     try_lines(b"257 nodes", MAX_NODES + 1, b"(node n", b")\n");
     try_relationships(b"1024 relationships", MAX_RELATIONSHIPS);

@@ -25,7 +25,8 @@ const REQUEST_BYTES: usize = MAX_REQUEST_BYTES + 1;
 // Room for a path: the folder's number, a slash, a file's name.
 const PATH_BYTES: usize = 32;
 
-fn main() {
+// Prints every case.
+pub fn run() {
     let mut i = 1;
     while i <= CASES {
         print_case(i);
