@@ -4,7 +4,7 @@ ghost use Rattle.enforce.specs.Ready.{CategoryReady, PoliciesReady};
 ghost use Rattle.enforce.specs.Woven.{CategoryWoven, PoliciesWoven};
 use crate::TextPlace;
 use crate::weave_text;
-use query::pattern::pattern_of;
+use book_tables::BookCounts;
 use rules_tables::CATEGORIES;
 use rules_tables::CATEGORY_WORDS;
 use rules_tables::LOWER_SET;
@@ -12,7 +12,6 @@ use rules_tables::POLICIES;
 use rules_tables::POLICY_WORDS;
 use rules_tables::RulesCounts;
 use rules_tables::policies::policy_place;
-use book_tables::BookCounts;
 use weave::Added;
 use woven_tables::WovenCounts;
 
@@ -96,19 +95,20 @@ fn weave_category(
     let at = POLICIES + POLICY_WORDS * policy;
     let start = rules_words[at + 1] as usize;
     let end = start + rules_words[at + 2] as usize;
-    let pattern = pattern_of(book, words, counts, &rules[start..end]);
     let place = TextPlace {
         category: lower,
         number: texts,
         base: start,
     };
     let added = weave_text(
+        book,
+        words,
+        counts,
+        &rules[start..end],
         query,
         rules,
         rules_words,
-        rules_counts,
         place,
-        pattern,
         woven,
         shape,
     );

@@ -22,7 +22,7 @@ pub extern "C" fn hifmuneth_read_book(
     ensures answer { λ r. ⌜ BookTold (bookService (length (now (work .entry))) (now (book .entry)) .answer) r (now (nodes .exit)) (now (relationships .exit)) (now (entries .exit)) (now (number .exit)) (now (text .exit)) (now (line .exit)) ⌝ }
     ensures cleared { λ _. ⌜ now (work .exit) ≡ ones (length (now (work .entry))) ⌝ }
 {
-    match book::read_book(book, work) {
+    match service::read_book(book, work) {
         BookRead::Counts(n, r, e) => {
             *nodes = n;
             *relationships = r;
