@@ -82,10 +82,6 @@ pub filled-ones : (words words′ : List ℕ) → words′ ≡ filled 0 words �
 unfolding ones
 filled-ones words words′ e = e ∙ filled-whole words ∙ ap (λ (n : ℕ). ones n) (sym (ap length e ∙ length-filled 0 words))
 
-pub filled-all : (entry words words′ : List ℕ) → words′ ≡ filled 0 words → length words ≡ length entry → words′ ≡ ones (length entry)
-unfolding ones
-filled-all entry words words′ e l = e ∙ filled-whole words ∙ ap (λ (n : ℕ). ones n) l
-
 -- a line that ends in a line feed goes by its form
 pub line-closed : (text : Bytes) (from to : ℕ) (b : Book) → to < length text
     → bookStep b (lineAt text from to) ≡ formStepOf b (andThen (lineItems (partOf text from (to - from))) bookLine)

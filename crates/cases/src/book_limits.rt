@@ -91,7 +91,7 @@ fn try_book(name: &[u8], text: &[u8], n: usize, work: &mut [u32]) {
     if text.len() < n {
         return;
     }
-    match book::read_book(&text[0..n], work) {
+    match service::read_book(&text[0..n], work) {
         BookRead::Counts(nodes, relationships, entries) => {
             io::write_all(1, b": counts");
             print(nodes as u64);

@@ -16,11 +16,13 @@ use Rattle.model.specs.Pattern.{patternOf}
 use Rattle.model.specs.Request.{Identity}
 use Rattle.model.specs.Weave.{Asked, isExcluded, named, moved, returnsOf, weave, wovenFault, WovenPattern}
 use Rattle.model.specs.declared.Identity.{Identity as IdentityData}
+use Rattle.model.specs.declared.RequestRead.{RequestRead}
 use Rattle.model.proofs.Places.{length-map}
 use Rattle.book_tables.specs.declared.BookCounts.{BookCounts}
-use Rattle.book_tables.specs.View.{bookAt}
+use Rattle.book_tables.specs.View.{bookAt, nameOf}
 use Rattle.book_tables.proofs.ListedLaws.{length-listed}
 use Rattle.rules_tables.specs.declared.RulesCounts.{RulesCounts}
+use Rattle.rules_tables.specs.Layout.{names}
 use Rattle.rules_tables.specs.View.{actorsAt, treeOf}
 use Rattle.woven_tables.specs.declared.WovenCounts.{WovenCounts}
 use Rattle.woven_tables.specs.Tables.{returnsAt, wovenAt}
@@ -48,14 +50,14 @@ module _ (book : Bytes) (words : List ℕ) (k : BookCounts) (query rules : Bytes
   all-texts = textsBelow query rules rulesWords rc category (rc .categories)
 
   -- what is said of the texts in the words' terms answers for the model's request and tree
-  pub answer-for : (request : Bytes) (identities : List IdentityData) (count : ℕ) (woven : List ℕ) (out : AskedWoven)
-      → AskedSays book words k query rules all-texts (identitiesIn request identities count) (length (treeOf query .returns)) woven out
-      → AskedAnswer book words k query rules rulesWords rc category request identities count woven out
-  answer-for request identities count woven out says x its same tree is =
-      let whole = texts-are query rules rulesWords rc (clear .rules-fit) category (clear .counted) x its tree is in
+  pub answer-for : (request : Bytes) (rd : RequestRead) → rd .category ≡ category → (woven : List ℕ) (out : AskedWoven)
+      → AskedSays book words k query rules all-texts (identitiesIn request (rd .identities) (rd .count)) (length (treeOf query .returns)) woven out
+      → AskedAnswer book words query rules rulesWords request (record { book = k; rules = rc; request = rd }) woven out
+  answer-for request rd at woven out says x its same tree is =
+      let whole = texts-are query rules rulesWords rc (clear .rules-fit) category (clear .counted) x (its ∙ ap (nameOf rules rulesWords names) at) tree is in
       subst (λ a. AskedSays book words k query rules a (x .identities) (length (tree .returns)) woven out) (sym whole)
       (subst (λ ids. AskedSays book words k query rules all-texts ids (length (tree .returns)) woven out) (sym same)
-      (subst (λ (t : QueryText). AskedSays book words k query rules all-texts (identitiesIn request identities count) (length (t .returns)) woven out) (tree-is query tree is) says))
+      (subst (λ (t : QueryText). AskedSays book words k query rules all-texts (identitiesIn request (rd .identities) (rd .count)) (length (t .returns)) woven out) (tree-is query tree is) says))
 
   module _ (old new : List ℕ) (c : WovenCounts) (held : Held b k query rules rulesWords rc category (rc .categories) old c) where
     pub finish-ready : (identities : List IdentityData) (count : ℕ) → IdentitiesReady identities count → FinishReady query rules old c identities count

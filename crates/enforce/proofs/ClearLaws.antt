@@ -42,7 +42,7 @@ use Rattle.weave.proofs.Ranges.{pattern-ranged}
 use Rattle.query.specs.PatternRead.{PatternAsked}
 use Rattle.enforce.specs.Texts.{textsBelow}
 use Rattle.enforce.specs.Ready.{TextsClear}
-use Rattle.enforce.proofs.TextLaws.{tree-is, policies-are, texts-rest}
+use Rattle.enforce.proofs.TextLaws.{policies-are, texts-rest}
 
 all-take : (p : ℕ → Bool) (k : ℕ) (s : Bytes) → T (all p s) → T (all p (take k s))
 unfolding all
@@ -58,17 +58,17 @@ module _ (book : Bytes) (words : List ℕ) (k : BookCounts) (query rules : Bytes
   r = rulesAt rules rulesWords rc
 
   -- the query is read as its tree, in few and allowed bytes
-  read : QueryAccepted b query (clear .tree)
-  read = query-accepted b query (clear .tree) (clear .query-read)
+  read : QueryAccepted b query (treeOf query)
+  read = query-accepted b query (treeOf query) (clear .query-read)
 
   pub query-tree : queryText query ≡ just (treeOf query)
-  query-tree = read .is-text ∙ ap just (sym (tree-is query (clear .tree) (read .is-text)))
+  query-tree = read .is-text
 
   pub query-short : length query ≤ 2048
   query-short = read .short
 
   query-named : Named (treeOf query)
-  query-named = clear-names b (treeOf query) (subst (λ q. queryFault b q ≡ nothing) (sym (tree-is query (clear .tree) (read .is-text))) (read .faultless)) .declared
+  query-named = clear-names b (treeOf query) (read .faultless) .declared
 
   -- and it returns something
   pub some-returned : 0 < length (treeOf query .returns)

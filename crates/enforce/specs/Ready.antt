@@ -1,30 +1,28 @@
 -- What weaving the asked texts may take for granted.
-use Prim.Native.Nat.{ℕ, _<_, _≤_}
+use Prim.Native.Nat.{ℕ, _+_, _<_, _≤_}
 use mathlib.Core.Path.{_≡_}
 use mathlib.Core.List.{List}
 use lib.ListN.{length}
 use Rattle.model.specs.Bytes.{Bytes}
 use Rattle.model.specs.Refusal.{accepted}
 use Rattle.model.specs.Book.{Book}
-use Rattle.model.specs.QueryText.{QueryText}
 use Rattle.model.specs.ReadQuery.{readQuery}
 use Rattle.model.specs.ReadRules.{readRules}
 use Rattle.model.specs.Weave.{weave}
-use Rattle.model.specs.declared.Pattern.{Pattern}
-use Rattle.model.specs.declared.Identity.{Identity as IdentityData}
 use Rattle.book_tables.specs.declared.BookCounts.{BookCounts}
-use Rattle.book_tables.specs.View.{bookAt}
+use Rattle.book_tables.specs.View.{bookAt, wordAt}
 use Rattle.book_tables.specs.Fits.{Fits}
 use Rattle.rules_tables.specs.declared.RulesCounts.{RulesCounts}
-use Rattle.rules_tables.specs.View.{rulesAt}
+use Rattle.rules_tables.specs.Layout.{actorCountAt}
+use Rattle.rules_tables.specs.View.{treeOf, rulesAt}
 use Rattle.rules_tables.specs.Fits.{Fits as RulesFit}
 use Rattle.woven_tables.specs.declared.WovenCounts.{WovenCounts}
 use Rattle.woven_tables.specs.Tables.{wovenAt}
-use Rattle.model.specs.PlainData.{PatternFits}
 use Rattle.weave.specs.Adding.{Kept}
 use Rattle.weave.specs.Identities.{IdentitiesReady}
 use Rattle.enforce.specs.declared.TextPlace.{TextPlace}
-use Rattle.query.specs.PatternRead.{PatternRead}
+use Rattle.query.specs.PatternRead.{PatternAsked}
+use Rattle.prepare.specs.declared.Ready.{Ready}
 use Rattle.enforce.specs.Texts.{textsBelow}
 use Rattle.enforce.specs.OneNamed.{Declared}
 
@@ -33,25 +31,23 @@ pub record TextsClear (book : Bytes) (words : List ℕ) (k : BookCounts) (query 
   pub fits : Fits book words k
   pub rules-fit : RulesFit rules rulesWords rc
   pub rules-read : readRules (bookAt book words k) rules ≡ accepted (rulesAt rules rulesWords rc)
-  pub tree : QueryText
-  pub query-read : readQuery (bookAt book words k) query ≡ accepted tree
+  pub query-read : readQuery (bookAt book words k) query ≡ accepted (treeOf query)
   pub counted : category < rc .categories
 
--- what weaving all texts asks
-pub record AskedReady (book : Bytes) (words : List ℕ) (k : BookCounts) (query : Bytes) (p : Pattern) (rules : Bytes) (rulesWords : List ℕ) (rc : RulesCounts) (category : ℕ)
-    (identities : List IdentityData) (count : ℕ) (woven : List ℕ) : Type 0 where
-  pub texts : TextsClear book words k query rules rulesWords rc category
-  pub pattern : PatternRead (bookAt book words k) k query p
-  pub identified : IdentitiesReady identities count
-  pub room : 512 ≤ length woven
+-- what weaving all texts for a request that is ready asks
+pub record AskedReady (book : Bytes) (words : List ℕ) (query rules : Bytes) (rulesWords : List ℕ) (r : Ready) : Type 0 where
+  pub texts : TextsClear book words (r .book) query rules rulesWords (r .rules) (r .request .category)
+  pub identified : IdentitiesReady (r .request .identities) (r .request .count)
 
 -- what weaving one text asks
-pub record TextReady (query rules : Bytes) (rulesWords : List ℕ) (rc : RulesCounts) (t : TextPlace) (p : Pattern) (woven : List ℕ) (c : WovenCounts) : Type 0 where
-  pub rules-fit : RulesFit rules rulesWords rc
-  pub counted : t .category < rc .categories
+pub record TextReady (book : Bytes) (words : List ℕ) (k : BookCounts) (text query rules : Bytes) (rulesWords : List ℕ) (t : TextPlace) (woven : List ℕ) (c : WovenCounts) : Type 0 where
+  pub asked : PatternAsked book words k text
+  pub short : t .base + length text ≤ 65536
+  pub room : 512 ≤ length rulesWords
+  pub low : t .category < 16
+  pub few-actors : wordAt rulesWords (actorCountAt (t .category)) ≤ 8
   pub kept : Kept query rules woven c
   pub few-texts : t .number < 32
-  pub fits : PatternFits (t .base) p
 
 -- the words hold the woven pattern of the query and the enforced policies of the categories below m
 pub record Held (b : Book) (k : BookCounts) (query rules : Bytes) (rulesWords : List ℕ) (rc : RulesCounts) (category m : ℕ) (woven : List ℕ) (c : WovenCounts) : Type 0 where

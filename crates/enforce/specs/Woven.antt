@@ -12,7 +12,7 @@ use Rattle.model.specs.QueryText.{QueryText}
 use Rattle.model.specs.Grammar.{queryText}
 use Rattle.model.specs.Request.{Identity, Request}
 use Rattle.model.specs.Weave.{Asked, askedQuery, askedPolicies, weave, wovenFault}
-use Rattle.model.specs.declared.Identity.{Identity as IdentityData}
+use Rattle.model.specs.declared.Pattern.{Pattern}
 use Rattle.book_tables.specs.declared.BookCounts.{BookCounts}
 use Rattle.book_tables.specs.View.{bookAt, nameOf}
 use Rattle.rules_tables.specs.declared.RulesCounts.{RulesCounts}
@@ -22,8 +22,12 @@ use Rattle.woven_tables.specs.declared.WovenCounts.{WovenCounts}
 use Rattle.woven_tables.specs.Tables.{wovenAt}
 use Rattle.weave.specs.declared.Added.{Added}
 use Rattle.weave.specs.declared.Added.the-variants as added
+use Rattle.weave.specs.Adding.{TextAdded}
 use Rattle.weave.specs.Identities.{identitiesIn}
 use Rattle.weave.specs.Given.{Given, Identified}
+use Rattle.query.specs.PatternRead.{PatternRead}
+use Rattle.prepare.specs.declared.Ready.{Ready}
+use Rattle.enforce.specs.declared.TextPlace.{TextPlace}
 use Rattle.enforce.specs.declared.AskedWoven.{AskedWoven}
 use Rattle.enforce.specs.declared.AskedWoven.the-variants.{Woven, Refused}
 use Rattle.enforce.specs.declared.policies.TextsWoven.{TextsWoven}
@@ -34,6 +38,11 @@ use Rattle.enforce.specs.Ready.{Held}
 -- all texts together pass a woven limit: 12, whatever identities there are
 abbrev pub LimitPassed : Bytes → Bytes → List ℕ → RulesCounts → ℕ → Type 0
 LimitPassed query rules rulesWords rc category = (ids : List Identity) → wovenFault (weave (textsBelow query rules rulesWords rc category (rc .categories))) ids ≡ just 12
+
+-- the pattern of a text is woven, or a limit is passed
+abbrev pub TextWoven : Book → BookCounts → Bytes → Bytes → Bytes → List Bytes → TextPlace → List ℕ → List ℕ → WovenCounts → Added → Type 0
+TextWoven b k text query rules actors t old new c out =
+    (p : Pattern) × PatternRead b k text p × TextAdded query rules actors (t .number) (t .base) p old new c out
 
 -- the policy of category m is woven, if it is enforced, and so many texts are woven then; or a limit is passed
 abbrev pub CategoryWoven : Book → BookCounts → Bytes → Bytes → List ℕ → RulesCounts → ℕ → ℕ → List ℕ → TextsWoven → Type 0
@@ -60,9 +69,9 @@ AskedSays book words k query rules asked ids returned woven (Woven c) = AllWoven
 AskedSays book words k query rules asked ids returned woven (Refused n) = wovenFault (weave asked) ids ≡ just n
 
 -- the answer for a request of that category and those identities, and the query's tree
-abbrev pub AskedAnswer : Bytes → List ℕ → BookCounts → Bytes → Bytes → List ℕ → RulesCounts → ℕ → Bytes → List IdentityData → ℕ → List ℕ → AskedWoven → Type 0
-AskedAnswer book words k query rules rulesWords rc category request identities count woven out =
-    (x : Request) → x .category ≡ nameOf rules rulesWords names category → x .identities ≡ identitiesIn request identities count
+abbrev pub AskedAnswer : Bytes → List ℕ → Bytes → Bytes → List ℕ → Bytes → Ready → List ℕ → AskedWoven → Type 0
+AskedAnswer book words query rules rulesWords request r woven out =
+    (x : Request) → x .category ≡ nameOf rules rulesWords names (r .request .category) → x .identities ≡ identitiesIn request (r .request .identities) (r .request .count)
     → (tree : QueryText) → queryText query ≡ just tree
-    → let r = rulesAt rules rulesWords rc in
-    AskedSays book words k query rules (askedQuery r x tree ∷ askedPolicies r x) (x .identities) (length (tree .returns)) woven out
+    → let theRules = rulesAt rules rulesWords (r .rules) in
+    AskedSays book words (r .book) query rules (askedQuery theRules x tree ∷ askedPolicies theRules x) (x .identities) (length (tree .returns)) woven out

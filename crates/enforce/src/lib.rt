@@ -1,14 +1,15 @@
 // The asked pattern: the query and every enforced policy, each with the actors of its own category, woven together.
+ghost use Prim.Native.Nat.{_≤_};
+ghost use lib.ListN.{length};
+ghost use Rattle.book_tables.specs.View.{bookAt};
 ghost use Rattle.rules_tables.specs.View.{actorsAt};
-ghost use Rattle.weave.specs.Adding.{TextAdded};
-ghost use Rattle.enforce.specs.Ready.{TextReady, AskedReady};
-ghost use Rattle.enforce.specs.Woven.{AskedAnswer};
+ghost use Rattle.enforce.specs.Ready.{TextsClear, TextReady, AskedReady};
+ghost use Rattle.enforce.specs.Woven.{TextWoven, PoliciesWoven, AskedAnswer};
 use book_tables::BookCounts;
-use model::Identity;
-use model::Pattern;
-use model::limits::MAX_IDENTITIES;
 use model::refusal_numbers::NOT_TIED;
 use model::refusal_numbers::WOVEN_LIMIT_PASSED;
+use prepare::Ready;
+use query::pattern::pattern_of;
 use rules_tables::ACTORS;
 use rules_tables::CATEGORIES;
 use rules_tables::CATEGORY_WORDS;
@@ -31,24 +32,58 @@ pub struct TextPlace {
     pub base: usize,
 }
 
-// Weaves the query and the enforced policies of the request's category, and gives the woven vertices the nodes of the identities.
+// Weaves the query and the enforced policies of the request's category, and gives the woven vertices the nodes of the request's identities.
+pub fn weave_request(
+    book: &[u8],
+    words: &[u32],
+    query: &[u8],
+    rules: &[u8],
+    rules_words: &[u32],
+    request: &[u8],
+    ready: Ready,
+    woven: &mut [u32],
+) -> AskedWoven
+    requires { ⌜ AskedReady (now book) (now words) (now query) (now rules) (now «rules_words») ready × (512 ≤ length (now woven)) ⌝ }
+    ensures { λ r. ⌜ AskedAnswer (now (book .entry)) (now (words .entry)) (now (query .entry)) (now (rules .entry)) (now («rules_words» .entry)) (now (request .entry)) ready (now (woven .exit)) r ⌝ }
+{
+    let counts = ready.book;
+    let rules_counts = ready.rules;
+    let read = ready.request;
+    let identities = read.identities;
+    let all = weave_texts(
+        book,
+        words,
+        counts,
+        query,
+        rules,
+        rules_words,
+        rules_counts,
+        read.category,
+        woven,
+    );
+    let Added::Woven(shape) = all else {
+        return AskedWoven::Refused(WOVEN_LIMIT_PASSED);
+    };
+    if weave::finish(query, rules, request, identities, read.count, woven, shape) {
+        return AskedWoven::Woven(shape);
+    }
+    AskedWoven::Refused(NOT_TIED)
+}
+
+// Weaves the query and the enforced policies of a category, without identities.
 pub fn weave_texts(
     book: &[u8],
     words: &[u32],
     counts: BookCounts,
     query: &[u8],
-    pattern: Pattern,
     rules: &[u8],
     rules_words: &[u32],
     rules_counts: RulesCounts,
     category: usize,
-    request: &[u8],
-    identities: [Identity; MAX_IDENTITIES],
-    count: usize,
     woven: &mut [u32],
-) -> AskedWoven
-    requires { ⌜ AskedReady (now book) (now words) counts (now query) pattern (now rules) (now «rules_words») «rules_counts» category identities count (now woven) ⌝ }
-    ensures { λ r. ⌜ AskedAnswer (now (book .entry)) (now (words .entry)) counts (now (query .entry)) (now (rules .entry)) (now («rules_words» .entry)) «rules_counts» category (now (request .entry)) identities count (now (woven .exit)) r ⌝ }
+) -> Added
+    requires { ⌜ TextsClear (now book) (now words) counts (now query) (now rules) (now «rules_words») «rules_counts» category × (512 ≤ length (now woven)) ⌝ }
+    ensures { λ r. ⌜ PoliciesWoven (bookAt (now (book .entry)) (now (words .entry)) counts) counts (now (query .entry)) (now (rules .entry)) (now («rules_words» .entry)) «rules_counts» category (now (woven .exit)) r ⌝ }
 {
     let place = TextPlace {
         category,
@@ -56,19 +91,21 @@ pub fn weave_texts(
         base: 0,
     };
     let first = weave_text(
+        book,
+        words,
+        counts,
+        query,
         query,
         rules,
         rules_words,
-        rules_counts,
         place,
-        pattern,
         woven,
         weave::empty(),
     );
     let Added::Woven(alone) = first else {
-        return AskedWoven::Refused(WOVEN_LIMIT_PASSED);
+        return Added::Passed;
     };
-    let all = policies::weave_policies(
+    policies::weave_policies(
         book,
         words,
         counts,
@@ -79,34 +116,31 @@ pub fn weave_texts(
         category,
         woven,
         alone,
-    );
-    let Added::Woven(shape) = all else {
-        return AskedWoven::Refused(WOVEN_LIMIT_PASSED);
-    };
-    if weave::finish(query, rules, request, identities, count, woven, shape) {
-        return AskedWoven::Woven(shape);
-    }
-    AskedWoven::Refused(NOT_TIED)
+    )
 }
 
 // Weaves the pattern of a text: its actor vertices are those that are actors of its own category.
 pub fn weave_text(
+    book: &[u8],
+    words: &[u32],
+    counts: BookCounts,
+    text: &[u8],
     query: &[u8],
     rules: &[u8],
     rules_words: &[u32],
-    rules_counts: RulesCounts,
     place: TextPlace,
-    pattern: Pattern,
     woven: &mut [u32],
     shape: WovenCounts,
 ) -> Added
-    requires { ⌜ TextReady (now query) (now rules) (now «rules_words») «rules_counts» place pattern (now woven) shape ⌝ }
-    ensures { λ r. ⌜ TextAdded (now (query .entry)) (now (rules .entry)) (actorsAt (now (rules .entry)) (now («rules_words» .entry)) (place .category)) (place .number) (place .base) pattern (now (woven .entry)) (now (woven .exit)) shape r ⌝ }
+    requires { ⌜ TextReady (now book) (now words) counts (now text) (now query) (now rules) (now «rules_words») place (now woven) shape ⌝ }
+    ensures { λ r. ⌜ TextWoven (bookAt (now (book .entry)) (now (words .entry)) counts) counts (now (text .entry)) (now (query .entry)) (now (rules .entry))
+        (actorsAt (now (rules .entry)) (now («rules_words» .entry)) (place .category)) place (now (woven .entry)) (now (woven .exit)) shape r ⌝ }
 {
     let category = place.category;
     let at = CATEGORIES + CATEGORY_WORDS * category;
     let actor_count = rules_words[at] as usize;
     let actors = &rules_words[at + ACTORS..];
+    let pattern = pattern_of(book, words, counts, text);
     weave::add_pattern(
         query,
         rules,

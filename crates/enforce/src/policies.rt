@@ -5,7 +5,6 @@ ghost use Rattle.enforce.specs.Woven.{CategoryWoven, PoliciesWoven};
 use crate::TextPlace;
 use crate::weave_text;
 use book_tables::BookCounts;
-use query::pattern::pattern_of;
 use rules_tables::CATEGORIES;
 use rules_tables::CATEGORY_WORDS;
 use rules_tables::LOWER_SET;
@@ -96,19 +95,20 @@ fn weave_category(
     let at = POLICIES + POLICY_WORDS * policy;
     let start = rules_words[at + 1] as usize;
     let end = start + rules_words[at + 2] as usize;
-    let pattern = pattern_of(book, words, counts, &rules[start..end]);
     let place = TextPlace {
         category: lower,
         number: texts,
         base: start,
     };
     let added = weave_text(
+        book,
+        words,
+        counts,
+        &rules[start..end],
         query,
         rules,
         rules_words,
-        rules_counts,
         place,
-        pattern,
         woven,
         shape,
     );

@@ -20,6 +20,6 @@ pub extern "C" fn hifmuneth_read_book(
     ensures answer { λ r. ⌜ BookTold (bookService (length (now (work .entry))) (now (book .entry)) .answer) r (now (nodes .exit)) (now (relationships .exit)) (now (entries .exit)) (now (number .exit)) (now (text .exit)) (now (line .exit)) ⌝ }
     ensures cleared { λ _. ⌜ now (work .exit) ≡ ones (length (now (work .entry))) ⌝ }
 {
-    let read = book::read_book(book, work);
+    let read = service::read_book(book, work);
     tell_book(read, nodes, relationships, entries, number, text, line)
 }

@@ -1,7 +1,6 @@
 // The service that gives the names of a book's nodes, so that the numbers of a row can be shown.
 ghost use mathlib.Core.Path.{_≡_};
 ghost use mathlib.Core.List.{[]};
-ghost use Prim.Native.Nat.{_≤_, _<_};
 ghost use lib.ListN.{length, getD};
 ghost use Rattle.model.specs.Book.{nodeNames};
 ghost use Rattle.model.specs.Service.{ones, bookService};
@@ -9,12 +8,13 @@ ghost use Rattle.model.specs.Answers.{bookAnswer};
 ghost use Rattle.book_tables.specs.View.{bookAt};
 ghost use Rattle.book_tables.specs.Fits.{Fits};
 ghost use Rattle.node_names.specs.Names.{nameByte, nameBytes, namesLeft};
-use book::BookLoad;
 use book_tables::BookCounts;
 use model::BookRead;
-use model::Refusal;
-use model::limits::WORK_WORDS;
-use model::refusal_numbers::TOO_LITTLE;
+use model::Verdict;
+use prepare::Needs;
+use prepare::clear;
+use prepare::prepare;
+use rules_tables::RULES_WORDS;
 
 // "A name is a word of 1 to 24 bytes"; here it is followed by a zero.
 pub const NAME_BYTES: usize = 25;
@@ -29,33 +29,25 @@ pub fn node_names(book: &[u8], names: &mut [u8; ALL_NAME_BYTES], work: &mut [u32
     ensures names { λ _. ⌜ now (names .exit) ≡ namesLeft (length (now (work .entry))) (now (book .entry)) ⌝ }
     ensures cleared { λ _. ⌜ now (work .exit) ≡ ones (length (now (work .entry))) ⌝ }
 {
-    if work.len() < WORK_WORDS {
-        fill::fill(work, 0);
-        *names = no_bytes();
-        return BookRead::Refused(Refusal {
-            number: TOO_LITTLE,
-            text: 0,
-            line: 0,
-        });
-    }
-    let read = from_text(book, names, work);
-    fill::fill(work, 0);
-    read
-}
-
-// Reads the book, then the names of its nodes.
-fn from_text(book: &[u8], names: &mut [u8; ALL_NAME_BYTES], work: &mut [u32]) -> BookRead
-    requires { ⌜ 16384 ≤ length (now work) ⌝ }
-    ensures answer { λ r. ⌜ bookAnswer r ≡ bookService (length (now (work .entry))) (now (book .entry)) .answer ⌝ }
-    ensures names { λ _. ⌜ now (names .exit) ≡ namesLeft (length (now (work .entry))) (now (book .entry)) ⌝ }
-{
-    match book::load::load(book, work) {
-        BookLoad::Loaded(counts) => {
+    let needs = Needs {
+        rules: false,
+        query: false,
+        request: false,
+    };
+    let mut table = [0u32; RULES_WORDS];
+    let ready = prepare(needs, book, b"", b"", b"", work, &mut table);
+    let request = ready.request;
+    let verdict = request.verdict;
+    let counts = ready.book;
+    match verdict {
+        Verdict::Accepted => {
             *names = bytes_of(book, work, counts);
+            clear(work);
             return BookRead::Counts(counts.nodes, counts.relationships, counts.entries);
         }
-        BookLoad::Refused(refusal) => {
+        Verdict::Refused(refusal) => {
             *names = no_bytes();
+            clear(work);
             return BookRead::Refused(refusal);
         }
     }

@@ -1,6 +1,5 @@
 // Printing the answers of the readers and of the query writer. These functions only print: no contract can say what reached the output.
 ghost use Rattle.program_io.specs.Identities.{Inside, IdentitiesInside};
-use book::read_book;
 use libc::STDOUT_FILENO;
 use model::BookRead;
 use model::Identity;
@@ -13,6 +12,7 @@ use model::Verdict;
 use model::limits::MAX_IDENTITIES;
 use model::limits::MAX_QUERY_BYTES;
 use model::limits::WORK_WORDS;
+use service::read_book;
 
 // Prints what the book reader answers: the counts of nodes, relationships and entries.
 pub fn print_book(book: &[u8]) {

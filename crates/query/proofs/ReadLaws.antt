@@ -1,7 +1,7 @@
--- Reading a query: the refusals 1 and 2, then the lowest fault, then the pattern.
+-- Reading a query: the refusals 1 and 2, then the lowest fault; and the pattern of one that is accepted can be read.
 use Prim.Native.Nat.{ℕ}
 use mathlib.Core.Path.{_≡_, refl, sym, ap, subst, _∙_}
-use mathlib.Core.List.{[], _∷_}
+use mathlib.Core.List.{List, [], _∷_}
 use mathlib.Core.Bool.{Bool, true, false}
 use native.Mathlib.Omega.{arith}
 use lib.ListN.{length}
@@ -17,22 +17,24 @@ use Rattle.model.specs.Grammar.{queryText}
 use Rattle.model.specs.ReadQuery.{queryFault, textOrFault, readQuery}
 use Rattle.model.specs.Answers.{refusalOf}
 use Rattle.model.specs.declared.Verdict.the-variants.{Accepted}
-use Rattle.model.specs.declared.Pattern.{Pattern}
-use Rattle.model.specs.declared.QueryRead.{QueryRead}
+use Rattle.model.specs.declared.Verdict.{Verdict}
 use Rattle.model.proofs.AllowedBytes.{line-allowed}
+use Rattle.model.proofs.AcceptedQuery.{query-accepted}
 use Rattle.book_tables.specs.declared.BookCounts.{BookCounts}
+use Rattle.book_tables.specs.View.{bookAt}
+use Rattle.book_tables.specs.Fits.{Fits}
 use Rattle.text.specs.Lines.{onLine, bytesOf, onBytes}
 use Rattle.text.specs.declared.BytesRead.{BytesRead}
 use Rattle.text.specs.declared.BytesRead.the-variants.{Allowed, TooLong, BadLine}
 use Rattle.text.proofs.LineLaws.{bytes-first}
 use Rattle.query_faults.specs.TextFault.{numberOr, treeFault, textFault}
-use Rattle.query.specs.PatternRead.{PatternRead}
-use Rattle.query.specs.QueryReads.{QueryGiven, QueryReads, RefusedWith}
+use Rattle.query.specs.PatternRead.{PatternAsked}
+use Rattle.query.specs.QueryReads.{QueryReads, refusedWith}
 
 -- a query that is refused with a number and a line
-refused-given : (b : Book) (c : BookCounts) (s : Bytes) (number line : ℕ) (r : QueryRead) → readQuery b s ≡ refusal number 3 line → RefusedWith number line r → QueryReads b c s r
+refused-given : (b : Book) (s : Bytes) (number line : ℕ) (v : Verdict) → readQuery b s ≡ refusal number 3 line → v ≡ refusedWith number line → QueryReads b s v
 unfolding refusal refusalOf
-refused-given b c s number line r e h = subst (λ v. QueryGiven b c s (r .pattern) v) (sym (h .verdict)) (e, h .pattern)
+refused-given b s number line v e h = subst (QueryReads b s) (sym h) e
 
 -- what the bytes of a text are refused for
 module _ (b : Book) (s : Bytes) (x : BytesRead) (h : x ≡ bytesOf 2048 s) where
@@ -40,28 +42,19 @@ module _ (b : Book) (s : Bytes) (x : BytesRead) (h : x ≡ bytesOf 2048 s) where
   unfolding readQuery
   by-bytes = bytes-first 3 2048 (λ l. 1) s (textOrFault b (queryText s)) ∙ ap (λ (y : BytesRead). onBytes y 3 (λ l. 1) (textOrFault b (queryText s))) (sym h)
 
-  pub too-long : (c : BookCounts) → x ≡ TooLong → (r : QueryRead) → RefusedWith 1 0 r → QueryReads b c s r
+  pub too-long : x ≡ TooLong → (v : Verdict) → v ≡ refusedWith 1 0 → QueryReads b s v
   unfolding onBytes
-  too-long c e r k = refused-given b c s 1 0 r (by-bytes ∙ ap (λ (y : BytesRead). onBytes y 3 (λ l. 1) (textOrFault b (queryText s))) e) k
+  too-long e v k = refused-given b s 1 0 v (by-bytes ∙ ap (λ (y : BytesRead). onBytes y 3 (λ l. 1) (textOrFault b (queryText s))) e) k
 
-  pub bad-byte : (c : BookCounts) (l : ℕ) → x ≡ BadLine l → (r : QueryRead) → RefusedWith 2 1 r → QueryReads b c s r
+  pub bad-byte : (l : ℕ) → x ≡ BadLine l → (v : Verdict) → v ≡ refusedWith 2 1 → QueryReads b s v
   unfolding onBytes
-  bad-byte c l e r k = refused-given b c s 2 1 r (by-bytes ∙ ap (λ (y : BytesRead). onBytes y 3 (λ l. 1) (textOrFault b (queryText s))) e) k
+  bad-byte l e v k = refused-given b s 2 1 v (by-bytes ∙ ap (λ (y : BytesRead). onBytes y 3 (λ l. 1) (textOrFault b (queryText s))) e) k
 
 -- a text whose bytes are allowed is read as its grammar and its faults say
 module _ (b : Book) (s : Bytes) (h : bytesOf 2048 s ≡ Allowed) where
   by-faults : readQuery b s ≡ textOrFault b (queryText s)
   unfolding onBytes
   by-faults = by-bytes b s Allowed (sym h)
-
-  pub all-allowed : T (all isAllowed s)
-  unfolding bytesOf onLine
-  all-allowed = go (ltb 2048 (length s)) (badLine 1 s) refl h
-    where
-      go : (t : Bool) (m : Maybe ℕ) → badLine 1 s ≡ m → pick t TooLong (onLine m) ≡ Allowed → T (all isAllowed s)
-      go true m e k = absurd (let z : _≡_ {A = ℕ} 0 1 = cc in omega arith)
-      go false nothing e k = line-allowed 1 s e
-      go false (just l) e k = absurd (let z : _≡_ {A = ℕ} 0 1 = cc in omega arith)
 
   -- a table without a number, and with one
   none-lowest : (t u v w x : Bool) → numberOr (lowest ((4 if t) ∷ (5 if u) ∷ (6 if v) ∷ (7 if w) ∷ (8 if x) ∷ [])) ≡ 0 → lowest ((4 if t) ∷ (5 if u) ∷ (6 if v) ∷ (7 if w) ∷ (8 if x) ∷ []) ≡ nothing
@@ -92,14 +85,18 @@ module _ (b : Book) (s : Bytes) (h : bytesOf 2048 s ≡ Allowed) where
   tree-faulty nothing n e k = ap (λ n. refusal n 3 1) (sym e)
   tree-faulty (just q) n e k = ap (λ m. refusedIf m 3 1 (accepted q)) (some-number (queryFault b q) n e k)
 
-  module _ (c : BookCounts) (n : ℕ) (e : n ≡ textFault b s) where
-    pub query-clear : n ≡ 0 → textFault b s ≡ 0
-    query-clear z = sym e ∙ z
-
-    pub query-accepted : n ≡ 0 → (p : Pattern) → PatternRead b c s p → QueryGiven b c s p Accepted
+  module _ (n : ℕ) (e : n ≡ textFault b s) where
+    pub query-clear : n ≡ 0 → QueryReads b s Accepted
     unfolding textFault
-    query-accepted z p k = let t = tree-clear (queryText s) (sym e ∙ z) in (t .0, by-faults ∙ t .1, k)
+    query-clear z = let t = tree-clear (queryText s) (sym e ∙ z) in (t .0, by-faults ∙ t .1)
 
-    pub query-refused : (n ≡ 0 → ⊥) → (r : QueryRead) → RefusedWith n 1 r → QueryReads b c s r
+    pub query-refused : (n ≡ 0 → ⊥) → (v : Verdict) → v ≡ refusedWith n 1 → QueryReads b s v
     unfolding textFault
-    query-refused z r k = refused-given b c s n 1 r (by-faults ∙ tree-faulty (queryText s) n e z) k
+    query-refused z v k = refused-given b s n 1 v (by-faults ∙ tree-faulty (queryText s) n e z) k
+
+-- the pattern of an accepted query can be read
+pub pattern-asked : (book : Bytes) (words : List ℕ) (c : BookCounts) (s : Bytes) (tree : QueryText) → Fits book words c → readQuery (bookAt book words c) s ≡ accepted tree → PatternAsked book words c s
+unfolding textFault treeFault numberOr
+pattern-asked book words c s tree fits e =
+    let q = query-accepted (bookAt book words c) s tree e in
+    record { fits = fits; clear = ap (treeFault (bookAt book words c)) (q .is-text) ∙ ap numberOr (q .faultless); allowed = line-allowed 1 s (q .allowed) }

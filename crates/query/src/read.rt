@@ -1,10 +1,9 @@
-// Reading a query: its pattern, or its lowest refusal beside an empty pattern.
+// Reading a query: whether it is accepted, or its lowest refusal. The pattern of one that is accepted is built where it is used.
+ghost use mathlib.Core.Path.{_≡_};
 ghost use Rattle.book_tables.specs.View.{bookAt};
 ghost use Rattle.book_tables.specs.Fits.{Fits};
-ghost use Rattle.query.specs.QueryReads.{QueryReads, TextAsked, RefusedWith};
-use crate::pattern;
+ghost use Rattle.query.specs.QueryReads.{QueryReads, TextAsked, refusedWith};
 use book_tables::BookCounts;
-use model::QueryRead;
 use model::Refusal;
 use model::Verdict;
 use model::limits::MAX_QUERY_BYTES;
@@ -16,37 +15,33 @@ use query_faults::faulty;
 use text::BytesRead;
 use text::lines;
 
-// A refusal beside an empty pattern.
-fn refused(number: u32, line: u32) -> QueryRead
-    ensures { λ r. ⌜ RefusedWith number line r ⌝ }
+// A refusal of the query.
+fn refused(number: u32, line: u32) -> Verdict
+    ensures { λ r. ⌜ r ≡ refusedWith number line ⌝ }
 {
-    let pattern = pattern::empty();
-    let verdict = Verdict::Refused(Refusal {
+    Verdict::Refused(Refusal {
         number,
         text: QUERY,
         line,
-    });
-    QueryRead { verdict, pattern }
+    })
 }
 
 // Reads a text of allowed bytes that is short enough.
-fn read_allowed(book: &[u8], words: &[u32], counts: BookCounts, s: &[u8]) -> QueryRead
+fn read_allowed(book: &[u8], words: &[u32], counts: BookCounts, s: &[u8]) -> Verdict
     requires { ⌜ TextAsked (now book) (now words) counts (now s) ⌝ }
-    ensures { λ r. ⌜ QueryReads (bookAt (now (book .entry)) (now (words .entry)) counts) counts (now (s .entry)) r ⌝ }
+    ensures { λ r. ⌜ QueryReads (bookAt (now (book .entry)) (now (words .entry)) counts) (now (s .entry)) r ⌝ }
 {
     let fault = faulty::fault_of(book, words, counts, s);
     if fault == 0 {
-        let pattern = pattern::pattern_of(book, words, counts, s);
-        let verdict = Verdict::Accepted;
-        return QueryRead { verdict, pattern };
+        return Verdict::Accepted;
     }
     refused(fault, QUERY_LINE)
 }
 
 // Reads a query against a loaded book.
-pub fn read(book: &[u8], words: &[u32], counts: BookCounts, s: &[u8]) -> QueryRead
+pub fn read(book: &[u8], words: &[u32], counts: BookCounts, s: &[u8]) -> Verdict
     requires { ⌜ Fits (now book) (now words) counts ⌝ }
-    ensures { λ r. ⌜ QueryReads (bookAt (now (book .entry)) (now (words .entry)) counts) counts (now (s .entry)) r ⌝ }
+    ensures { λ r. ⌜ QueryReads (bookAt (now (book .entry)) (now (words .entry)) counts) (now (s .entry)) r ⌝ }
 {
     match lines::bytes_read(s, MAX_QUERY_BYTES) {
         BytesRead::TooLong => refused(TOO_LONG, 0),

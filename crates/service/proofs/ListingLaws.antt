@@ -13,12 +13,12 @@ use Rattle.model.specs.Choice.{pick}
 use Rattle.model.specs.Lists.{joined}
 use Rattle.model.specs.Refusal.{Outcome, accepted, refused, onAccept, refusal}
 use Rattle.model.specs.Book.{Book}
-use Rattle.model.specs.ReadBook.{readBook}
 use Rattle.model.specs.Request.{Identity}
 use Rattle.model.specs.Service.{ones, FoundRows, rowWords, listFound, listService}
 use Rattle.model.specs.Answers.{refusalOf, listAnswer}
 use Rattle.model.specs.Demands.{ListCalled}
 use Rattle.model.specs.declared.Refusal.{Refusal as RefusalData}
+use Rattle.model.specs.declared.Verdict.the-variants.{Accepted, Refused}
 use Rattle.model.specs.declared.RowsListed.{RowsListed}
 use Rattle.model.specs.declared.RowsListed.the-variants as answer
 use Rattle.fill.specs.Filled.{filled}
@@ -31,19 +31,26 @@ use Rattle.jumps.specs.Problem.{AllRows}
 use Rattle.problem.specs.ProblemOf.{problemOf}
 use Rattle.weave.specs.Given.{Identified}
 use Rattle.problem.specs.Rows.{RowsFound}
-use Rattle.service.specs.Behind.{rowsFrom, rowsOfRules, rowsOfQuery, rowsOfTexts, Lists}
-use Rattle.service.proofs.BookLaws.{little, enough}
+use Rattle.prepare.specs.declared.Needs.{Needs}
+use Rattle.prepare.specs.declared.Ready.{Ready}
+use Rattle.prepare.specs.Texts.{afterRules, afterBook, through}
+use Rattle.prepare.specs.Ready.{Prepared}
+use Rattle.prepare.proofs.ThroughLaws.{all-ready, refused-through, ready-through}
+use Rattle.service.specs.Listed.{rowsOfTexts, Lists, TextsListed}
 use Rattle.model.specs.Weave.{WovenPattern}
+
+-- what is needed
+abbrev pub needed : Needs
+needed = record { rules = true; query = true; request = true }
 
 -- rows that were found or refused
 abbrev pub RowsGiven : Type 0
 RowsGiven = Outcome FoundRows
 
 -- a refusal clears the row words
-pub lists-nothing : (number text line : ℕ) (before after : List ℕ) → after ≡ filled 0 before
-    → Lists (refusal number text line) (length before) after (answer.Refused (record { number = number; text = text; line = line }))
-unfolding refusal listAnswer refusalOf onAccept rowWords ones
-lists-nothing number text line before after e = record { answer = refl; rows = e ∙ filled-whole before }
+pub lists-nothing : (x : RefusalData) (before after : List ℕ) → after ≡ filled 0 before → Lists (refused (refusalOf x)) (length before) after (answer.Refused x)
+unfolding listAnswer onAccept rowWords ones
+lists-nothing x before after e = record { answer = refl; rows = e ∙ filled-whole before }
 
 -- the same list, of an outcome that is the same
 pub lists-as : (o o′ : RowsGiven) (n : ℕ) (after : List ℕ) (r : RowsListed) → o ≡ o′ → Lists o′ n after r → Lists o n after r
@@ -52,11 +59,6 @@ lists-as o o′ n after r e h = subst (λ (x : RowsGiven). Lists x n after r) (s
 -- the same list, of row words of the same length
 pub lists-long : (o : RowsGiven) (n n′ : ℕ) (after : List ℕ) (r : RowsListed) → n ≡ n′ → Lists o n′ after r → Lists o n after r
 lists-long o n n′ after r e h = subst (λ (m : ℕ). Lists o m after r) (sym e) h
-
--- the same of a refusal by its three numbers
-pub lists-refused : (o : RowsGiven) (q : RefusalData) (n : ℕ) (after : List ℕ) (r : RowsListed) → o ≡ refused (refusalOf q) → Lists (refusal (q .number) (q .text) (q .line)) n after r → Lists o n after r
-unfolding refusal refusalOf
-lists-refused o q n after r e h = lists-as o _ n after r e h
 
 joined-flat : (rows : List Row) → joined (λ row. row) rows ≡ flat rows
 unfolding joined flat
@@ -95,18 +97,20 @@ module _ (b : Book) (p : WovenPattern) (woven : List ℕ) (returns : ℕ) (befor
         rows = f ∙ ap₂ (λ (l : List ℕ) (n : ℕ). l ++ ones n) (sym (found-words e)) room;
       })
 
--- the service's answer and row words
-module _ (work words : ℕ) (book rules query request : Bytes) where
-  pub list-little : work < 16384 → listFound work words book rules query request ≡ refusal 15 0 0
-  unfolding listFound refusal refusalOf
-  list-little h = little work _ h
-
-  pub list-enough : 16384 ≤ work → listFound work words book rules query request ≡ onAccept (readBook book) (rowsFrom words rules query request)
-  unfolding listFound rowsFrom rowsOfRules rowsOfQuery rowsOfTexts
-  list-enough h = enough work _ h
-
 -- what the call of the list promises
-pub list-called : (book rules query request : Bytes) (rows work rows′ work′ : List ℕ) (r : RowsListed)
-    → Lists (listFound (length work) (length rows) book rules query request) (length rows) rows′ r → work′ ≡ ones (length work) → ListCalled book rules query request rows work rows′ work′ r
-unfolding listService
-list-called book rules query request rows work rows′ work′ r h c = record { answer = h .answer; rows-left = h .rows; cleared = c }
+module _ (book rules query request : Bytes) (rows work rows′ work′ : List ℕ) (words table : List ℕ) (r : Ready)
+    (given : Prepared needed book rules query request words table (through needed (length work) book rules query request accepted) r) (cleared : work′ ≡ ones (length work)) where
+  called : (o : RowsGiven) (res : RowsListed) → through needed (length work) book rules query request (rowsOfTexts (length rows)) ≡ o → Lists o (length rows) rows′ res
+      → ListCalled book rules query request rows work rows′ work′ res
+  unfolding listService listFound through afterBook afterRules onAccept rowsOfTexts
+  called o res e h = let l = lists-as (listFound (length work) (length rows) book rules query request) o (length rows) rows′ res e h in record { answer = l .answer; rows-left = l .rows; cleared = cleared }
+
+  pub list-refused : (x : RefusalData) → r .request .verdict ≡ Refused x → (res : RowsListed) → Lists (refused (refusalOf x)) (length rows) rows′ res
+      → ListCalled book rules query request rows work rows′ work′ res
+  list-refused x e res h = called _ res (refused-through needed (length work) book rules query request (rowsOfTexts (length rows)) words table r given x e) h
+
+  pub list-ready : r .request .verdict ≡ Accepted → (res : RowsListed) → TextsListed book words query rules table request r (length rows) rows′ res
+      → ListCalled book rules query request rows work rows′ work′ res
+  list-ready e res h =
+      let a = all-ready needed (length work) book rules query request (rowsOfTexts (length rows)) words table r given e in
+      called _ res (ready-through needed (length work) book rules query request (rowsOfTexts (length rows)) words table r given a) (h (a .request-ready))

@@ -1,4 +1,2 @@
--- What the services' contracts speak of.
-pub mod Behind
-pub mod Beside
-pub mod Ready
+-- What the steps of a list promise one another.
+pub mod Listed

@@ -1,43 +1,76 @@
-// The services: each takes its texts and the lent buffers, and answers or refuses. That of the book alone stands in the crate `book`.
+// The services: each takes its texts and the lent buffers, and answers or refuses. The texts that a service needs are read by `prepare`.
 ghost use mathlib.Core.Path.{_≡_};
 ghost use lib.ListN.{length};
 ghost use Rattle.model.specs.ReadBook.{readBook};
-ghost use Rattle.model.specs.Service.{ones, rulesService, queryService, requestService, writerService};
-ghost use Rattle.model.specs.Answers.{bookOf, rulesAnswer, queryAnswer, requestAnswer, writerAnswer};
+ghost use Rattle.model.specs.Service.{ones, bookService, rulesService, queryService, requestService, writerService};
+ghost use Rattle.model.specs.Answers.{bookOf, bookAnswer, rulesAnswer, queryAnswer, requestAnswer, writerAnswer};
 ghost use Rattle.model.specs.RequestAnswer.{requestRead};
+ghost use Rattle.model.specs.Demands.{ListCalled};
+ghost use Rattle.model.specs.WholeAnswers.{queryRead};
+use model::BookRead;
 use model::QueryRead;
 use model::QueryWritten;
 use model::Refusal;
 use model::RequestRead;
 use model::RowsListed;
 use model::RulesRead;
-use model::limits::WORK_WORDS;
-use model::refusal_numbers::TOO_LITTLE;
-ghost use Rattle.model.specs.Demands.{ListCalled};
-ghost use Rattle.model.specs.WholeAnswers.{queryRead};
+use model::Verdict;
+use model::refusal_numbers::NO_ROOM;
+use model::refusal_numbers::QUERY;
+use model::refusal_numbers::QUERY_LINE;
+use prepare::Needs;
+use prepare::clear;
+use prepare::prepare;
+use putting::Written;
+use query::pattern;
+use rules_tables::RULES_WORDS;
 
-mod listing; // listing.rt: the rows that may be had, text by text
-mod query_reader; // query_reader.rt: a query behind its book
-mod writing; // writing.rt: a written query behind its texts
-mod request_reader; // request_reader.rt: a request behind its book and its rules
-mod rules_reader; // rules_reader.rt: rules behind their book
+mod listing; // listing.rt: the rows that may be had, once all texts are read
+
+// Reads a book and answers its counts of nodes, relationships and attribute entries, or a refusal. The working memory ends all ones.
+pub fn read_book(book: &[u8], work: &mut [u32]) -> BookRead
+    ensures answer { λ r. ⌜ bookAnswer r ≡ bookService (length (now (work .entry))) (now (book .entry)) .answer ⌝ }
+    ensures cleared { λ _. ⌜ now (work .exit) ≡ ones (length (now (work .entry))) ⌝ }
+{
+    let needs = Needs {
+        rules: false,
+        query: false,
+        request: false,
+    };
+    let mut table = [0u32; RULES_WORDS];
+    let ready = prepare(needs, book, b"", b"", b"", work, &mut table);
+    clear(work);
+    let request = ready.request;
+    let verdict = request.verdict;
+    let counts = ready.book;
+    match verdict {
+        Verdict::Accepted => {
+            BookRead::Counts(counts.nodes, counts.relationships, counts.entries)
+        }
+        Verdict::Refused(refusal) => BookRead::Refused(refusal),
+    }
+}
 
 // Reads rules and answers their counts of categories and policies, or a refusal. The working memory ends all ones.
 pub fn read_rules(book: &[u8], rules: &[u8], work: &mut [u32]) -> RulesRead
     ensures answer { λ r. ⌜ rulesAnswer r ≡ rulesService (length (now (work .entry))) (now (book .entry)) (now (rules .entry)) .answer ⌝ }
     ensures cleared { λ _. ⌜ now (work .exit) ≡ ones (length (now (work .entry))) ⌝ }
 {
-    if work.len() < WORK_WORDS {
-        fill::fill(work, 0);
-        return RulesRead::Refused(Refusal {
-            number: TOO_LITTLE,
-            text: 0,
-            line: 0,
-        });
+    let needs = Needs {
+        rules: true,
+        query: false,
+        request: false,
+    };
+    let mut table = [0u32; RULES_WORDS];
+    let ready = prepare(needs, book, rules, b"", b"", work, &mut table);
+    clear(work);
+    let request = ready.request;
+    let verdict = request.verdict;
+    let sizes = ready.rules;
+    match verdict {
+        Verdict::Accepted => RulesRead::Counts(sizes.categories, sizes.policies),
+        Verdict::Refused(refusal) => RulesRead::Refused(refusal),
     }
-    let read = rules_reader::from_texts(book, rules, work);
-    fill::fill(work, 0);
-    read
 }
 
 // Reads a query and answers its pattern, or a refusal beside an empty one. The working memory ends all ones.
@@ -46,17 +79,24 @@ pub fn read_query(book: &[u8], query: &[u8], work: &mut [u32]) -> QueryRead
     ensures whole { λ r. ⌜ r ≡ queryRead (length (now (work .entry))) (now (book .entry)) (now (query .entry)) ⌝ }
     ensures cleared { λ _. ⌜ now (work .exit) ≡ ones (length (now (work .entry))) ⌝ }
 {
-    if work.len() < WORK_WORDS {
-        fill::fill(work, 0);
-        return query_reader::refused(Refusal {
-            number: TOO_LITTLE,
-            text: 0,
-            line: 0,
-        });
+    let needs = Needs {
+        rules: false,
+        query: true,
+        request: false,
+    };
+    let mut table = [0u32; RULES_WORDS];
+    let ready = prepare(needs, book, b"", query, b"", work, &mut table);
+    let request = ready.request;
+    let verdict = request.verdict;
+    if let Verdict::Refused(_) = verdict {
+        clear(work);
+        let pattern = pattern::empty();
+        return QueryRead { verdict, pattern };
     }
-    let read = query_reader::from_texts(book, query, work);
-    fill::fill(work, 0);
-    read
+    let counts = ready.book;
+    let pattern = pattern::pattern_of(book, work, counts, query);
+    clear(work);
+    QueryRead { verdict, pattern }
 }
 
 // Reads a request and answers its category and its identities, or a refusal beside none. The working memory ends all ones.
@@ -65,17 +105,15 @@ pub fn read_request(book: &[u8], rules: &[u8], request: &[u8], work: &mut [u32])
     ensures whole { λ r. ⌜ r ≡ requestRead (length (now (work .entry))) (now (book .entry)) (now (rules .entry)) (now (request .entry)) ⌝ }
     ensures cleared { λ _. ⌜ now (work .exit) ≡ ones (length (now (work .entry))) ⌝ }
 {
-    if work.len() < WORK_WORDS {
-        fill::fill(work, 0);
-        return request_reader::refused(Refusal {
-            number: TOO_LITTLE,
-            text: 0,
-            line: 0,
-        });
-    }
-    let read = request_reader::from_texts(book, rules, request, work);
-    fill::fill(work, 0);
-    read
+    let needs = Needs {
+        rules: true,
+        query: false,
+        request: true,
+    };
+    let mut table = [0u32; RULES_WORDS];
+    let ready = prepare(needs, book, rules, b"", request, work, &mut table);
+    clear(work);
+    ready.request
 }
 
 // Writes a query in front of the text buffer and answers its length, or a refusal, which leaves the buffer as it is.
@@ -91,17 +129,31 @@ pub fn write_query(
     ensures text { λ _. ⌜ now (text .exit) ≡ writerService (length (now (work .entry))) (now (text .entry)) (now (book .entry)) (now (rules .entry)) (now (query .entry)) .text ⌝ }
     ensures cleared { λ _. ⌜ now (work .exit) ≡ ones (length (now (work .entry))) ⌝ }
 {
-    if work.len() < WORK_WORDS {
-        fill::fill(work, 0);
-        return QueryWritten::Refused(Refusal {
-            number: TOO_LITTLE,
-            text: 0,
-            line: 0,
-        });
+    let needs = Needs {
+        rules: true,
+        query: true,
+        request: false,
+    };
+    let mut table = [0u32; RULES_WORDS];
+    let ready = prepare(needs, book, rules, query, b"", work, &mut table);
+    let request = ready.request;
+    let verdict = request.verdict;
+    if let Verdict::Refused(refusal) = verdict {
+        clear(work);
+        return QueryWritten::Refused(refusal);
     }
-    let written = writing::from_texts(book, rules, query, text, work);
-    fill::fill(work, 0);
-    written
+    let counts = ready.book;
+    let pattern = pattern::pattern_of(book, work, counts, query);
+    let written = query_writer::write_query(book, work, counts, query, pattern, text);
+    clear(work);
+    match written {
+        Written::Length(length) => QueryWritten::Length(length),
+        Written::TooLong => QueryWritten::Refused(Refusal {
+            number: NO_ROOM,
+            text: QUERY,
+            line: QUERY_LINE,
+        }),
+    }
 }
 
 // Lists the rows that may be had in the row words and answers their number and how many Return names each row answers, or a refusal.
@@ -116,11 +168,20 @@ pub fn list(
 ) -> RowsListed
     ensures { λ r. ⌜ ListCalled (now (book .entry)) (now (rules .entry)) (now (query .entry)) (now (request .entry)) (now (rows .entry)) (now (work .entry)) (now (rows .exit)) (now (work .exit)) r ⌝ }
 {
-    if work.len() < WORK_WORDS {
-        fill::fill(work, 0);
-        return listing::refuse(TOO_LITTLE, 0, 0, rows);
+    let needs = Needs {
+        rules: true,
+        query: true,
+        request: true,
+    };
+    let mut table = [0u32; RULES_WORDS];
+    let ready = prepare(needs, book, rules, query, request, work, &mut table);
+    let read = ready.request;
+    let verdict = read.verdict;
+    if let Verdict::Refused(refusal) = verdict {
+        clear(work);
+        return listing::refuse(refusal, rows);
     }
-    let listed = listing::from_texts(book, rules, query, request, rows, work);
-    fill::fill(work, 0);
+    let listed = listing::from_texts(book, work, query, rules, &table, request, ready, rows);
+    clear(work);
     listed
 }

@@ -1,49 +1,67 @@
--- `read_query` meets its contract: 15, or what stands behind the memory; then the memory is filled.
-use mathlib.Core.Path.{sym, ap, _∙_}
-use Rattle.model.specs.WholeAnswers.{queryOutcome, queryRead}
+-- `read_query` meets its contract: the pattern of the query that is ready, or the refusal beside an empty one; then the memory is filled.
+use Rattle.prepare.proofs.ThroughLaws.{cleared-all}
+use Rattle.service.proofs.ReaderLaws.{query-refused, query-asked, query-accepted-as}
 use borrow.Author.Needs.{needs}
-use Rattle.book.proofs.LoadLaws.{filled-all}
-use Rattle.service.proofs.QueryLaws.{query-says, query-little, query-enough}
 use Rattle.service.proofs.read_query.Statement.{statement}
 use Rattle.service.proofs.read_query.Tie as tie
 
-fill-requires : tie.Need-fill-requires
-fill-requires c κs = search needs
+slice-aggregate-prepare : tie.Need-slice-aggregate-prepare
+slice-aggregate-prepare c = search needs
 
-refused-requires : tie.Need-refused-requires
-refused-requires c κs = search needs
+slice-aggregate-prepare-2 : tie.Need-slice-aggregate-prepare-2
+slice-aggregate-prepare-2 c = search needs
+
+prepare-requires : tie.Need-prepare-requires
+prepare-requires c κs = search needs
+
+enum-told : tie.Need-enum-told
+enum-told c = search needs
+
+clear-requires : tie.Need-clear-requires
+clear-requires c κs = search needs
+
+empty-requires : tie.Need-empty-requires
+empty-requires c κs = search needs
 
 same-length : tie.Need-same-length
 same-length c = search needs
 
 returns : tie.Need-returns
-unfolding queryRead
-returns c = let w = query-says _ _ (c .before .before .before .before .before .before .before .before .before .args .query .now) _ _ (c .refused .ensures) (query-little _ (c .before .before .before .before .before .before .before .before .before .args .book .now) (c .before .before .before .before .before .before .before .before .before .args .query .now) (c .before .before .before .before .before .if1 .taken)) in
-    (w .answer, (w .whole, filled-all (c .before .before .before .before .before .before .before .before .before .args .work .now) _ _ (c .before .before .before .fill .ensures) (search needs)))
+returns c =
+    let w = query-refused _ _ _ _ _ _ _ _ (c .before .before .before .before .before .before .before .before .before .before .prepare .ensures) _ (c .before .before .before .before .before .enum-told .given .1) _ (c .empty .ensures) in
+    (w .0, (w .1, cleared-all (c .before .before .before .before .before .before .before .before .before .before .before .before .before .before .before .before .before .before .args .work .now) _ _ (c .before .before .before .clear .ensures) (search needs)))
 
-from-texts-requires : tie.Need-from-texts-requires
-from-texts-requires c κs = search needs
+enum-told-2 : tie.Need-enum-told-2
+enum-told-2 c = search needs
 
-fill-requires-2 : tie.Need-fill-requires-2
-fill-requires-2 c κs = search needs
+pattern-of-requires : tie.Need-pattern-of-requires
+pattern-of-requires c κs = query-asked _ _ _ _ _ _ _ _ (c .before .before .before .before .before .before .before .prepare .ensures) (c .before .before .enum-told2 .given .1)
+
+clear-requires-2 : tie.Need-clear-requires-2
+clear-requires-2 c κs = search needs
 
 same-length-2 : tie.Need-same-length-2
 same-length-2 c = search needs
 
 returns-2 : tie.Need-returns-2
-unfolding queryRead
-returns-2 c = let w = c .before .before .before .before .before .before .from-texts .ensures in
-    (w .answer ∙ sym (query-enough _ (c .before .before .before .before .before .before .before .before .before .before .before .before .args .book .now) (c .before .before .before .before .before .before .before .before .before .before .before .before .args .query .now) (c .before .before .before .before .before .before .before .before .if1 .left)), (w .whole ∙ ap (queryOutcome _ (c .before .before .before .before .before .before .before .before .before .before .before .before .args .query .now)) (sym (query-enough _ (c .before .before .before .before .before .before .before .before .before .before .before .before .args .book .now) (c .before .before .before .before .before .before .before .before .before .before .before .before .args .query .now) (c .before .before .before .before .before .before .before .before .if1 .left))), filled-all (c .before .before .before .before .before .before .before .before .before .before .before .before .args .work .now) _ _ (c .before .before .fill2 .ensures) (search needs)))
+returns-2 c =
+    let w = query-accepted-as _ _ _ _ _ _ _ _ (c .before .before .before .before .before .before .before .before .before .before .before .before .prepare .ensures) (c .before .before .before .before .before .before .before .enum-told2 .given .1) _ (c .before .before .before .before .pattern-of .ensures) in
+    (w .0, (w .1, cleared-all (c .before .before .before .before .before .before .before .before .before .before .before .before .before .before .before .before .before .before .before .before .args .work .now) _ _ (c .before .before .clear2 .ensures) (search needs)))
 
 pub read-query-spec : {M : Type 1} → statement M
 read-query-spec =
     tie.close
     (tie.spec
-    fill-requires
-    refused-requires
+    slice-aggregate-prepare
+    slice-aggregate-prepare-2
+    prepare-requires
+    enum-told
+    clear-requires
+    empty-requires
     same-length
     returns
-    from-texts-requires
-    fill-requires-2
+    enum-told-2
+    pattern-of-requires
+    clear-requires-2
     same-length-2
     returns-2)

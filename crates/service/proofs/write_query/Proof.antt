@@ -1,25 +1,47 @@
--- `write_query` meets its contract: 15, or what stands behind the memory; then the memory is filled.
+-- `write_query` meets its contract: the text of the query that is ready, 14 where it does not fit, or the refusal; then the memory is filled.
+use Rattle.prepare.proofs.ThroughLaws.{cleared-all}
+use Rattle.service.proofs.WritingLaws.{writer-refused, writer-asked, writable, wrote-length, wrote-too-long}
 use borrow.Author.Needs.{needs}
-use Rattle.book.proofs.LoadLaws.{filled-all}
-use Rattle.service.proofs.WritingLaws.{wrote-nothing, wrote-as, writer-little, writer-enough, writer-says}
 use Rattle.service.proofs.write_query.Statement.{statement}
 use Rattle.service.proofs.write_query.Tie as tie
 
-fill-requires : tie.Need-fill-requires
-fill-requires c κs = search needs
+slice-aggregate-prepare : tie.Need-slice-aggregate-prepare
+slice-aggregate-prepare c = search needs
+
+prepare-requires : tie.Need-prepare-requires
+prepare-requires c κs = search needs
+
+enum-known-verdict : tie.Need-enum-known-verdict
+enum-known-verdict c = search needs
+
+clear-requires : tie.Need-clear-requires
+clear-requires c κs = search needs
 
 same-length : tie.Need-same-length
 same-length c = search needs
 
 returns : tie.Need-returns
-returns c = let w = writer-says _ (c .before .before .before .before .before .before .before .before .before .before .args .text .now) (c .before .before .before .before .before .before .before .before .before .before .args .book .now) (c .before .before .before .before .before .before .before .before .before .before .args .rules .now) (c .before .before .before .before .before .before .before .before .before .before .args .query .now) _ _ (wrote-nothing _ (c .before .before .before .before .before .before .before .before .before .before .args .text .now) _ (writer-little _ (c .before .before .before .before .before .before .before .before .before .before .args .text .now) (c .before .before .before .before .before .before .before .before .before .before .args .book .now) (c .before .before .before .before .before .before .before .before .before .before .args .rules .now) (c .before .before .before .before .before .before .before .before .before .before .args .query .now) (c .before .before .before .before .if1 .taken))) in
-    (w .0, (w .1, filled-all (c .before .before .before .before .before .before .before .before .before .before .args .work .now) _ _ (c .before .before .fill .ensures) (search needs)))
+returns c =
+    let w = writer-refused _ (c .before .before .before .before .before .before .before .before .before .before .before .before .before .before .before .before .before .before .before .args .text .now) _ _ _ _ _ _ _ (c .before .before .before .before .before .before .before .before .before .before .prepare .ensures) _ (c .before .before .before .before .before .verdict .given .1) in
+    (w .0, (w .1, cleared-all (c .before .before .before .before .before .before .before .before .before .before .before .before .before .before .before .before .before .before .before .args .work .now) _ _ (c .before .before .clear .ensures) (search needs)))
 
-from-texts-requires : tie.Need-from-texts-requires
-from-texts-requires c κs = search needs
+enum-told : tie.Need-enum-told
+enum-told c = search needs
 
-fill-requires-2 : tie.Need-fill-requires-2
-fill-requires-2 c κs = search needs
+pattern-of-requires : tie.Need-pattern-of-requires
+pattern-of-requires c κs = writer-asked _ (c .before .before .before .before .before .before .before .before .before .before .before .before .before .before .before .before .args .text .now) _ _ _ _ _ _ _ (c .before .before .before .before .before .before .before .prepare .ensures) (c .before .before .enum-told .given .1)
+
+write-query-requires : tie.Need-write-query-requires
+write-query-requires c κs = writable _ (c .before .before .before .before .before .before .before .before .before .before .before .before .before .before .before .before .before .before .before .args .text .now) _ _ _ _ _ _ _ (c .before .before .before .before .before .before .before .before .before .before .prepare .ensures) (c .before .before .before .before .before .enum-told .given .1) _ (c .before .before .pattern-of .ensures)
+
+clear-requires-2 : tie.Need-clear-requires-2
+clear-requires-2 c κs = search needs
+
+enum-known-written : tie.Need-enum-known-written
+enum-known-written c = search needs
+
+enum-told-2 : tie.Need-enum-told-2
+enum-told-2 c = search needs
 
 same-length-2 : tie.Need-same-length-2
 same-length-2 c = search needs
@@ -28,18 +50,40 @@ same-length-3 : tie.Need-same-length-3
 same-length-3 c = search needs
 
 returns-2 : tie.Need-returns-2
-returns-2 c = let w = writer-says _ (c .before .before .before .before .before .before .before .before .before .before .before .before .before .before .before .before .before .args .text .now) (c .before .before .before .before .before .before .before .before .before .before .before .before .before .before .before .before .before .args .book .now) (c .before .before .before .before .before .before .before .before .before .before .before .before .before .before .before .before .before .args .rules .now) (c .before .before .before .before .before .before .before .before .before .before .before .before .before .before .before .before .before .args .query .now) _ _ (wrote-as _ _ (c .before .before .before .before .before .before .before .before .before .before .before .before .before .before .before .before .before .args .text .now) _ _ (writer-enough _ (c .before .before .before .before .before .before .before .before .before .before .before .before .before .before .before .before .before .args .text .now) (c .before .before .before .before .before .before .before .before .before .before .before .before .before .before .before .before .before .args .book .now) (c .before .before .before .before .before .before .before .before .before .before .before .before .before .before .before .before .before .args .rules .now) (c .before .before .before .before .before .before .before .before .before .before .before .before .before .before .before .before .before .args .query .now) (c .before .before .before .before .before .before .before .before .before .before .before .if1 .left)) (c .before .before .before .before .before .before .before .before .from-texts .ensures)) in
-    (w .0, (w .1, filled-all (c .before .before .before .before .before .before .before .before .before .before .before .before .before .before .before .before .before .args .work .now) _ _ (c .before .before .fill2 .ensures) (search needs)))
+returns-2 c =
+    let w = wrote-length _ (c .before .before .before .before .before .before .before .before .before .before .before .before .before .before .before .before .before .before .before .before .before .before .before .before .before .before .before .before .before .args .text .now) _ _ _ _ _ _ _ (c .before .before .before .before .before .before .before .before .before .before .before .before .before .before .before .before .before .before .before .before .prepare .ensures) (c .before .before .before .before .before .before .before .before .before .before .before .before .before .before .before .enum-told .given .1) _ (c .before .before .before .before .before .before .before .before .before .before .before .before .pattern-of .ensures) _ _ (c .before .before .before .before .before .before .before .before .before .write-query .ensures) _ (c .before .written .given .1) in
+    (w .0, (w .1, cleared-all (c .before .before .before .before .before .before .before .before .before .before .before .before .before .before .before .before .before .before .before .before .before .before .before .before .before .before .before .before .before .args .work .now) _ _ (c .before .before .before .before .before .clear2 .ensures) (search needs)))
+
+same-length-4 : tie.Need-same-length-4
+same-length-4 c = search needs
+
+same-length-5 : tie.Need-same-length-5
+same-length-5 c = search needs
+
+returns-3 : tie.Need-returns-3
+returns-3 c =
+    let w = wrote-too-long _ (c .before .before .before .before .before .before .before .before .before .before .before .before .before .before .before .before .before .before .before .before .before .before .before .before .before .before .before .before .args .text .now) _ _ _ _ _ _ _ (c .before .before .before .before .before .before .before .before .before .before .before .before .before .before .before .before .before .before .before .prepare .ensures) (c .before .before .before .before .before .before .before .before .before .before .before .before .before .before .enum-told .given .1) _ (c .before .before .before .before .before .before .before .before .before .before .before .pattern-of .ensures) _ _ (c .before .before .before .before .before .before .before .before .write-query .ensures) (c .enum-told2 .given .1) in
+    (w .0, (w .1, cleared-all (c .before .before .before .before .before .before .before .before .before .before .before .before .before .before .before .before .before .before .before .before .before .before .before .before .before .before .before .before .args .work .now) _ _ (c .before .before .before .before .clear2 .ensures) (search needs)))
 
 pub write-query-spec : {M : Type 1} → statement M
 write-query-spec =
     tie.close
     (tie.spec
-    fill-requires
+    slice-aggregate-prepare
+    prepare-requires
+    enum-known-verdict
+    clear-requires
     same-length
     returns
-    from-texts-requires
-    fill-requires-2
+    enum-told
+    pattern-of-requires
+    write-query-requires
+    clear-requires-2
+    enum-known-written
+    enum-told-2
     same-length-2
     same-length-3
-    returns-2)
+    returns-2
+    same-length-4
+    same-length-5
+    returns-3)

@@ -2,15 +2,10 @@
 use Prim.Native.Nat.{_+_, _*_, _≤_}
 use mathlib.Core.Path.{sym, subst, _∙_}
 use native.Mathlib.Omega.{arith}
-use lib.ListN.{getD, length-take, length-drop}
 use borrow.Author.Tests.{not-true, not-false}
-use Rattle.book_tables.specs.View.{bookAt}
-use Rattle.rules_tables.specs.View.{actorsAt}
-use Rattle.weave.specs.Adding.{TextAdded}
-use Rattle.query.specs.PatternRead.{PatternAsked, PatternRead}
 use Rattle.enforce.proofs.TextLaws.{not-enforced, without-policy, few-texts}
-use Rattle.enforce.proofs.ClearLaws.{rules-short, policy-asked}
-use Rattle.enforce.proofs.HeldLaws.{policy-part, held-on, policy-held, policy-passed}
+use Rattle.enforce.proofs.ClearLaws.{rules-short}
+use Rattle.enforce.proofs.HeldLaws.{held-on, policy-ready, policy-held, policy-passed}
 use borrow.Author.Needs.{needs}
 use Rattle.enforce.proofs.policies.weave_category.Statement.{statement}
 use Rattle.enforce.proofs.policies.weave_category.Tie as tie
@@ -84,33 +79,30 @@ add-end-2 c =
     let given = c .before .before .before .before .before .before .before .before .before .before .before .before .before .before .pre in
     omega (arith, given .texts .rules-fit .policies (c .before .before .before .before .policy-place .result) (c .before .before .if2 .left) .inside, rules-short (a .book .now) (a .words .now) (a .counts) (a .query .now) (a .rules .now) (a .rules-words .now) (a .rules-counts) (a .category) (given .texts))
 
-sub-pattern-of : tie.Need-sub-pattern-of
-sub-pattern-of c = search needs
+sub-weave-text : tie.Need-sub-weave-text
+sub-weave-text c = search needs
 
-part-pattern-of-start : tie.Need-part-pattern-of-start
-part-pattern-of-start c = search needs
+part-weave-text-start : tie.Need-part-weave-text-start
+part-weave-text-start c = search needs
 
-part-pattern-of-end : tie.Need-part-pattern-of-end
-part-pattern-of-end c = omega (arith, c .before .before .before .before .before .before .before .before .before .before .before .before .before .before .pre .texts .rules-fit .policies (c .before .before .before .before .policy-place .result) (c .before .before .if2 .left) .inside)
-
-pattern-of-requires : tie.Need-pattern-of-requires
-pattern-of-requires c κs =
-    let a = c .before .before .before .before .before .before .before .before .before .before .before .before .before .before .before .args in
-    subst (PatternAsked (a .book .now) (a .words .now) (a .counts)) (sym (policy-part (a .rules .now) (a .rules-words .now) (c .before .before .before .before .before .policy-place .result))) (policy-asked (a .book .now) (a .words .now) (a .counts) (a .query .now) (a .rules .now) (a .rules-words .now) (a .rules-counts) (a .category) (c .before .before .before .before .before .before .before .before .before .before .before .before .before .before .before .pre .texts) (c .before .before .before .before .before .policy-place .result) (c .before .before .before .if2 .left))
+part-weave-text-end : tie.Need-part-weave-text-end
+part-weave-text-end c = omega (arith, c .before .before .before .before .before .before .before .before .before .before .before .before .before .before .pre .texts .rules-fit .policies (c .before .before .before .before .policy-place .result) (c .before .before .if2 .left) .inside)
 
 weave-text-requires : tie.Need-weave-text-requires
 weave-text-requires c κs =
-    let a = c .before .before .before .before .before .before .before .before .before .before .before .before .before .before .before .before .before .args in
-    let given = c .before .before .before .before .before .before .before .before .before .before .before .before .before .before .before .before .before .pre in
-    let inside = given .texts .rules-fit .policies (c .before .before .before .before .before .before .before .policy-place .result) (c .before .before .before .before .before .if2 .left) .inside in let short = rules-short (a .book .now) (a .words .now) (a .counts) (a .query .now) (a .rules .now) (a .rules-words .now) (a .rules-counts) (a .category) (given .texts) in record { rules-fit = given .texts .rules-fit; counted = omega (arith, given .low, given .texts .counted); kept = given .held .kept; few-texts = omega (arith, given .many, few-texts (a .query .now) (a .rules .now) (a .rules-words .now) (a .rules-counts) (a .category) (a .lower), given .low, given .texts .rules-fit .few); fits = c .before .pattern-of .ensures .words _ (simp (length-take, length-drop) (omega arith)) }
+    let a = c .before .before .before .before .before .before .before .before .before .before .before .before .before .before .before .before .args in
+    let given = c .before .before .before .before .before .before .before .before .before .before .before .before .before .before .before .before .pre in
+    let enforced = sym (c .before .before .before .before .before .before .before .before .has .ensures) ∙ not-false _ (c .before .before .before .before .before .before .before .if1 .left) in
+    let found = c .before .before .before .before .before .before .policy-place in
+    policy-ready (a .book .now) (a .words .now) (a .counts) (a .query .now) (a .rules .now) (a .rules-words .now) (a .rules-counts) (a .category) (given .texts) (a .lower) (given .low) enforced (found .result) (found .ensures) (c .before .before .before .before .if2 .left) (a .texts) (given .many) (a .woven .now) (a .shape) (given .held)
 
 enum-known-added : tie.Need-enum-known-added
 enum-known-added c = search needs
 
-add-t38 : tie.Need-add-t38
-add-t38 c =
-    let a = c .before .before .before .before .before .before .before .before .before .before .before .before .before .before .before .before .before .before .before .before .before .before .before .args in
-    let given = c .before .before .before .before .before .before .before .before .before .before .before .before .before .before .before .before .before .before .before .before .before .before .before .pre in
+add-t37 : tie.Need-add-t37
+add-t37 c =
+    let a = c .before .before .before .before .before .before .before .before .before .before .before .before .before .before .before .before .before .before .before .before .before .before .args in
+    let given = c .before .before .before .before .before .before .before .before .before .before .before .before .before .before .before .before .before .before .before .before .before .before .pre in
     omega (arith, given .many, few-texts (a .query .now) (a .rules .now) (a .rules-words .now) (a .rules-counts) (a .category) (a .lower), given .low, given .texts .rules-fit .few)
 
 enum-told : tie.Need-enum-told
@@ -121,18 +113,24 @@ same-length c = search needs
 
 returns-3 : tie.Need-returns-3
 returns-3 c =
-    let a = c .before .before .before .before .before .before .before .before .before .before .before .before .before .before .before .before .before .before .before .before .before .before .before .args in
-    let given = c .before .before .before .before .before .before .before .before .before .before .before .before .before .before .before .before .before .before .before .before .before .before .before .pre in
-    policy-held (a .book .now) (a .words .now) (a .counts) (a .query .now) (a .rules .now) (a .rules-words .now) (a .rules-counts) (a .category) (given .texts) (a .lower) (given .low) (sym (c .before .before .before .before .before .before .before .before .before .before .before .before .before .before .before .has .ensures) ∙ not-false _ (c .before .before .before .before .before .before .before .before .before .before .before .before .before .before .if1 .left)) (c .before .before .before .before .before .before .before .before .before .before .before .before .before .policy-place .result) (c .before .before .before .before .before .before .before .before .before .before .before .before .before .policy-place .ensures) (c .before .before .before .before .before .before .before .before .before .before .before .if2 .left) (c .before .before .before .before .before .before .before .pattern-of .result) (subst (λ s. PatternRead (bookAt (a .book .now) (a .words .now) (a .counts)) (a .counts) s (c .before .before .before .before .before .before .before .pattern-of .result)) (policy-part (a .rules .now) (a .rules-words .now) (c .before .before .before .before .before .before .before .before .before .before .before .before .before .policy-place .result)) (c .before .before .before .before .before .before .before .pattern-of .ensures)) (a .texts) (given .many) (a .woven .now) (c .before .before .before .before .before .weave-text .last .1 .1 .1 .1 .1 .1 .0) (a .shape) (given .held) (c .before .added .given .0 .0) (subst (TextAdded (a .query .now) (a .rules .now) (actorsAt (a .rules .now) (a .rules-words .now) (a .lower)) (a .texts) (getD (a .rules-words .now) (448 + 3 * c .before .before .before .before .before .before .before .before .before .before .before .before .before .policy-place .result + 1) 0) (c .before .before .before .before .before .before .before .pattern-of .result) (a .woven .now) (c .before .before .before .before .before .weave-text .last .1 .1 .1 .1 .1 .1 .0) (a .shape)) (c .before .added .given .1) (c .before .before .before .before .before .weave-text .ensures))
+    let a = c .before .before .before .before .before .before .before .before .before .before .before .before .before .before .before .before .before .before .before .before .before .before .args in
+    let given = c .before .before .before .before .before .before .before .before .before .before .before .before .before .before .before .before .before .before .before .before .before .before .pre in
+    let enforced = sym (c .before .before .before .before .before .before .before .before .before .before .before .before .before .before .has .ensures) ∙ not-false _ (c .before .before .before .before .before .before .before .before .before .before .before .before .before .if1 .left) in
+    let found = c .before .before .before .before .before .before .before .before .before .before .before .before .policy-place in
+    let w = c .before .before .before .before .before .weave-text in
+    policy-held (a .book .now) (a .words .now) (a .counts) (a .query .now) (a .rules .now) (a .rules-words .now) (a .rules-counts) (a .category) (given .texts) (a .lower) (given .low) enforced (found .result) (found .ensures) (c .before .before .before .before .before .before .before .before .before .before .if2 .left) (a .texts) (given .many) (a .woven .now) (a .shape) (given .held) (w .last .1 .1 .1 .1 .1 .1 .1 .1 .0) (w .result) (w .ensures) _ (c .before .added .given .1)
 
 same-length-2 : tie.Need-same-length-2
 same-length-2 c = search needs
 
 returns-4 : tie.Need-returns-4
 returns-4 c =
-    let a = c .before .before .before .before .before .before .before .before .before .before .before .before .before .before .before .before .before .before .before .before .before .before .args in
-    let given = c .before .before .before .before .before .before .before .before .before .before .before .before .before .before .before .before .before .before .before .before .before .before .pre in
-    policy-passed (a .book .now) (a .words .now) (a .counts) (a .query .now) (a .rules .now) (a .rules-words .now) (a .rules-counts) (a .category) (given .texts) (a .lower) (given .low) (sym (c .before .before .before .before .before .before .before .before .before .before .before .before .before .before .has .ensures) ∙ not-false _ (c .before .before .before .before .before .before .before .before .before .before .before .before .before .if1 .left)) (c .before .before .before .before .before .before .before .before .before .before .before .before .policy-place .result) (c .before .before .before .before .before .before .before .before .before .before .before .before .policy-place .ensures) (c .before .before .before .before .before .before .before .before .before .before .if2 .left) (c .before .before .before .before .before .before .pattern-of .result) (subst (λ s. PatternRead (bookAt (a .book .now) (a .words .now) (a .counts)) (a .counts) s (c .before .before .before .before .before .before .pattern-of .result)) (policy-part (a .rules .now) (a .rules-words .now) (c .before .before .before .before .before .before .before .before .before .before .before .before .policy-place .result)) (c .before .before .before .before .before .before .pattern-of .ensures)) (a .texts) (given .many) (a .woven .now) (c .before .before .before .before .weave-text .last .1 .1 .1 .1 .1 .1 .0) (a .shape) (given .held) (subst (TextAdded (a .query .now) (a .rules .now) (actorsAt (a .rules .now) (a .rules-words .now) (a .lower)) (a .texts) (getD (a .rules-words .now) (448 + 3 * c .before .before .before .before .before .before .before .before .before .before .before .before .policy-place .result + 1) 0) (c .before .before .before .before .before .before .pattern-of .result) (a .woven .now) (c .before .before .before .before .weave-text .last .1 .1 .1 .1 .1 .1 .0) (a .shape)) (c .enum-told .given .1) (c .before .before .before .before .weave-text .ensures))
+    let a = c .before .before .before .before .before .before .before .before .before .before .before .before .before .before .before .before .before .before .before .before .before .args in
+    let given = c .before .before .before .before .before .before .before .before .before .before .before .before .before .before .before .before .before .before .before .before .before .pre in
+    let enforced = sym (c .before .before .before .before .before .before .before .before .before .before .before .before .before .has .ensures) ∙ not-false _ (c .before .before .before .before .before .before .before .before .before .before .before .before .if1 .left) in
+    let found = c .before .before .before .before .before .before .before .before .before .before .before .policy-place in
+    let w = c .before .before .before .before .weave-text in
+    policy-passed (a .book .now) (a .words .now) (a .counts) (a .query .now) (a .rules .now) (a .rules-words .now) (a .rules-counts) (a .category) (given .texts) (a .lower) (given .low) enforced (found .result) (found .ensures) (c .before .before .before .before .before .before .before .before .before .if2 .left) (a .texts) (given .many) (a .woven .now) (a .shape) (given .held) (w .last .1 .1 .1 .1 .1 .1 .1 .1 .0) (w .result) (w .ensures) (c .enum-told .given .1)
 
 pub weave-category-spec : {M : Type 1} → statement M
 weave-category-spec =
@@ -158,13 +156,12 @@ weave-category-spec =
     shared-slice-read-end
     cast-end
     add-end-2
-    sub-pattern-of
-    part-pattern-of-start
-    part-pattern-of-end
-    pattern-of-requires
+    sub-weave-text
+    part-weave-text-start
+    part-weave-text-end
     weave-text-requires
     enum-known-added
-    add-t38
+    add-t37
     enum-told
     same-length
     returns-3

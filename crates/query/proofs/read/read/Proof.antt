@@ -12,12 +12,12 @@ read-allowed-requires c κs = record { fits = c .before .before .before .before 
 returns : tie.Need-returns
 returns c =
     let a = c .before .before .before .before .before .before .before .args in
-    too-long (bookAt (a .book .now) (a .words .now) (a .counts)) (a .s .now) (c .before .before .before .bytes-read .result) (c .before .before .before .bytes-read .ensures) (a .counts) (c .before .enum-told .given .1) (c .refused .result) (c .refused .ensures)
+    too-long (bookAt (a .book .now) (a .words .now) (a .counts)) (a .s .now) _ (c .before .before .before .bytes-read .ensures) (c .before .enum-told .given .1) _ (c .refused .ensures)
 
 returns-2 : tie.Need-returns-2
 returns-2 c =
     let a = c .before .before .before .before .before .before .before .args in
-    bad-byte (bookAt (a .book .now) (a .words .now) (a .counts)) (a .s .now) (c .before .before .before .bytes-read .result) (c .before .before .before .bytes-read .ensures) (a .counts) (c .before .enum-told2 .given .0 .0) (c .before .enum-told2 .given .1) (c .refused2 .result) (c .refused2 .ensures)
+    bad-byte (bookAt (a .book .now) (a .words .now) (a .counts)) (a .s .now) _ (c .before .before .before .bytes-read .ensures) _ (c .before .enum-told2 .given .1) _ (c .refused2 .ensures)
 
 pub read-spec : {M : Type 1} → statement M
 read-spec = tie.close (tie.spec (λ c κs. search needs) (λ c. search needs) (λ c κs. search needs) (λ c. search needs) (λ c κs. search needs) (λ c. search needs) read-allowed-requires returns returns-2 (λ c. search needs))

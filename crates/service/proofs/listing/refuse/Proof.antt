@@ -1,6 +1,6 @@
 -- A refusal of a list: the row words are filled.
-use borrow.Author.Needs.{needs}
 use Rattle.service.proofs.ListingLaws.{lists-nothing}
+use borrow.Author.Needs.{needs}
 use Rattle.service.proofs.listing.refuse.Statement.{statement}
 use Rattle.service.proofs.listing.refuse.Tie as tie
 
@@ -11,7 +11,7 @@ same-length : tie.Need-same-length
 same-length c = search needs
 
 returns : tie.Need-returns
-returns c = lists-nothing (c .before .before .before .before .before .args .number) (c .before .before .before .before .before .args .text) (c .before .before .before .before .before .args .line) (c .before .before .before .before .before .args .rows .now) _ (c .before .before .fill .ensures)
+returns c = lists-nothing _ (c .before .before .before .before .before .args .rows .now) _ (c .before .before .fill .ensures)
 
 pub refuse-spec : {M : Type 1} → statement M
 refuse-spec = tie.close (tie.spec fill-requires same-length returns)

@@ -1,0 +1,20 @@
+-- The memory is filled from its first word on.
+use mathlib.Core.Path.{_∙_}
+use Rattle.model.specs.Service.{ones}
+use Rattle.fill.specs.FilledLaws.{filled-whole}
+use borrow.Author.Needs.{needs}
+use Rattle.prepare.proofs.clear.Statement.{statement}
+use Rattle.prepare.proofs.clear.Tie as tie
+
+fill-requires : tie.Need-fill-requires
+fill-requires c κs = search needs
+
+same-length : tie.Need-same-length
+same-length c = search needs
+
+returns : tie.Need-returns
+unfolding ones
+returns c = c .before .before .fill .ensures ∙ filled-whole (c .before .before .before .before .before .args .work .now)
+
+pub clear-spec : {M : Type 1} → statement M
+clear-spec = tie.close (tie.spec fill-requires same-length returns)
