@@ -3,14 +3,15 @@ ghost use Prim.Native.Nat.{_≤_, _<_};
 ghost use lib.ListN.{length};
 ghost use Rattle.model.specs.Lines.{readLines, linesOf};
 ghost use Rattle.model.specs.Book.{emptyBook};
-ghost use Rattle.model.specs.ReadBook.{bookStep, readBook};
+ghost use Rattle.model.specs.ReadBook.{readBook};
 ghost use Rattle.text.specs.Lines.{lineAt};
 ghost use Rattle.book_tables.specs.View.{bookAt};
 ghost use Rattle.book_lines.specs.Steps.{Stepped};
-ghost use Rattle.book.specs.Loaded.{LineAsked, Loaded};
+ghost use Rattle.book.specs.Loaded.{bookStepBy, readBookBy, LineAsked, Loaded};
 use crate::BookLoad;
 use book_lines::LineStep;
 use book_tables::BookCounts;
+use book_tables::NameRule;
 use book_tables::no_counts;
 use model::Refusal;
 use model::limits::MAX_BOOK_BYTES;
@@ -24,6 +25,14 @@ use text::BytesRead;
 pub fn load(text: &[u8], words: &mut [u32]) -> BookLoad
     requires { ⌜ 10752 ≤ length (now words) ⌝ }
     ensures { λ r. ⌜ Loaded (now (text .entry)) (now (words .exit)) r (readBook (now (text .entry))) ⌝ }
+{
+    load_by(text, words, NameRule::Exact)
+}
+
+// The same by a rule for the names of nodes: which of them are given a second time.
+pub fn load_by(text: &[u8], words: &mut [u32], rule: NameRule) -> BookLoad
+    requires { ⌜ 10752 ≤ length (now words) ⌝ }
+    ensures { λ r. ⌜ Loaded (now (text .entry)) (now (words .exit)) r (readBookBy rule (now (text .entry))) ⌝ }
 {
     match text::lines::bytes_read(text, MAX_BOOK_BYTES) {
         BytesRead::TooLong => {
@@ -43,15 +52,15 @@ pub fn load(text: &[u8], words: &mut [u32]) -> BookLoad
             });
         }
         BytesRead::Allowed => {
-            return load_lines(text, words);
+            return load_lines(text, words, rule);
         }
     }
 }
 
 // Reads the lines of a book into the tables; on a refusal they are all ones.
-fn load_lines(text: &[u8], words: &mut [u32]) -> BookLoad
+fn load_lines(text: &[u8], words: &mut [u32], rule: NameRule) -> BookLoad
     requires { ⌜ (length (now text) ≤ 65536) × (10752 ≤ length (now words)) ⌝ }
-    ensures { λ r. ⌜ Loaded (now (text .entry)) (now (words .exit)) r (readLines 1 bookStep 1 emptyBook (linesOf (now (text .entry)))) ⌝ }
+    ensures { λ r. ⌜ Loaded (now (text .entry)) (now (words .exit)) r (readLines 1 (bookStepBy rule) 1 emptyBook (linesOf (now (text .entry)))) ⌝ }
 {
     book_tables::stores::clear_chains(words);
     let mut at = 0;
@@ -59,7 +68,7 @@ fn load_lines(text: &[u8], words: &mut [u32]) -> BookLoad
     let mut counts = no_counts();
     while at < text.len() {
         let to = text::lines::line_end(text, at);
-        match line_step(text, at, to, words, counts) {
+        match line_step(text, at, to, words, counts, rule) {
             LineStep::Fault(number) => {
                 fill::fill(words, 0);
                 return BookLoad::Refused(Refusal {
@@ -79,12 +88,19 @@ fn load_lines(text: &[u8], words: &mut [u32]) -> BookLoad
 }
 
 // Reads one line from its start to its line feed; without a line feed it breaks the grammar.
-fn line_step(text: &[u8], from: usize, to: usize, words: &mut [u32], counts: BookCounts) -> LineStep
+fn line_step(
+    text: &[u8],
+    from: usize,
+    to: usize,
+    words: &mut [u32],
+    counts: BookCounts,
+    rule: NameRule,
+) -> LineStep
     requires { ⌜ LineAsked (now text) (now words) counts from to ⌝ }
-    ensures { λ r. ⌜ Stepped (now (text .entry)) (now (words .exit)) r (bookStep (bookAt (now (text .entry)) (now (words .entry)) counts) (lineAt (now (text .entry)) from to)) ⌝ }
+    ensures { λ r. ⌜ Stepped (now (text .entry)) (now (words .exit)) r (bookStepBy rule (bookAt (now (text .entry)) (now (words .entry)) counts) (lineAt (now (text .entry)) from to)) ⌝ }
 {
     if text.len() <= to {
         return LineStep::Fault(BROKEN);
     }
-    book_lines::forms::read_line(text, &text[from..to], from, words, counts)
+    book_lines::forms::read_line(text, &text[from..to], from, words, counts, rule)
 }

@@ -22,6 +22,7 @@ use Rattle.items.specs.Pieces.{wordNext, onPiece, onPlace}
 use Rattle.items.specs.Forms.{formOpens, formCloses}
 use Rattle.items.proofs.RestLaws.{rest-same, rest-nothing}
 use Rattle.items.proofs.FormLaws.{line-form, form-word, form-end}
+use Rattle.book_tables.specs.declared.NameRule.{NameRule}
 use Rattle.book_tables.specs.View.{kindIn}
 use Rattle.book_lines.specs.declared.Head.{Head}
 use Rattle.book_lines.specs.declared.Head.the-variants as head
@@ -34,13 +35,13 @@ use Rattle.book_lines.specs.Forms.{formStepOf, headOf, lineOf, kindPiece
 use Rattle.book_lines.proofs.PieceLaws.{name-form, kind-word, line-head}
 
 -- a form, or none
-pub step-form : (b : Book) (m : Maybe BookLine) (x : BookLine) → m ≡ just x → formStepOf b m ≡ stepOf b x
+pub step-form : (rule : NameRule) (b : Book) (m : Maybe BookLine) (x : BookLine) → m ≡ just x → formStepOf rule b m ≡ stepOf rule b x
 unfolding formStepOf formStep
-step-form b m x e = rw e
+step-form rule b m x e = rw e
 
-pub step-broken : (b : Book) (m : Maybe BookLine) → m ≡ nothing → formStepOf b m ≡ fault 3
+pub step-broken : (rule : NameRule) (b : Book) (m : Maybe BookLine) → m ≡ nothing → formStepOf rule b m ≡ fault 3
 unfolding formStepOf formStep
-step-broken b m e = rw e
+step-broken rule b m e = rw e
 
 -- the form of a line opens, or does not
 pub opens-at : (line : Bytes) (r : End) (i : ℕ) → r ≡ formOpens line → r ≡ end.At i → andThen (lineItems line) bookLine ≡ formAt true i line bookLine

@@ -23,6 +23,7 @@ use Rattle.items.specs.Pieces.{onPiece}
 use Rattle.items.proofs.PlacedLaws.{placed-at}
 use Rattle.items.specs.Forms.{formCloses}
 use Rattle.book_tables.specs.declared.BookCounts.{BookCounts}
+use Rattle.book_tables.specs.declared.NameRule.{NameRule}
 use Rattle.book_tables.specs.View.{kindIn, bookAt}
 use Rattle.book_tables.proofs.AgreeLaws.{book-kept}
 use Rattle.book_entries.specs.declared.EntriesRead.{EntriesRead}
@@ -43,7 +44,11 @@ use Rattle.book_lines.proofs.LineLaws.{step-form, step-broken, attr-got
 pub attr-stands : (line : Bytes) (from : ℕ) (r : AttrRead) (p q k : ℕ) → AttrFits line from r → r ≡ attr.Attr p q k → WordPlaces line from p q
 attr-stands line from r p q k h e = subst (AttrFits line from) e h
 
-module _ (text line : Bytes) (words : List ℕ) (c : BookCounts) (base from : ℕ) (f : FormAsked text line words c base) where
+-- the names that were read
+pub names-got : (line : Bytes) (from : ℕ) (r : RelNames) → NamesTold line from r → (l x y : Part) (q : ℕ) → r ≡ names.Read l x y q → NamesGot line from l x y q
+names-got line from r told l x y q h = subst (NamesTold line from) h told
+
+module _ (rule : NameRule) (text line : Bytes) (words : List ℕ) (c : BookCounts) (base from : ℕ) (f : FormAsked text line words c base) where
   abbrev book : Book
   book = bookAt text words c
 
@@ -51,33 +56,33 @@ module _ (text line : Bytes) (words : List ℕ) (c : BookCounts) (base from : �
   module _ (r : AttrRead) (form : (make : Bytes → Kind → BookLine) → formAt false from line (attrLine make) ≡ onAttr line r (λ n k. just (make n k)))
       (fits : AttrFits line from r) (make : Bytes → Kind → BookLine) where
     pub attr-step : (p q k : ℕ) → r ≡ attr.Attr p q k
-        → formStepOf book (formAt false from line (attrLine make)) ≡ stepOf book (make (nameAt text (record { start = base + p; length = q - p })) (kindIn k))
+        → formStepOf rule book (formAt false from line (attrLine make)) ≡ stepOf rule book (make (nameAt text (record { start = base + p; length = q - p })) (kindIn k))
     attr-step p q k e =
-        step-form book _ _ (attr-got line from r form make p q k e)
-        ∙ ap (λ (n : Bytes). stepOf book (make n (kindIn k))) (sym (piece-named text line words c base from p q f (attr-stands line from r p q k fits e)))
+        step-form rule book _ _ (attr-got line from r form make p q k e)
+        ∙ ap (λ (n : Bytes). stepOf rule book (make n (kindIn k))) (sym (piece-named text line words c base from p q f (attr-stands line from r p q k fits e)))
 
-    pub attr-broken : r ≡ attr.None → formStepOf book (formAt false from line (attrLine make)) ≡ fault 3
-    attr-broken e = step-broken book _ (attr-none line from r form make e)
+    pub attr-broken : r ≡ attr.None → formStepOf rule book (formAt false from line (attrLine make)) ≡ fault 3
+    attr-broken e = step-broken rule book _ (attr-none line from r form make e)
 
   -- (label NAME)
   module _ (r : Piece) (e : NextName 3 line from r) where
-    pub label-broken : r ≡ piece.None → formStepOf book (formAt false from line labelLine) ≡ fault 3
-    label-broken h = step-broken book _ (label-nameless line from r e h)
+    pub label-broken : r ≡ piece.None → formStepOf rule book (formAt false from line labelLine) ≡ fault 3
+    label-broken h = step-broken rule book _ (label-nameless line from r e h)
 
-    pub label-open : (p q : ℕ) → r ≡ piece.At p q → (t : Bool) → t ≡ formCloses line q → t ≡ false → formStepOf book (formAt false from line labelLine) ≡ fault 3
-    label-open p q h t te th = step-broken book _ (label-ends line from r e p q h t te ∙ rw th)
+    pub label-open : (p q : ℕ) → r ≡ piece.At p q → (t : Bool) → t ≡ formCloses line q → t ≡ false → formStepOf rule book (formAt false from line labelLine) ≡ fault 3
+    label-open p q h t te th = step-broken rule book _ (label-ends line from r e p q h t te ∙ rw th)
 
     pub label-step : (p q : ℕ) → r ≡ piece.At p q → (t : Bool) → t ≡ formCloses line q → t ≡ true
-        → formStepOf book (formAt false from line labelLine) ≡ stepOf book (label (nameAt text (record { start = base + p; length = q - p })))
+        → formStepOf rule book (formAt false from line labelLine) ≡ stepOf rule book (label (nameAt text (record { start = base + p; length = q - p })))
     label-step p q h t te th =
-        step-form book _ _ (label-ends line from r e p q h t te ∙ rw th)
-        ∙ ap (λ (n : Bytes). stepOf book (label n)) (sym (piece-named text line words c base from p q f (placed-at line from r h (e .placed))))
+        step-form rule book _ _ (label-ends line from r e p q h t te ∙ rw th)
+        ∙ ap (λ (n : Bytes). stepOf rule book (label n)) (sym (piece-named text line words c base from p q f (placed-at line from r h (e .placed))))
 
   -- (node NAME (ATTR VALUE)...)
   module _ (r : Piece) (e : NextName 3 line from r) where
-    pub node-broken : r ≡ piece.None → formStepOf book (formAt false from line nodeLine) ≡ fault 3
+    pub node-broken : r ≡ piece.None → formStepOf rule book (formAt false from line nodeLine) ≡ fault 3
     unfolding nodeLine onPiece
-    node-broken h = step-broken book _ (name-form line from _ ∙ rw (sym (e .is) ∙ h))
+    node-broken h = step-broken rule book _ (name-form line from _ ∙ rw (sym (e .is) ∙ h))
 
     module _ (p q : ℕ) (h : r ≡ piece.At p q) (words′ : List ℕ) (offset declared : ℕ) (a : EntriesAnswer)
         (done : EntriesDone text line words words′ c offset declared q a) where
@@ -85,47 +90,47 @@ module _ (text line : Bytes) (words : List ℕ) (c : BookCounts) (base from : �
       unfolding nodeLine onPiece
       node-named = name-form line from _ ∙ rw (sym (e .is) ∙ h)
 
-      pub node-spoilt : a ≡ answer.None → formStepOf book (formAt false from line nodeLine) ≡ fault 3
+      pub node-spoilt : a ≡ answer.None → formStepOf rule book (formAt false from line nodeLine) ≡ fault 3
       node-spoilt n =
           let told = subst (EntriesTold text line words′ c offset declared q) n (done .told) in
-          step-broken book _ (node-named ∙ told (λ es. just (node (partOf line p (q - p)) es)))
+          step-broken rule book _ (node-named ∙ told (λ es. just (node (partOf line p (q - p)) es)))
 
       pub node-step : (known : EntriesRead) → a ≡ answer.Read known → (got : EntriesGot text line words′ c offset declared q known)
-          → formStepOf book (formAt false from line nodeLine) ≡ stepOf (bookAt text words′ c) (node (nameAt text (record { start = base + p; length = q - p })) (got .got))
+          → formStepOf rule book (formAt false from line nodeLine) ≡ stepOf rule (bookAt text words′ c) (node (nameAt text (record { start = base + p; length = q - p })) (got .got))
       node-step known n got =
-          step-form book _ _ (node-named ∙ got .form (λ es. just (node (partOf line p (q - p)) es)))
-          ∙ ap (λ (x : Bytes). stepOf book (node x (got .got))) (sym (piece-named text line words c base from p q f (placed-at line from r h (e .placed))))
-          ∙ ap (λ (b : Book). stepOf b (node (nameAt text (record { start = base + p; length = q - p })) (got .got))) (sym (book-kept text words words′ c (done .agrees .tables) (f .fits)))
+          step-form rule book _ _ (node-named ∙ got .form (λ es. just (node (partOf line p (q - p)) es)))
+          ∙ ap (λ (x : Bytes). stepOf rule book (node x (got .got))) (sym (piece-named text line words c base from p q f (placed-at line from r h (e .placed))))
+          ∙ ap (λ (b : Book). stepOf rule b (node (nameAt text (record { start = base + p; length = q - p })) (got .got))) (sym (book-kept text words words′ c (done .agrees .tables) (f .fits)))
 
   -- (rel LABEL FROM TO (ATTR VALUE)...)
   module _ (r : RelNames) (told : NamesTold line from r) where
-    pub rel-broken : r ≡ names.None → formStepOf book (formAt false from line relLine) ≡ fault 3
+    pub rel-broken : r ≡ names.None → formStepOf rule book (formAt false from line relLine) ≡ fault 3
     unfolding relLine
-    rel-broken h = step-broken book _ (subst (NamesTold line from) h told (λ l x y is. andThen (each entryOf is) (λ es. just (rel l x y es))))
+    rel-broken h = step-broken rule book _ (subst (NamesTold line from) h told (λ l x y is. andThen (each entryOf is) (λ es. just (rel l x y es))))
 
     module _ (l x y : Part) (q : ℕ) (h : r ≡ names.Read l x y q) where
-      pub rel-got : NamesGot line from l x y q
-      rel-got = subst (NamesTold line from) h told
+      rel-got : NamesGot line from l x y q
+      rel-got = names-got line from r told l x y q h
 
       module _ (words′ : List ℕ) (offset declared : ℕ) (a : EntriesAnswer) (done : EntriesDone text line words words′ c offset declared q a) where
         rel-named : formAt false from line relLine ≡ entriesForm line q (λ es. just (rel (nameAt line l) (nameAt line x) (nameAt line y) es))
         unfolding relLine
         rel-named = rel-got .form (λ l x y is. andThen (each entryOf is) (λ es. just (rel l x y es)))
 
-        pub rel-spoilt : a ≡ answer.None → formStepOf book (formAt false from line relLine) ≡ fault 3
+        pub rel-spoilt : a ≡ answer.None → formStepOf rule book (formAt false from line relLine) ≡ fault 3
         rel-spoilt n =
             let broken = subst (EntriesTold text line words′ c offset declared q) n (done .told) in
-            step-broken book _ (rel-named ∙ broken (λ es. just (rel (nameAt line l) (nameAt line x) (nameAt line y) es)))
+            step-broken rule book _ (rel-named ∙ broken (λ es. just (rel (nameAt line l) (nameAt line x) (nameAt line y) es)))
 
         pub rel-step : (known : EntriesRead) → a ≡ answer.Read known → (got : EntriesGot text line words′ c offset declared q known)
-            → formStepOf book (formAt false from line relLine)
-            ≡ stepOf (bookAt text words′ c) (rel (nameAt text (movedPart base l)) (nameAt text (movedPart base x)) (nameAt text (movedPart base y)) (got .got))
+            → formStepOf rule book (formAt false from line relLine)
+            ≡ stepOf rule (bookAt text words′ c) (rel (nameAt text (movedPart base l)) (nameAt text (movedPart base x)) (nameAt text (movedPart base y)) (got .got))
         rel-step known n got =
-            step-form book _ _ (rel-named ∙ got .form (λ es. just (rel (nameAt line l) (nameAt line x) (nameAt line y) es)))
-            ∙ (λ t. stepOf book (rel (sym (name-moved text line base (f .is) (f .inside) l (rel-got .label .inside)) t)
+            step-form rule book _ _ (rel-named ∙ got .form (λ es. just (rel (nameAt line l) (nameAt line x) (nameAt line y) es)))
+            ∙ (λ t. stepOf rule book (rel (sym (name-moved text line base (f .is) (f .inside) l (rel-got .label .inside)) t)
             (sym (name-moved text line base (f .is) (f .inside) x (rel-got .start .inside)) t)
             (sym (name-moved text line base (f .is) (f .inside) y (rel-got .end .inside)) t) (got .got)))
-            ∙ ap (λ (b : Book). stepOf b (rel (nameAt text (movedPart base l)) (nameAt text (movedPart base x)) (nameAt text (movedPart base y)) (got .got)))
+            ∙ ap (λ (b : Book). stepOf rule b (rel (nameAt text (movedPart base l)) (nameAt text (movedPart base x)) (nameAt text (movedPart base y)) (got .got)))
             (sym (book-kept text words words′ c (done .agrees .tables) (f .fits)))
 
 -- the entries that were read

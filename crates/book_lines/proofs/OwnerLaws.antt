@@ -17,10 +17,11 @@ use Rattle.model.specs.Lines.{fault, known}
 use Rattle.model.specs.Values.{Entry}
 use Rattle.model.specs.Book.{Book, nodeNames}
 use Rattle.model.specs.BookLines.{node}
-use Rattle.model.specs.ReadBook.{suits, undeclared, nodeFault, lineFault, addLine}
+use Rattle.model.specs.ReadBook.{suits, undeclared, addLine}
 use Rattle.model.specs.Answers.{nameAt}
 use Rattle.model.specs.declared.Part.{Part}
 use Rattle.book_tables.specs.declared.BookCounts.{BookCounts}
+use Rattle.book_tables.specs.declared.NameRule.{NameRule}
 use Rattle.book_tables.specs.declared.Owner.the-variants.{Node}
 use Rattle.book_tables.specs.Layout.{vattrNames, nodeNames as nodesAt}
 use Rattle.book_tables.specs.View.{slotIn, nodeOf, relOf, bookAt}
@@ -28,12 +29,14 @@ use Rattle.book_tables.specs.Fits.{Fits, Holds}
 use Rattle.book_tables.specs.Owners.{moreOwners}
 use Rattle.book_tables.specs.Stores.{withOwner}
 use Rattle.book_tables.proofs.ListedLaws.{length-listed}
+use Rattle.book_tables.specs.Alike.{NodeAlike}
+use Rattle.book_tables.proofs.AlikeLaws.{alike-there, taken-mem}
 use Rattle.book_tables.proofs.NameLaws.{mem-place, length-names, node-names}
 use Rattle.book_tables.proofs.OwnerAdded.{node-added}
 use Rattle.book_entries.specs.declared.EntriesRead.{EntriesRead}
 use Rattle.book_entries.specs.Faults.{entriesFault}
 use Rattle.book_entries.specs.Known.{EntriesKnown}
-use Rattle.book_lines.specs.Steps.{stepOf, NameAsked, ownerFault}
+use Rattle.book_lines.specs.Steps.{faultBy, stepOf, NameAsked, ownerFault}
 use Rattle.book_lines.proofs.StepLaws.{step-fault, step-added, word-name, word-new}
 
 -- a fault's number, 0 being none
@@ -104,23 +107,23 @@ module _ (text : Bytes) (words : List ℕ) (c : BookCounts) (fits : Fits text wo
   pub node-mem : (n : Bytes) (a : ℕ) → a ≡ place n (nodeNames book) → mem n (nodeNames book) ≡ ltb a (c .nodes)
   node-mem n a e = mem-place n (nodeNames book) ∙ rw (e, nodes-length)
 
-  module _ (name : Part) (asked : NameAsked text name) (after : EntriesKnown text words c vattrNames (c .vattrs) es read)
-      (a : ℕ) (found : a ≡ place (nameAt text name) (nodeNames book)) where
+  module _ (rule : NameRule) (name : Part) (asked : NameAsked text name) (after : EntriesKnown text words c vattrNames (c .vattrs) es read)
+      (a : ℕ) (found : NodeAlike rule text words c (nameAt text name) a) where
     abbrev full : Bool
     full = leb 256 (c .nodes) || ltb 2048 (c .entries + read .count)
 
-    node-fault : lineFault book (node (nameAt text name) es) ≡ numbered (ownerFault (ltb a (c .nodes)) (read .fault) full)
-    unfolding lineFault nodeFault entriesFault bookAt
+    node-fault : faultBy rule book (node (nameAt text name) es) ≡ numbered (ownerFault (ltb a (c .nodes)) (read .fault) full)
+    unfolding faultBy entriesFault bookAt
     node-fault =
-        rw (node-mem (nameAt text name) a found, nodes-count, fits .counted, ← after .count)
+        rw (alike-there rule text words c (nameAt text name) a found, nodes-count, fits .counted, ← after .count)
         (table (undeclared (book .vattrs) es) (ltb a (c .nodes)) (twice (map (λ e. e .attr) es)) (all (suits (book .vattrs)) es) full
         ∙ ap (λ (n : ℕ). numbered (ownerFault (ltb a (c .nodes)) n full)) (sym (after .fault)))
 
-    pub node-refused : (n : ℕ) → n ≡ ownerFault (ltb a (c .nodes)) (read .fault) full → (n ≡ 0 → ⊥) → stepOf book (node (nameAt text name) es) ≡ fault n
-    node-refused n e h = step-fault book (node (nameAt text name) es) n (node-fault ∙ rw (← e) (numbered-fault n h))
+    pub node-refused : (n : ℕ) → n ≡ ownerFault (ltb a (c .nodes)) (read .fault) full → (n ≡ 0 → ⊥) → stepOf rule book (node (nameAt text name) es) ≡ fault n
+    node-refused n e h = step-fault rule book (node (nameAt text name) es) n (node-fault ∙ rw (← e) (numbered-fault n h))
 
     pub node-fine : ownerFault (ltb a (c .nodes)) (read .fault) full ≡ 0
-        → (stepOf book (node (nameAt text name) es) ≡ known (bookAt text (withOwner words c Node (name .start * 32 + name .length) (slotIn text (name .start * 32 + name .length)) (read .count)) (moreOwners Node c (read .count))))
+        → (stepOf rule book (node (nameAt text name) es) ≡ known (bookAt text (withOwner words c Node (name .start * 32 + name .length) (slotIn text (name .start * 32 + name .length)) (read .count)) (moreOwners Node c (read .count))))
         × Fits text (withOwner words c Node (name .start * 32 + name .length) (slotIn text (name .start * 32 + name .length)) (read .count)) (moreOwners Node c (read .count))
     node-fine z =
         let ok = owner-fine (ltb a (c .nodes)) (read .fault) full z in
@@ -129,9 +132,9 @@ module _ (text : Bytes) (words : List ℕ) (c : BookCounts) (fits : Fits text wo
         let q = ltb-false 2048 (c .entries + read .count) (r .1) in
         let k = after .count in
         let h = node-added text words c book holds es (omega arith) (name .start * 32 + name .length) few
-        (word-new text name asked (nodeNames book) (c .nodes) nodes-length (rw (← found) (ltb-false a (c .nodes) (ok .new))))
+        (word-new text name asked (nodeNames book) (taken-mem rule (nameAt text name) (nodeNames book) (alike-there rule text words c (nameAt text name) a found ∙ ok .new)))
         (after .stored (ok .none) (omega arith)) in (
-          step-added book (node (nameAt text name) es) _ (node-fault ∙ rw z)
+          step-added rule book (node (nameAt text name) es) _ (node-fault ∙ rw z)
               (rw k (h .is ∙ ap (λ (n : Bytes). addLine book (node n es)) (word-name text name asked))),
           rw k (h .fits),
         )

@@ -16,6 +16,7 @@ use Rattle.model.specs.Book.{Book, nodeNames}
 use Rattle.model.specs.BookLines.{rel}
 use Rattle.model.specs.ReadBook.{suits, undeclared, related, relFault, lineFault}
 use Rattle.book_tables.specs.declared.BookCounts.{BookCounts}
+use Rattle.book_tables.specs.declared.NameRule.{NameRule}
 use Rattle.book_tables.specs.declared.Owner.the-variants.{Relationship}
 use Rattle.book_tables.specs.Layout.{eattrNames, labelNames}
 use Rattle.book_tables.specs.View.{nameOf, bookAt}
@@ -27,7 +28,7 @@ use Rattle.book_tables.proofs.OwnerAdded.{rel-added}
 use Rattle.book_entries.specs.declared.EntriesRead.{EntriesRead}
 use Rattle.book_entries.specs.Faults.{entriesFault}
 use Rattle.book_entries.specs.Known.{EntriesKnown}
-use Rattle.book_lines.specs.Steps.{stepOf, ownerFault}
+use Rattle.book_lines.specs.Steps.{faultBy, stepOf, ownerFault}
 use Rattle.book_lines.proofs.StepLaws.{step-fault, step-added}
 use Rattle.book_lines.proofs.OwnerLaws.{numbered, table, owner-fine, numbered-fault, or-false, holds, rels-count, node-mem}
 
@@ -42,7 +43,7 @@ some-missing false true false u h = refl
 some-missing false false true u h = refl
 some-missing false false false u h = refl
 
-module _ (text : Bytes) (words : List ℕ) (c : BookCounts) (fits : Fits text words c) (read : EntriesRead) (es : List Entry)
+module _ (rule : NameRule) (text : Bytes) (words : List ℕ) (c : BookCounts) (fits : Fits text words c) (read : EntriesRead) (es : List Entry)
     (label from to : Bytes) where
   abbrev book : Book
   book = bookAt text words c
@@ -51,22 +52,22 @@ module _ (text : Bytes) (words : List ℕ) (c : BookCounts) (fits : Fits text wo
   unfolding bookAt
   label-mem l e = mem-place label (book .labels) ∙ rw (e, length-names text words labelNames (c .labels))
 
-  rel-missing : (mem label (book .labels) && mem from (nodeNames book) && mem to (nodeNames book)) ≡ false → stepOf book (rel label from to es) ≡ fault 4
-  unfolding lineFault relFault lowest
-  rel-missing h = step-fault book (rel label from to es) 4
+  rel-missing : (mem label (book .labels) && mem from (nodeNames book) && mem to (nodeNames book)) ≡ false → stepOf rule book (rel label from to es) ≡ fault 4
+  unfolding faultBy lineFault relFault lowest
+  rel-missing h = step-fault rule book (rel label from to es) 4
       (rw (some-missing (mem label (book .labels)) (mem from (nodeNames book)) (mem to (nodeNames book)) (undeclared (book .eattrs) es) h))
 
-  pub label-missing : (l : ℕ) → l ≡ place label (book .labels) → c .labels ≤ l → stepOf book (rel label from to es) ≡ fault 4
+  pub label-missing : (l : ℕ) → l ≡ place label (book .labels) → c .labels ≤ l → stepOf rule book (rel label from to es) ≡ fault 4
   label-missing l e h = rel-missing (rw (label-mem l e, le-ltb l (c .labels) h))
 
-  pub from-missing : (x : ℕ) → x ≡ place from (nodeNames book) → c .nodes ≤ x → stepOf book (rel label from to es) ≡ fault 4
+  pub from-missing : (x : ℕ) → x ≡ place from (nodeNames book) → c .nodes ≤ x → stepOf rule book (rel label from to es) ≡ fault 4
   from-missing x e h = rel-missing (rw (node-mem text words c fits read es from x e, le-ltb x (c .nodes) h) (middle (mem label (book .labels)) (mem to (nodeNames book))))
     where
       middle : (a b : Bool) → (a && false && b) ≡ false
       middle true b = refl
       middle false b = refl
 
-  pub to-missing : (y : ℕ) → y ≡ place to (nodeNames book) → c .nodes ≤ y → stepOf book (rel label from to es) ≡ fault 4
+  pub to-missing : (y : ℕ) → y ≡ place to (nodeNames book) → c .nodes ≤ y → stepOf rule book (rel label from to es) ≡ fault 4
   to-missing y e h = rel-missing (rw (node-mem text words c fits read es to y e, le-ltb y (c .nodes) h) (last (mem label (book .labels) && mem from (nodeNames book))))
     where
       last : (a : Bool) → (a && false) ≡ false
@@ -86,8 +87,8 @@ module _ (text : Bytes) (words : List ℕ) (c : BookCounts) (fits : Fits text wo
       there-related : related book label (place from (nodeNames book)) (place to (nodeNames book)) ≡ there
       there-related = sym (is-there ∙ rw (labelled, ex, ey))
 
-      rel-fault : lineFault book (rel label from to es) ≡ numbered (ownerFault there (read .fault) full)
-      unfolding lineFault relFault entriesFault bookAt
+      rel-fault : faultBy rule book (rel label from to es) ≡ numbered (ownerFault there (read .fault) full)
+      unfolding faultBy lineFault relFault entriesFault bookAt
       rel-fault =
           rw (
             label-mem l el,
@@ -104,11 +105,11 @@ module _ (text : Bytes) (words : List ℕ) (c : BookCounts) (fits : Fits text wo
           (table (undeclared (book .eattrs) es) there (twice (map (λ e. e .attr) es)) (all (suits (book .eattrs)) es) full
           ∙ ap (λ (n : ℕ). numbered (ownerFault there n full)) (sym (after .fault)))
 
-      pub rel-refused : (n : ℕ) → n ≡ ownerFault there (read .fault) full → (n ≡ 0 → ⊥) → stepOf book (rel label from to es) ≡ fault n
-      rel-refused n e h = step-fault book (rel label from to es) n (rel-fault ∙ rw (← e) (numbered-fault n h))
+      pub rel-refused : (n : ℕ) → n ≡ ownerFault there (read .fault) full → (n ≡ 0 → ⊥) → stepOf rule book (rel label from to es) ≡ fault n
+      rel-refused n e h = step-fault rule book (rel label from to es) n (rel-fault ∙ rw (← e) (numbered-fault n h))
 
       pub rel-fine : ownerFault there (read .fault) full ≡ 0
-          → (stepOf book (rel label from to es) ≡ known (bookAt text (withOwner words c Relationship (l * 65536 + x * 256 + y) x (read .count)) (moreOwners Relationship c (read .count))))
+          → (stepOf rule book (rel label from to es) ≡ known (bookAt text (withOwner words c Relationship (l * 65536 + x * 256 + y) x (read .count)) (moreOwners Relationship c (read .count))))
           × Fits text (withOwner words c Relationship (l * 65536 + x * 256 + y) x (read .count)) (moreOwners Relationship c (read .count))
       rel-fine z =
           let ok = owner-fine there (read .fault) full z in
@@ -118,4 +119,4 @@ module _ (text : Bytes) (words : List ℕ) (c : BookCounts) (fits : Fits text wo
           let k = after .count in
           let h = rel-added text words c book (holds text words c fits read es) es (omega arith) l x y label from to few lin xin yin labelled (sym ex) (sym ey)
           (after .stored (ok .none) (omega arith)) in
-          (step-added book (rel label from to es) _ (rel-fault ∙ rw z) (rw k (h .is)), rw k (h .fits))
+          (step-added rule book (rel label from to es) _ (rel-fault ∙ rw z) (rw k (h .is)), rw k (h .fits))

@@ -18,6 +18,7 @@ use Rattle.model.specs.ReadBook.{nameFault, lineFault, addLine}
 use Rattle.model.specs.Answers.{partOf, nameAt}
 use Rattle.model.specs.declared.Part.{Part}
 use Rattle.book_tables.specs.declared.BookCounts.{BookCounts}
+use Rattle.book_tables.specs.declared.NameRule.{NameRule}
 use Rattle.book_tables.specs.declared.Owner.{Owner}
 use Rattle.book_tables.specs.declared.Owner.the-variants.{Node, Relationship}
 use Rattle.book_tables.specs.Layout.{labelNames}
@@ -28,7 +29,7 @@ use Rattle.book_tables.specs.Stores.{moreLabels, withAttr, withLabel}
 use Rattle.book_tables.proofs.NameLaws.{mem-place, length-names}
 use Rattle.book_tables.proofs.OwnerLaws.{owner-declared}
 use Rattle.book_tables.proofs.Added.{NewName, label-added, attr-added}
-use Rattle.book_lines.specs.Steps.{stepOf, NameAsked}
+use Rattle.book_lines.specs.Steps.{faultBy, stepOf, NameAsked}
 
 -- a name among names declared already: 5
 pub name-twice : (n : Bytes) (ns : List Bytes) (count : ℕ) → length ns ≡ count → place n ns < count → nameFault n ns ≡ just 5
@@ -48,19 +49,19 @@ unfolding nameFault lowest
 name-fine n ns count e l m = rw (name-new n ns count e l, lt-leb 32 (length ns) (omega arith))
 
 -- a line with a fault, and one without
-pub step-fault : (b : Book) (line : BookLine) (n : ℕ) → lineFault b line ≡ just n → stepOf b line ≡ fault n
+pub step-fault : (rule : NameRule) (b : Book) (line : BookLine) (n : ℕ) → faultBy rule b line ≡ just n → stepOf rule b line ≡ fault n
 unfolding stepOf faultOr
-step-fault b line n e = rw e
+step-fault rule b line n e = rw e
 
-pub step-added : (b : Book) (line : BookLine) (b′ : Book) → lineFault b line ≡ nothing → b′ ≡ addLine b line → stepOf b line ≡ known b′
+pub step-added : (rule : NameRule) (b : Book) (line : BookLine) (b′ : Book) → faultBy rule b line ≡ nothing → b′ ≡ addLine b line → stepOf rule b line ≡ known b′
 unfolding stepOf faultOr
-step-added b line b′ e q = rw (e, q)
+step-added rule b line b′ e q = rw (e, q)
 
 -- the fault of a declared attribute is that of its name
-declared-fault : (b : Book) (o : Owner) (n : Bytes) (k : Kind) → lineFault b (declares o n k) ≡ nameFault n (attrNames (attrsOf o b))
-unfolding lineFault
-declared-fault b Node n k = refl
-declared-fault b Relationship n k = refl
+declared-fault : (rule : NameRule) (b : Book) (o : Owner) (n : Bytes) (k : Kind) → faultBy rule b (declares o n k) ≡ nameFault n (attrNames (attrsOf o b))
+unfolding faultBy lineFault
+declared-fault rule b Node n k = refl
+declared-fault rule b Relationship n k = refl
 
 -- a name's word, and its slice
 module _ (text : Bytes) (name : Part) where
@@ -82,14 +83,14 @@ module _ (text : Bytes) (name : Part) where
     unfolding nameIn nameAt
     word-name = rw (word-start, word-length)
 
-    pub word-new : (ns : List Bytes) (count : ℕ) → length ns ≡ count → count ≤ place (nameAt text name) ns → NewName text ns (name .start * 32 + name .length)
-    word-new ns count e l = record {
+    pub word-new : (ns : List Bytes) → mem (nameAt text name) ns ≡ false → NewName text ns (name .start * 32 + name .length)
+    word-new ns e = record {
       inside = rw (word-start, word-length) (asked .inside);
-      new = rw word-name (name-new (nameAt text name) ns count e l);
+      new = rw word-name e;
     }
 
 -- the lines that declare names
-module _ (text : Bytes) (words : List ℕ) (c : BookCounts) (name : Part) (asked : NameAsked text name) (fits : Fits text words c) where
+module _ (rule : NameRule) (text : Bytes) (words : List ℕ) (c : BookCounts) (name : Part) (asked : NameAsked text name) (fits : Fits text words c) where
   abbrev book : Book
   book = bookAt text words c
 
@@ -104,20 +105,20 @@ module _ (text : Bytes) (words : List ℕ) (c : BookCounts) (name : Part) (asked
   labels-length = length-names text words labelNames (c .labels)
 
   module _ (a : ℕ) (found : a ≡ place (nameAt text name) (book .labels)) where
-    pub label-twice : a < c .labels → stepOf book (label (nameAt text name)) ≡ fault 5
-    unfolding lineFault
-    label-twice l = step-fault book (label (nameAt text name)) 5 (name-twice (nameAt text name) (book .labels) (c .labels) labels-length (rw (← found) l))
+    pub label-twice : a < c .labels → stepOf rule book (label (nameAt text name)) ≡ fault 5
+    unfolding faultBy lineFault
+    label-twice l = step-fault rule book (label (nameAt text name)) 5 (name-twice (nameAt text name) (book .labels) (c .labels) labels-length (rw (← found) l))
 
-    pub label-full : c .labels ≤ a → 32 ≤ c .labels → stepOf book (label (nameAt text name)) ≡ fault 7
-    unfolding lineFault
-    label-full l m = step-fault book (label (nameAt text name)) 7 (name-full (nameAt text name) (book .labels) (c .labels) labels-length (rw (← found) l) m)
+    pub label-full : c .labels ≤ a → 32 ≤ c .labels → stepOf rule book (label (nameAt text name)) ≡ fault 7
+    unfolding faultBy lineFault
+    label-full l m = step-fault rule book (label (nameAt text name)) 7 (name-full (nameAt text name) (book .labels) (c .labels) labels-length (rw (← found) l) m)
 
     pub label-fine : c .labels ≤ a → c .labels < 32
-        → (stepOf book (label (nameAt text name)) ≡ known (bookAt text (withLabel words c word) (moreLabels c))) × Fits text (withLabel words c word) (moreLabels c)
-    unfolding lineFault
+        → (stepOf rule book (label (nameAt text name)) ≡ known (bookAt text (withLabel words c word) (moreLabels c))) × Fits text (withLabel words c word) (moreLabels c)
+    unfolding faultBy lineFault
     label-fine l m =
-        let h = label-added text words c book holds word m (word-new text name asked (book .labels) (c .labels) labels-length (rw (← found) l)) in (
-          step-added book (label (nameAt text name)) _ (name-fine (nameAt text name) (book .labels) (c .labels) labels-length (rw (← found) l) m)
+        let h = label-added text words c book holds word m (word-new text name asked (book .labels) (name-new (nameAt text name) (book .labels) (c .labels) labels-length (rw (← found) l))) in (
+          step-added rule book (label (nameAt text name)) _ (name-fine (nameAt text name) (book .labels) (c .labels) labels-length (rw (← found) l) m)
               (h .is ∙ ap (λ (n : Bytes). addLine book (label n)) (word-name text name asked)),
           h .fits,
         )
@@ -132,20 +133,20 @@ module _ (text : Bytes) (words : List ℕ) (c : BookCounts) (name : Part) (asked
     size : length names ≡ tablesOf o c .declared
     size = owner-declared text words c o
 
-    pub attr-twice : a < tablesOf o c .declared → stepOf book line ≡ fault 5
-    attr-twice l = step-fault book line 5 (declared-fault book o (nameAt text name) (kindIn kind) ∙ name-twice (nameAt text name) names (tablesOf o c .declared) size (rw (← found) l))
+    pub attr-twice : a < tablesOf o c .declared → stepOf rule book line ≡ fault 5
+    attr-twice l = step-fault rule book line 5 (declared-fault rule book o (nameAt text name) (kindIn kind) ∙ name-twice (nameAt text name) names (tablesOf o c .declared) size (rw (← found) l))
 
-    pub attr-full : tablesOf o c .declared ≤ a → 32 ≤ tablesOf o c .declared → stepOf book line ≡ fault 7
-    attr-full l m = step-fault book line 7 (declared-fault book o (nameAt text name) (kindIn kind) ∙ name-full (nameAt text name) names (tablesOf o c .declared) size (rw (← found) l) m)
+    pub attr-full : tablesOf o c .declared ≤ a → 32 ≤ tablesOf o c .declared → stepOf rule book line ≡ fault 7
+    attr-full l m = step-fault rule book line 7 (declared-fault rule book o (nameAt text name) (kindIn kind) ∙ name-full (nameAt text name) names (tablesOf o c .declared) size (rw (← found) l) m)
 
     abbrev stored : List ℕ
     stored = withAttr words (tablesOf o c .attributes) (tablesOf o c .declared) word kind
 
     pub attr-fine : tablesOf o c .declared ≤ a → tablesOf o c .declared < 32
-        → (stepOf book line ≡ known (bookAt text stored (moreAttrs o c))) × Fits text stored (moreAttrs o c)
+        → (stepOf rule book line ≡ known (bookAt text stored (moreAttrs o c))) × Fits text stored (moreAttrs o c)
     attr-fine l m =
-        let h = attr-added text words c book holds o word kind m (word-new text name asked names (tablesOf o c .declared) size (rw (← found) l)) in (
-          step-added book line _ (declared-fault book o (nameAt text name) (kindIn kind) ∙ name-fine (nameAt text name) names (tablesOf o c .declared) size (rw (← found) l) m)
+        let h = attr-added text words c book holds o word kind m (word-new text name asked names (name-new (nameAt text name) names (tablesOf o c .declared) size (rw (← found) l))) in (
+          step-added rule book line _ (declared-fault rule book o (nameAt text name) (kindIn kind) ∙ name-fine (nameAt text name) names (tablesOf o c .declared) size (rw (← found) l) m)
               (h .is ∙ ap (λ (n : Bytes). addLine book (declares o n (kindIn kind))) (word-name text name asked)),
           h .fits,
         )

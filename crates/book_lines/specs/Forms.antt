@@ -17,6 +17,7 @@ use Rattle.book_tables.specs.declared.BookCounts.{BookCounts}
 use Rattle.book_tables.specs.declared.Owner.the-variants.{Node, Relationship}
 use Rattle.book_tables.specs.Owners.{declares}
 use Rattle.book_tables.specs.View.{kindIn}
+use Rattle.book_tables.specs.declared.NameRule.{NameRule}
 use Rattle.book_tables.specs.Fits.{Fits}
 use Rattle.book_lines.specs.declared.Head.{Head}
 use Rattle.book_lines.specs.declared.Head.the-variants as head
@@ -27,8 +28,8 @@ use Rattle.book_lines.specs.declared.KindRead.the-variants as kind
 use Rattle.book_lines.specs.Steps.{stepOf}
 
 -- what a line gives after a book: 3 if it has no form
-unfoldable pub formStepOf : Book → Maybe BookLine → Step Book
-formStepOf b line = formStep line (stepOf b)
+unfoldable pub formStepOf : NameRule → Book → Maybe BookLine → Step Book
+formStepOf rule b line = formStep line (stepOf rule b)
 
 -- what reading a line asks: it is the part of the text that begins at the base
 pub record FormAsked (text line : Bytes) (words : List ℕ) (c : BookCounts) (base : ℕ) : Type 0 where

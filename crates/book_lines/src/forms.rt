@@ -7,6 +7,7 @@ ghost use Rattle.model.specs.Items.{lineItems};
 ghost use Rattle.model.specs.Values.{Kind};
 ghost use Rattle.model.specs.BookLines.{BookLine, attrLine, labelLine, bookLine};
 ghost use Rattle.items.specs.Rest.{formAt};
+ghost use Rattle.book_tables.specs.declared.NameRule.{NameRule as Rule};
 ghost use Rattle.book_tables.specs.View.{bookAt};
 ghost use Rattle.book_tables.specs.Owners.{declares};
 ghost use Rattle.book_lines.specs.Steps.{Stepped};
@@ -20,26 +21,30 @@ use crate::owners;
 use crate::pieces;
 use crate::steps;
 use book_tables::BookCounts;
+use book_tables::NameRule;
 use book_tables::Owner;
 use items::Piece;
 use items::places;
 use model::Part;
-use model::refusal_numbers::BROKEN;
 use text::End;
 
-// Reads a line, which begins at the base in the text, and adds it.
+// "grammar broken".
+pub const BROKEN: u32 = 3;
+
+// Reads a line, which begins at the base in the text, and adds it; a node is given a second time by the rule for names.
 pub fn read_line(
     text: &[u8],
     line: &[u8],
     base: usize,
     words: &mut [u32],
     counts: BookCounts,
+    rule: NameRule,
 ) -> LineStep
     requires { ⌜ FormAsked (now text) (now line) (now words) counts base ⌝ }
-    ensures { λ r. ⌜ Stepped (now (text .entry)) (now (words .exit)) r (formStepOf (bookAt (now (text .entry)) (now (words .entry)) counts) (andThen (lineItems (now (line .entry))) bookLine)) ⌝ }
+    ensures { λ r. ⌜ Stepped (now (text .entry)) (now (words .exit)) r (formStepOf rule (bookAt (now (text .entry)) (now (words .entry)) counts) (andThen (lineItems (now (line .entry))) bookLine)) ⌝ }
 {
     match items::forms::open_form(line) {
-        End::At(from) => read_head(text, line, base, from, words, counts),
+        End::At(from) => read_head(text, line, base, from, words, counts, rule),
         End::None => LineStep::Fault(BROKEN),
     }
 }
@@ -52,9 +57,10 @@ fn read_head(
     from: usize,
     words: &mut [u32],
     counts: BookCounts,
+    rule: NameRule,
 ) -> LineStep
     requires { ⌜ FormAsked (now text) (now line) (now words) counts base ⌝ }
-    ensures { λ r. ⌜ Stepped (now (text .entry)) (now (words .exit)) r (formStepOf (bookAt (now (text .entry)) (now (words .entry)) counts) (formAt true from (now (line .entry)) bookLine)) ⌝ }
+    ensures { λ r. ⌜ Stepped (now (text .entry)) (now (words .exit)) r (formStepOf rule (bookAt (now (text .entry)) (now (words .entry)) counts) (formAt true from (now (line .entry)) bookLine)) ⌝ }
 {
     match places::next_word(line, from, true, pieces::FORM_DEPTH) {
         Piece::At(p, q) => read_rest(
@@ -65,6 +71,7 @@ fn read_head(
             pieces::head(&line[p..q]),
             words,
             counts,
+            rule,
         ),
         Piece::None => LineStep::Fault(BROKEN),
     }
@@ -79,14 +86,15 @@ fn read_rest(
     head: Head,
     words: &mut [u32],
     counts: BookCounts,
+    rule: NameRule,
 ) -> LineStep
     requires { ⌜ FormAsked (now text) (now line) (now words) counts base ⌝ }
-    ensures { λ r. ⌜ Stepped (now (text .entry)) (now (words .exit)) r (formStepOf (bookAt (now (text .entry)) (now (words .entry)) counts) (formAt false from (now (line .entry)) (lineOf head))) ⌝ }
+    ensures { λ r. ⌜ Stepped (now (text .entry)) (now (words .exit)) r (formStepOf rule (bookAt (now (text .entry)) (now (words .entry)) counts) (formAt false from (now (line .entry)) (lineOf head))) ⌝ }
 {
     match head {
         Head::Attr(owner) => attr_line(text, line, base, from, owner, words, counts),
         Head::Label => label_line(text, line, base, from, words, counts),
-        Head::Node => owners::node_line(text, line, base, from, words, counts),
+        Head::Node => owners::node_line(text, line, base, from, words, counts, rule),
         Head::Rel => owners::rel_line(text, line, base, from, words, counts),
         Head::Other => LineStep::Fault(BROKEN),
     }
@@ -122,7 +130,7 @@ fn attr_line(
     counts: BookCounts,
 ) -> LineStep
     requires { ⌜ FormAsked (now text) (now line) (now words) counts base ⌝ }
-    ensures { λ r. ⌜ Stepped (now (text .entry)) (now (words .exit)) r (formStepOf (bookAt (now (text .entry)) (now (words .entry)) counts) (formAt false from (now (line .entry)) (attrLine (declares owner)))) ⌝ }
+    ensures { λ r. ⌜ ((rule : Rule) → Stepped (now (text .entry)) (now (words .exit)) r (formStepOf rule (bookAt (now (text .entry)) (now (words .entry)) counts) (formAt false from (now (line .entry)) (attrLine (declares owner))))) ⌝ }
 {
     match read_attr(line, from) {
         AttrRead::Attr(p, q, kind) => steps::add_attr(
@@ -150,7 +158,7 @@ fn label_line(
     counts: BookCounts,
 ) -> LineStep
     requires { ⌜ FormAsked (now text) (now line) (now words) counts base ⌝ }
-    ensures { λ r. ⌜ Stepped (now (text .entry)) (now (words .exit)) r (formStepOf (bookAt (now (text .entry)) (now (words .entry)) counts) (formAt false from (now (line .entry)) labelLine)) ⌝ }
+    ensures { λ r. ⌜ ((rule : Rule) → Stepped (now (text .entry)) (now (words .exit)) r (formStepOf rule (bookAt (now (text .entry)) (now (words .entry)) counts) (formAt false from (now (line .entry)) labelLine))) ⌝ }
 {
     match places::next_name(line, from, pieces::FORM_DEPTH) {
         Piece::At(p, q) => {

@@ -5,6 +5,7 @@ ghost use Prim.Native.Nat.{_+_, _≤_};
 ghost use lib.ListN.{length};
 ghost use Rattle.model.specs.BookLines.{nodeLine, relLine};
 ghost use Rattle.items.specs.Rest.{formAt};
+ghost use Rattle.book_tables.specs.declared.NameRule.{NameRule as Rule};
 ghost use Rattle.book_tables.specs.View.{bookAt};
 ghost use Rattle.book_tables.specs.Owners.{tablesOf};
 ghost use Rattle.book_lines.specs.Steps.{Stepped};
@@ -19,6 +20,7 @@ use crate::pieces::FORM_DEPTH;
 use crate::steps;
 use book_entries::EntriesRead;
 use book_tables::BookCounts;
+use book_tables::NameRule;
 use book_tables::Owner;
 use items::EntryRead;
 use items::Piece;
@@ -119,9 +121,10 @@ pub fn node_line(
     from: usize,
     words: &mut [u32],
     counts: BookCounts,
+    rule: NameRule,
 ) -> LineStep
     requires { ⌜ FormAsked (now text) (now line) (now words) counts base ⌝ }
-    ensures { λ r. ⌜ Stepped (now (text .entry)) (now (words .exit)) r (formStepOf (bookAt (now (text .entry)) (now (words .entry)) counts) (formAt false from (now (line .entry)) nodeLine)) ⌝ }
+    ensures { λ r. ⌜ Stepped (now (text .entry)) (now (words .exit)) r (formStepOf rule (bookAt (now (text .entry)) (now (words .entry)) counts) (formAt false from (now (line .entry)) nodeLine)) ⌝ }
 {
     match places::next_name(line, from, FORM_DEPTH) {
         Piece::At(p, q) => {
@@ -130,6 +133,7 @@ pub fn node_line(
                     text,
                     words,
                     counts,
+                    rule,
                     Part {
                         start: base + p,
                         length: q - p,
@@ -183,7 +187,7 @@ pub fn rel_line(
     counts: BookCounts,
 ) -> LineStep
     requires { ⌜ FormAsked (now text) (now line) (now words) counts base ⌝ }
-    ensures { λ r. ⌜ Stepped (now (text .entry)) (now (words .exit)) r (formStepOf (bookAt (now (text .entry)) (now (words .entry)) counts) (formAt false from (now (line .entry)) relLine)) ⌝ }
+    ensures { λ r. ⌜ ((rule : Rule) → Stepped (now (text .entry)) (now (words .exit)) r (formStepOf rule (bookAt (now (text .entry)) (now (words .entry)) counts) (formAt false from (now (line .entry)) relLine))) ⌝ }
 {
     match read_names(line, from) {
         RelNames::Read(label, x, y, q) => {

@@ -8,6 +8,7 @@ ghost use Rattle.model.specs.Values.{Entry};
 ghost use Rattle.model.specs.Answers.{nameAt};
 ghost use Rattle.model.specs.BookLines.{label, node, rel};
 ghost use Rattle.book_tables.specs.View.{kindIn, bookAt};
+ghost use Rattle.book_tables.specs.declared.NameRule.{NameRule as Rule};
 ghost use Rattle.book_tables.specs.Fits.{Fits};
 ghost use Rattle.book_tables.specs.Owners.{declares};
 ghost use Rattle.book_entries.specs.Known.{EntriesKnown};
@@ -16,6 +17,7 @@ ghost use Rattle.book_lines.specs.Steps.{NameAsked, Stepped, stepOf, own
 use crate::LineStep;
 use book_entries::EntriesRead;
 use book_tables::BookCounts;
+use book_tables::NameRule;
 use book_tables::Owner;
 use book_tables::names;
 use book_tables::names::NAME_LENGTHS;
@@ -61,7 +63,7 @@ pub fn add_attr(
     kind: u32,
 ) -> LineStep
     requires { ⌜ NameAsked (now text) name × Fits (now text) (now words) counts ⌝ }
-    ensures { λ r. ⌜ Stepped (now (text .entry)) (now (words .exit)) r (stepOf (bookAt (now (text .entry)) (now (words .entry)) counts) (declares owner (nameAt (now (text .entry)) name) (kindIn kind))) ⌝ }
+    ensures { λ r. ⌜ ((rule : Rule) → Stepped (now (text .entry)) (now (words .exit)) r (stepOf rule (bookAt (now (text .entry)) (now (words .entry)) counts) (declares owner (nameAt (now (text .entry)) name) (kindIn kind)))) ⌝ }
 {
     let tables = owners::tables(counts, owner);
     let count = tables.declared;
@@ -77,7 +79,7 @@ pub fn add_attr(
 // (label NAME)
 pub fn add_label(text: &[u8], words: &mut [u32], counts: BookCounts, name: Part) -> LineStep
     requires { ⌜ NameAsked (now text) name × Fits (now text) (now words) counts ⌝ }
-    ensures { λ r. ⌜ Stepped (now (text .entry)) (now (words .exit)) r (stepOf (bookAt (now (text .entry)) (now (words .entry)) counts) (label (nameAt (now (text .entry)) name))) ⌝ }
+    ensures { λ r. ⌜ ((rule : Rule) → Stepped (now (text .entry)) (now (words .exit)) r (stepOf rule (bookAt (now (text .entry)) (now (words .entry)) counts) (label (nameAt (now (text .entry)) name)))) ⌝ }
 {
     let count = counts.labels;
     if names::find_label(text, words, counts, named(text, name)) < count {
@@ -124,15 +126,16 @@ pub fn add_node(
     text: &[u8],
     words: &mut [u32],
     counts: BookCounts,
+    rule: NameRule,
     name: Part,
     read: EntriesRead,
 ) -> LineStep
     requires { ⌜ NameAsked (now text) name × Fits (now text) (now words) counts × (read .count ≤ 65536) ⌝ }
     ensures { λ r. ⌜ ((es : List Entry) → EntriesKnown (now (text .entry)) (now (words .entry)) counts vattrNames (counts .vattrs) es read
-        → Stepped (now (text .entry)) (now (words .exit)) r (stepOf (bookAt (now (text .entry)) (now (words .entry)) counts) (node (nameAt (now (text .entry)) name) es))) ⌝ }
+        → Stepped (now (text .entry)) (now (words .exit)) r (stepOf rule (bookAt (now (text .entry)) (now (words .entry)) counts) (node (nameAt (now (text .entry)) name) es))) ⌝ }
 {
     let count = counts.nodes;
-    let there = names::find_node(text, words, counts, named(text, name)) < count;
+    let there = names::find_alike(text, words, counts, rule, named(text, name)) < count;
     let full = is_full(count, MAX_NODES, counts.entries, read.count);
     let fault = owner_fault(there, read.fault, full);
     if fault != 0 {
@@ -154,8 +157,8 @@ pub fn add_relationship(
     read: EntriesRead,
 ) -> LineStep
     requires { ⌜ NameAsked (now text) label × NameAsked (now text) from × NameAsked (now text) to × Fits (now text) (now words) counts × (read .count ≤ 65536) ⌝ }
-    ensures { λ r. ⌜ ((es : List Entry) → EntriesKnown (now (text .entry)) (now (words .entry)) counts eattrNames (counts .eattrs) es read
-        → Stepped (now (text .entry)) (now (words .exit)) r (stepOf (bookAt (now (text .entry)) (now (words .entry)) counts) (rel (nameAt (now (text .entry)) label) (nameAt (now (text .entry)) from) (nameAt (now (text .entry)) to) es))) ⌝ }
+    ensures { λ r. ⌜ ((rule : Rule) (es : List Entry) → EntriesKnown (now (text .entry)) (now (words .entry)) counts eattrNames (counts .eattrs) es read
+        → Stepped (now (text .entry)) (now (words .exit)) r (stepOf rule (bookAt (now (text .entry)) (now (words .entry)) counts) (rel (nameAt (now (text .entry)) label) (nameAt (now (text .entry)) from) (nameAt (now (text .entry)) to) es))) ⌝ }
 {
     let l = names::find_label(text, words, counts, named(text, label));
     if counts.labels <= l {

@@ -1,5 +1,6 @@
 pub mod ListedLaws
 pub mod NameLaws
+pub mod AlikeLaws
 pub mod RelationshipLaws
 pub mod Walks
 pub mod ValueLaws

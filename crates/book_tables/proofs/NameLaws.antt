@@ -12,7 +12,6 @@ use Rattle.model.specs.Bytes.{Bytes, same}
 use Rattle.model.specs.Lists.{any, placeWhere}
 use Rattle.model.specs.Names.{mem, place}
 use Rattle.model.specs.Answers.{partOf}
-use Rattle.chains.specs.Slots.{slotOf}
 use Rattle.model.proofs.Decides.{same→eq, same-refl}
 use Rattle.book_tables.specs.Listed.{listed}
 use Rattle.model.specs.Book.{attrNames, nodeNames}
@@ -114,15 +113,6 @@ module _ (name text : Bytes) (words : List ℕ) (offset count : ℕ) where
       either (below-or-not (place name (namesAt text words offset count)) count)
       (λ m. f .differ i (place name (namesAt text words offset count)) l m (sym e ∙ sym (place-named text words offset count name m)))
       (λ m. let no = place-out text words offset count name m in let z : _≡_ {A = ℕ} 0 1 = cc in absurd (omega arith))
-
-  -- names with another slot are other names
-  pub found-none-in-slot : ((i : ℕ) → i < count → slotOf (nameOf text words offset i) ≡ slotOf name → same name (nameOf text words offset i) ≡ false)
-      → count ≡ place name (namesAt text words offset count)
-  found-none-in-slot h = found-none count refl (scan-all (same name) (nameOf text words offset) count (λ i l. go i l (same name (nameOf text words offset i)) refl))
-    where
-      go : (i : ℕ) → i < count → (b : Bool) → same name (nameOf text words offset i) ≡ b → same name (nameOf text words offset i) ≡ false
-      go i l true e = h i l (ap slotOf (sym (same-equal name (nameOf text words offset i) e)))
-      go i l false e = e
 
 -- the part of the text that a word says
 pub word-slice : (text : Bytes) (w : ℕ) → take (w / 32 + w % 32 - w / 32) (drop (w / 32) text) ≡ nameIn text w

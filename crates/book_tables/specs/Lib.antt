@@ -3,6 +3,7 @@ pub mod Layout
 pub mod View
 pub mod Fits
 pub mod Owners
+pub mod Alike
 pub mod Agree
 pub mod Stores
 pub mod ValueWords

@@ -47,6 +47,12 @@ pub struct BookCounts {
     pub entries: usize,
 }
 
+// Which names of nodes are taken for the same: the very name, or names that are equal but for the case of letters.
+pub enum NameRule {
+    Exact,
+    AnyCase,
+}
+
 // Who has attributes: nodes, and relationships.
 pub enum Owner {
     Node,

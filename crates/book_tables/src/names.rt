@@ -2,19 +2,22 @@
 ghost use mathlib.Core.Path.{_≡_};
 ghost use Prim.Native.Nat.{_+_, _/_, _%_, _≤_, _<_};
 ghost use lib.ListN.{length};
-ghost use Rattle.model.specs.Bytes.{same};
+ghost use Rattle.chains.specs.Slots.{lowered};
 ghost use Rattle.model.specs.Names.{place};
 ghost use Rattle.model.specs.Book.{attrNames, nodeNames};
 ghost use Rattle.book_tables.specs.View.{wordAt, nameIn, slotIn, namesAt, bookAt};
 ghost use Rattle.book_tables.specs.Fits.{Inside, NamesFit, Fits};
 ghost use Rattle.book_tables.specs.Owners.{attrsOf};
+ghost use Rattle.book_tables.specs.Alike.{sameButCase, alike, NodeAlike};
 use crate::BookCounts;
 use crate::LABEL_NAMES;
 use crate::NODE_HEADS;
 use crate::NODE_LINKS;
 use crate::NODE_NAMES;
+use crate::NameRule;
 use crate::Owner;
 use crate::owners;
+use chains::slots::CASE;
 
 // A name's word is its start times 32 and its length.
 pub const NAME_LENGTHS: usize = 32;
@@ -26,7 +29,7 @@ pub fn find_name(text: &[u8], words: &[u32], offset: usize, count: usize, name: 
 {
     let mut i = 0;
     while i < count {
-        if is_named(text, words, offset + i, name) {
+        if is_named(text, words, offset + i, NameRule::Exact, name) {
             return i;
         }
         i += 1;
@@ -56,11 +59,25 @@ pub fn find_node(text: &[u8], words: &[u32], counts: BookCounts, name: &[u8]) ->
     requires { ⌜ Fits (now text) (now words) counts ⌝ }
     ensures { λ r. ⌜ r ≡ place (now (name .entry)) (nodeNames (bookAt (now (text .entry)) (now (words .entry)) counts)) ⌝ }
 {
+    find_alike(text, words, counts, NameRule::Exact, name)
+}
+
+// The number of a node whose name is taken for the same by a rule, or how many nodes there are.
+pub fn find_alike(
+    text: &[u8],
+    words: &[u32],
+    counts: BookCounts,
+    rule: NameRule,
+    name: &[u8],
+) -> usize
+    requires { ⌜ Fits (now text) (now words) counts ⌝ }
+    ensures { λ r. ⌜ NodeAlike rule (now (text .entry)) (now (words .entry)) counts (now (name .entry)) r ⌝ }
+{
     let count = counts.nodes;
     let mut entry = chains::first(words, NODE_HEADS, chains::slots::slot(name));
     while 0 < entry {
         let node = entry - 1;
-        if is_named(text, words, NODE_NAMES + node, name) {
+        if is_named(text, words, NODE_NAMES + node, rule, name) {
             return node;
         }
         entry = chains::next(words, NODE_LINKS, node);
@@ -68,15 +85,55 @@ pub fn find_node(text: &[u8], words: &[u32], counts: BookCounts, name: &[u8]) ->
     count
 }
 
-// Whether the name's word at a place says this name.
-fn is_named(text: &[u8], words: &[u32], at: usize, name: &[u8]) -> bool
+// Whether the name's word at a place says a name that is taken for this one by a rule.
+fn is_named(text: &[u8], words: &[u32], at: usize, rule: NameRule, name: &[u8]) -> bool
     requires { ⌜ (at < length (now words)) × Inside (now text) (wordAt (now words) at / 32) (wordAt (now words) at % 32) ⌝ }
-    ensures { λ r. ⌜ r ≡ same (now (name .entry)) (nameIn (now (text .entry)) (wordAt (now (words .entry)) at)) ⌝ }
+    ensures { λ r. ⌜ r ≡ alike rule (now (name .entry)) (nameIn (now (text .entry)) (wordAt (now (words .entry)) at)) ⌝ }
 {
     let word = words[at] as usize;
     let start = word / NAME_LENGTHS;
     let end = start + word % NAME_LENGTHS;
-    text::compare::same_bytes(name, &text[start..end])
+    is_alike(rule, name, &text[start..end])
+}
+
+// Whether two names are taken for the same by a rule.
+fn is_alike(rule: NameRule, a: &[u8], b: &[u8]) -> bool
+    ensures { λ r. ⌜ r ≡ alike rule (now (a .entry)) (now (b .entry)) ⌝ }
+{
+    match rule {
+        NameRule::Exact => text::compare::same_bytes(a, b),
+        NameRule::AnyCase => same_but_case(a, b),
+    }
+}
+
+// Whether two names are equal but for the case of letters.
+fn same_but_case(a: &[u8], b: &[u8]) -> bool
+    ensures { λ r. ⌜ r ≡ sameButCase (now (a .entry)) (now (b .entry)) ⌝ }
+{
+    if a.len() != b.len() {
+        return false;
+    }
+    let mut i = 0;
+    while i < a.len() {
+        if small(a[i]) != small(b[i]) {
+            return false;
+        }
+        i += 1;
+    }
+    true
+}
+
+// A byte, an upper case letter as the lower case one.
+fn small(b: u8) -> u8
+    ensures { λ r. ⌜ r ≡ lowered b ⌝ }
+{
+    if b < b'A' {
+        return b;
+    }
+    if b'Z' < b {
+        return b;
+    }
+    b + CASE
 }
 
 // The slot of the name that a word says.

@@ -4,7 +4,7 @@ use Rattle.book.proofs.LoadLaws.{empty-is, empty-fits, step-refuses, st
 use Rattle.text.proofs.LineReads.{line-forward, line-inside, lines-fault, lines-known, lines-over}
 use Rattle.book_tables.specs.Fits.{Fits}
 use Rattle.book_tables.specs.View.{bookAt}
-use Rattle.model.specs.ReadBook.{bookStep}
+use Rattle.book.specs.Loaded.{bookStepBy}
 use Rattle.model.specs.Book.{Book, emptyBook}
 use Rattle.model.specs.Lines.{readLines, linesOf}
 use lib.ListN.{length, drop}
@@ -14,24 +14,12 @@ use borrow.Author.Needs.{needs}
 use native.Mathlib.Omega.{arith}
 use Rattle.book.proofs.load.load_lines.Statement.{statement}
 use Rattle.book.proofs.load.load_lines.Tie as tie
-use Rattle.book.proofs.load.load_lines.Reads as reads
-use Rattle.book.proofs.load.load_lines.Lts as lts
-use Rattle.book.proofs.load.line_step.Reads as line-step-reads
-use Rattle.book_tables.proofs.no_counts.Reads as no-counts-reads
-use Rattle.text.proofs.lines.line_end.Reads as line-end-reads
-use Rattle.fill.proofs.fill.Reads as fill-reads
 
 abbrev Inv-loop : tie.InvT-loop
-Inv-loop text words₀ at₀ line₀ counts₀ words at line counts = (length words ≡ length words₀) × Fits text words counts × (at ≤ length text + 1) × (line ≤ at + 1) × (readLines 1 bookStep line (bookAt text words counts) (linesOf (drop at text)) ≡ readLines 1 bookStep 1 emptyBook (linesOf text))
+Inv-loop text words₀ rule at₀ line₀ counts₀ words at line counts = (length words ≡ length words₀) × Fits text words counts × (at ≤ length text + 1) × (line ≤ at + 1) × (readLines 1 (bookStepBy rule) line (bookAt text words counts) (linesOf (drop at text)) ≡ readLines 1 (bookStepBy rule) 1 emptyBook (linesOf text))
 
 abbrev μ-loop : tie.MeasureT-loop
-μ-loop text words₀ at₀ line₀ counts₀ words at line counts = length text + 1 - at
-
-clear-chains-requires : tie.Need-clear-chains-requires Inv-loop μ-loop
-clear-chains-requires c κs = search needs
-
-no-counts-requires : tie.Need-no-counts-requires Inv-loop μ-loop
-no-counts-requires c κs = search needs
+μ-loop text words₀ rule at₀ line₀ counts₀ words at line counts = length text + 1 - at
 
 loop-holds : tie.Need-loop-holds Inv-loop μ-loop
 loop-holds c =
@@ -40,30 +28,15 @@ loop-holds c =
       rw (c .no-counts .ensures, c .before .before .before .clear-chains .ensures) (empty-fits (a .args .text .now) (a .args .words .now) (a .pre .1)),
       omega arith,
       omega arith,
-      ap (λ (b : Book). readLines 1 bookStep 1 b (linesOf (a .args .text .now))) (ap (bookAt (a .args .text .now) _) (c .no-counts .ensures) ∙ empty-is (a .args .text .now) _),
+      ap (λ (b : Book). readLines 1 (bookStepBy (a .args .rule)) 1 b (linesOf (a .args .text .now))) (ap (bookAt (a .args .text .now) _) (c .no-counts .ensures) ∙ empty-is (a .args .text .now) _),
     )
-
-line-end-requires : tie.Need-line-end-requires Inv-loop μ-loop
-line-end-requires c κs = search needs
 
 line-step-requires : tie.Need-line-step-requires Inv-loop μ-loop
 line-step-requires c κs = record { fits = c .before .before .before .loop .inv .1; limit = c .before .before .before .before .before .before .before .before .before .before .before .pre .0; forward = line-forward (c .before .before .before .before .before .before .before .before .before .before .before .args .text .now) (c .before .before .before .loop .at) _ (c .before .line-end .ensures) (c .before .before .loop-test .taken); inside = line-inside (c .before .before .before .before .before .before .before .before .before .before .before .args .text .now) (c .before .before .before .loop .at) _ (c .before .line-end .ensures) (c .before .before .loop-test .taken) }
 
-enum-known-number : tie.Need-enum-known-number Inv-loop μ-loop
-enum-known-number c = search needs
-
-fill-requires : tie.Need-fill-requires Inv-loop μ-loop
-fill-requires c κs = search needs
-
-same-length : tie.Need-same-length Inv-loop μ-loop
-same-length c = search needs
-
 returns : tie.Need-returns Inv-loop μ-loop
 unfolding refusal refusalOf
-returns c = (sym (c .before .before .before .before .before .before .before .before .before .before .before .before .before .loop .inv .4) ∙ lines-fault (c .before .before .before .before .before .before .before .before .before .before .before .before .before .before .before .before .before .before .before .before .before .args .text .now) (c .before .before .before .before .before .before .before .before .before .before .before .before .before .loop .at) _ (c .before .before .before .before .before .before .before .before .before .before .before .line-end .ensures) (c .before .before .before .before .before .before .before .before .before .before .before .before .loop-test .taken) 1 bookStep (c .before .before .before .before .before .before .before .before .before .before .before .before .before .loop .line) _ _ (step-refuses (c .before .before .before .before .before .before .before .before .before .before .before .before .before .before .before .before .before .before .before .before .before .args .text .now) _ _ _ _ (c .before .before .before .before .before .number .given .1) (c .before .before .before .before .before .before .before .before .before .line-step .ensures)), filled-ones _ _ (c .before .before .fill .ensures))
-
-enum-known-more : tie.Need-enum-known-more Inv-loop μ-loop
-enum-known-more c = search needs
+returns c = (sym (c .before .before .before .before .before .before .before .before .before .before .before .before .before .loop .inv .4) ∙ lines-fault (c .before .before .before .before .before .before .before .before .before .before .before .before .before .before .before .before .before .before .before .before .before .args .text .now) (c .before .before .before .before .before .before .before .before .before .before .before .before .before .loop .at) _ (c .before .before .before .before .before .before .before .before .before .before .before .line-end .ensures) (c .before .before .before .before .before .before .before .before .before .before .before .before .loop-test .taken) 1 (bookStepBy (c .before .before .before .before .before .before .before .before .before .before .before .before .before .before .before .before .before .before .before .before .before .args .rule)) (c .before .before .before .before .before .before .before .before .before .before .before .before .before .loop .line) _ _ (step-refuses (c .before .before .before .before .before .before .before .before .before .before .before .before .before .before .before .before .before .before .before .before .before .args .text .now) _ _ _ _ (c .before .before .before .before .before .number .given .1) (c .before .before .before .before .before .before .before .before .before .line-step .ensures)), filled-ones _ _ (c .before .before .fill .ensures))
 
 add-at : tie.Need-add-at Inv-loop μ-loop
 add-at c = omega (arith, c .before .before .before .before .before .before .before .before .before .before .before .before .before .before .before .before .before .pre .0, line-inside (c .before .before .before .before .before .before .before .before .before .before .before .before .before .before .before .before .before .args .text .now) (c .before .before .before .before .before .before .before .before .before .loop .at) _ (c .before .before .before .before .before .before .before .line-end .ensures) (c .before .before .before .before .before .before .before .before .loop-test .taken))
@@ -76,13 +49,10 @@ loop-less c = omega (arith, line-forward (c .before .before .before .before .bef
 
 loop-again : tie.Need-loop-again Inv-loop μ-loop
 loop-again c = let s = step-adds (c .before .before .before .before .before .before .before .before .before .before .before .before .before .before .before .before .before .args .text .now) _ _ _ _ (c .before .more .given .1) (c .before .before .before .before .before .line-step .ensures) in
-    (search needs, s .1, omega (arith, line-inside (c .before .before .before .before .before .before .before .before .before .before .before .before .before .before .before .before .before .args .text .now) (c .before .before .before .before .before .before .before .before .before .loop .at) _ (c .before .before .before .before .before .before .before .line-end .ensures) (c .before .before .before .before .before .before .before .before .loop-test .taken)), omega (arith, c .before .before .before .before .before .before .before .before .before .loop .inv .3, line-forward (c .before .before .before .before .before .before .before .before .before .before .before .before .before .before .before .before .before .args .text .now) (c .before .before .before .before .before .before .before .before .before .loop .at) _ (c .before .before .before .before .before .before .before .line-end .ensures) (c .before .before .before .before .before .before .before .before .loop-test .taken)), sym (lines-known (c .before .before .before .before .before .before .before .before .before .before .before .before .before .before .before .before .before .args .text .now) (c .before .before .before .before .before .before .before .before .before .loop .at) _ (c .before .before .before .before .before .before .before .line-end .ensures) (c .before .before .before .before .before .before .before .before .loop-test .taken) 1 bookStep (c .before .before .before .before .before .before .before .before .before .loop .line) _ _ (s .0)) ∙ c .before .before .before .before .before .before .before .before .before .loop .inv .4)
-
-same-length-2 : tie.Need-same-length-2 Inv-loop μ-loop
-same-length-2 c = search needs
+    (search needs, s .1, omega (arith, line-inside (c .before .before .before .before .before .before .before .before .before .before .before .before .before .before .before .before .before .args .text .now) (c .before .before .before .before .before .before .before .before .before .loop .at) _ (c .before .before .before .before .before .before .before .line-end .ensures) (c .before .before .before .before .before .before .before .before .loop-test .taken)), omega (arith, c .before .before .before .before .before .before .before .before .before .loop .inv .3, line-forward (c .before .before .before .before .before .before .before .before .before .before .before .before .before .before .before .before .before .args .text .now) (c .before .before .before .before .before .before .before .before .before .loop .at) _ (c .before .before .before .before .before .before .before .line-end .ensures) (c .before .before .before .before .before .before .before .before .loop-test .taken)), sym (lines-known (c .before .before .before .before .before .before .before .before .before .before .before .before .before .before .before .before .before .args .text .now) (c .before .before .before .before .before .before .before .before .before .loop .at) _ (c .before .before .before .before .before .before .before .line-end .ensures) (c .before .before .before .before .before .before .before .before .loop-test .taken) 1 (bookStepBy (c .before .before .before .before .before .before .before .before .before .before .before .before .before .before .before .before .before .args .rule)) (c .before .before .before .before .before .before .before .before .before .loop .line) _ _ (s .0)) ∙ c .before .before .before .before .before .before .before .before .before .loop .inv .4)
 
 returns-2 : tie.Need-returns-2 Inv-loop μ-loop
-returns-2 c = (sym (c .before .loop .inv .4) ∙ lines-over (c .before .before .before .before .before .before .before .before .before .args .text .now) (c .before .loop .at) 1 bookStep (c .before .loop .line) _ (c .loop-test .left), c .before .loop .inv .1)
+returns-2 c = (sym (c .before .loop .inv .4) ∙ lines-over (c .before .before .before .before .before .before .before .before .before .args .text .now) (c .before .loop .at) 1 (bookStepBy (c .before .before .before .before .before .before .before .before .before .args .rule)) (c .before .loop .line) _ (c .loop-test .left), c .before .loop .inv .1)
 
 pub load-lines-spec : {M : Type 1} → statement M
 load-lines-spec =
@@ -90,19 +60,19 @@ load-lines-spec =
     (tie.spec
     Inv-loop
     μ-loop
-    clear-chains-requires
-    no-counts-requires
+    (λ c κs. search needs)
+    (λ c κs. search needs)
     loop-holds
-    line-end-requires
+    (λ c κs. search needs)
     line-step-requires
-    enum-known-number
-    fill-requires
-    same-length
+    (λ c. search needs)
+    (λ c κs. search needs)
+    (λ c. search needs)
     returns
-    enum-known-more
+    (λ c. search needs)
     add-at
     add-line
     loop-less
     loop-again
-    same-length-2
+    (λ c. search needs)
     returns-2)

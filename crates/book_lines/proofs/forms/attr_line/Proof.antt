@@ -26,15 +26,17 @@ add-attr-requires c κs =
 
 returns : tie.Need-returns
 returns c =
+    λ rule.
     let s = c .before .before .before .before .before .before .before .before .before .before .before in
     let a = s .args in
-    rw (attr-step (a .text .now) (a .line .now) (a .words .now) (a .counts) (a .base) (a .from) (s .pre) _ (c .before .before .before .before .before .before .before .read-attr .ensures .0) (c .before .before .before .before .before .before .before .read-attr .ensures .1) (declares (a .owner)) _ _ _ (c .before .before .before .before .before .p .given .1)) (c .before .before .add-attr .ensures)
+    rw (attr-step rule (a .text .now) (a .line .now) (a .words .now) (a .counts) (a .base) (a .from) (s .pre) _ (c .before .before .before .before .before .before .before .read-attr .ensures .0) (c .before .before .before .before .before .before .before .read-attr .ensures .1) (declares (a .owner)) _ _ _ (c .before .before .before .before .before .p .given .1)) (c .before .before .add-attr .ensures rule)
 
 returns-2 : tie.Need-returns-2
 returns-2 c =
+    λ rule.
     let s = c .before .before .before .before .before .before in
     let a = s .args in
-    attr-broken (a .text .now) (a .line .now) (a .words .now) (a .counts) (a .base) (a .from) (s .pre) _ (c .before .before .read-attr .ensures .0) (c .before .before .read-attr .ensures .1) (declares (a .owner)) (c .enum-told .given .1)
+    attr-broken rule (a .text .now) (a .line .now) (a .words .now) (a .counts) (a .base) (a .from) (s .pre) _ (c .before .before .read-attr .ensures .0) (c .before .before .read-attr .ensures .1) (declares (a .owner)) (c .enum-told .given .1)
 
 pub attr-line-spec : {M : Type 1} → statement M
 attr-line-spec =

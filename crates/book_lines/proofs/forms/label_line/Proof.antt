@@ -16,13 +16,13 @@ add-label-requires : tie.Need-add-label-requires
 add-label-requires c κs = (piece-asked (c .before .before .before .before .before .before .before .before .before .before .args .text .now) (c .before .before .before .before .before .before .before .before .before .before .args .line .now) (c .before .before .before .before .before .before .before .before .before .before .args .words .now) (c .before .before .before .before .before .before .before .before .before .before .args .counts) (c .before .before .before .before .before .before .before .before .before .before .args .base) (c .before .before .before .before .before .before .before .before .before .before .args .from) _ _ (c .before .before .before .before .before .before .before .before .before .before .pre) (placed-at (c .before .before .before .before .before .before .before .before .before .before .args .line .now) (c .before .before .before .before .before .before .before .before .before .before .args .from) _ (c .before .before .before .before .p .given .1) (c .before .before .before .before .before .before .next-name .ensures .placed)), c .before .before .before .before .before .before .before .before .before .before .pre .fits)
 
 returns : tie.Need-returns
-returns c = rw (label-step (c .before .before .before .before .before .before .before .before .before .before .before .before .before .args .text .now) (c .before .before .before .before .before .before .before .before .before .before .before .before .before .args .line .now) (c .before .before .before .before .before .before .before .before .before .before .before .before .before .args .words .now) (c .before .before .before .before .before .before .before .before .before .before .before .before .before .args .counts) (c .before .before .before .before .before .before .before .before .before .before .before .before .before .args .base) (c .before .before .before .before .before .before .before .before .before .before .before .before .before .args .from) (c .before .before .before .before .before .before .before .before .before .before .before .before .before .pre) _ (c .before .before .before .before .before .before .before .before .before .next-name .ensures) _ _ (c .before .before .before .before .before .before .before .p .given .1) _ (c .before .before .before .before .before .form-closes .ensures) (c .before .before .before .before .if1 .taken)) (c .before .before .add-label .ensures)
+returns c = λ rule. rw (label-step rule (c .before .before .before .before .before .before .before .before .before .before .before .before .before .args .text .now) (c .before .before .before .before .before .before .before .before .before .before .before .before .before .args .line .now) (c .before .before .before .before .before .before .before .before .before .before .before .before .before .args .words .now) (c .before .before .before .before .before .before .before .before .before .before .before .before .before .args .counts) (c .before .before .before .before .before .before .before .before .before .before .before .before .before .args .base) (c .before .before .before .before .before .before .before .before .before .before .before .before .before .args .from) (c .before .before .before .before .before .before .before .before .before .before .before .before .before .pre) _ (c .before .before .before .before .before .before .before .before .before .next-name .ensures) _ _ (c .before .before .before .before .before .before .before .p .given .1) _ (c .before .before .before .before .before .form-closes .ensures) (c .before .before .before .before .if1 .taken)) (c .before .before .add-label .ensures rule)
 
 returns-2 : tie.Need-returns-2
-returns-2 c = label-open (c .before .before .before .before .before .before .before .before .before .args .text .now) (c .before .before .before .before .before .before .before .before .before .args .line .now) (c .before .before .before .before .before .before .before .before .before .args .words .now) (c .before .before .before .before .before .before .before .before .before .args .counts) (c .before .before .before .before .before .before .before .before .before .args .base) (c .before .before .before .before .before .before .before .before .before .args .from) (c .before .before .before .before .before .before .before .before .before .pre) _ (c .before .before .before .before .before .next-name .ensures) _ _ (c .before .before .before .p .given .1) _ (c .before .form-closes .ensures) (c .if1 .left)
+returns-2 c = λ rule. label-open rule (c .before .before .before .before .before .before .before .before .before .args .text .now) (c .before .before .before .before .before .before .before .before .before .args .line .now) (c .before .before .before .before .before .before .before .before .before .args .words .now) (c .before .before .before .before .before .before .before .before .before .args .counts) (c .before .before .before .before .before .before .before .before .before .args .base) (c .before .before .before .before .before .before .before .before .before .args .from) (c .before .before .before .before .before .before .before .before .before .pre) _ (c .before .before .before .before .before .next-name .ensures) _ _ (c .before .before .before .p .given .1) _ (c .before .form-closes .ensures) (c .if1 .left)
 
 returns-3 : tie.Need-returns-3
-returns-3 c = label-broken (c .before .before .before .before .before .before .args .text .now) (c .before .before .before .before .before .before .args .line .now) (c .before .before .before .before .before .before .args .words .now) (c .before .before .before .before .before .before .args .counts) (c .before .before .before .before .before .before .args .base) (c .before .before .before .before .before .before .args .from) (c .before .before .before .before .before .before .pre) _ (c .before .before .next-name .ensures) (c .enum-told .given .1)
+returns-3 c = λ rule. label-broken rule (c .before .before .before .before .before .before .args .text .now) (c .before .before .before .before .before .before .args .line .now) (c .before .before .before .before .before .before .args .words .now) (c .before .before .before .before .before .before .args .counts) (c .before .before .before .before .before .before .args .base) (c .before .before .before .before .before .before .args .from) (c .before .before .before .before .before .before .pre) _ (c .before .before .next-name .ensures) (c .enum-told .given .1)
 
 pub label-line-spec : {M : Type 1} → statement M
 label-line-spec =

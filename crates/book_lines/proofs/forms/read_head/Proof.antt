@@ -20,7 +20,7 @@ unfolding partOf
 returns c = rw (headed (c .before .before .before .before .before .before .before .before .before .before .before .before .before .args .line .now) (c .before .before .before .before .before .before .before .before .before .before .before .before .before .args .from) _ (c .before .before .before .before .before .before .before .before .before .next-word .ensures) _ _ (c .before .before .before .before .before .before .before .p .given .1), ← c .before .before .before .before .head .ensures) (c .before .before .read-rest .ensures)
 
 returns-2 : tie.Need-returns-2
-returns-2 c = step-broken _ _ (headless (c .before .before .before .before .before .before .args .line .now) (c .before .before .before .before .before .before .args .from) _ (c .before .before .next-word .ensures) (c .enum-told .given .1))
+returns-2 c = step-broken _ _ _ (headless (c .before .before .before .before .before .before .args .line .now) (c .before .before .before .before .before .before .args .from) _ (c .before .before .next-word .ensures) (c .enum-told .given .1))
 
 pub read-head-spec : {M : Type 1} → statement M
 read-head-spec =

@@ -7,7 +7,7 @@ returns : tie.Need-returns
 returns c = rw (opens-at (c .before .before .before .before .before .before .before .before .before .before .before .args .line .now) _ _ (c .before .before .before .before .before .before .before .open-form .ensures) (c .before .before .before .before .before .from .given .1)) (c .before .before .read-head .ensures)
 
 returns-2 : tie.Need-returns-2
-returns-2 c = step-broken _ _ (opens-none (c .before .before .before .before .before .before .args .line .now) _ (c .before .before .open-form .ensures) (c .enum-told .given .1))
+returns-2 c = step-broken _ _ _ (opens-none (c .before .before .before .before .before .before .args .line .now) _ (c .before .before .open-form .ensures) (c .enum-told .given .1))
 
 pub read-line-spec : {M : Type 1} → statement M
 read-line-spec =

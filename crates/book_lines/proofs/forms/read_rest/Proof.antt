@@ -6,11 +6,11 @@ use Rattle.book_lines.proofs.forms.read_rest.Tie as tie
 
 returns : tie.Need-returns
 unfolding lineOf
-returns c = rw (c .before .before .before .before .before .head .given .1) (c .before .before .attr-line .ensures)
+returns c = rw (c .before .before .before .before .before .head .given .1) (c .before .before .attr-line .ensures (c .before .before .before .before .before .before .before .before .before .before .args .rule))
 
 returns-2 : tie.Need-returns-2
 unfolding lineOf
-returns-2 c = rw (c .before .before .before .before .enum-told .given .1) (c .before .before .label-line .ensures)
+returns-2 c = rw (c .before .before .before .before .enum-told .given .1) (c .before .before .label-line .ensures (c .before .before .before .before .before .before .before .before .before .args .rule))
 
 returns-3 : tie.Need-returns-3
 unfolding lineOf
@@ -18,10 +18,10 @@ returns-3 c = rw (c .before .before .before .before .enum-told2 .given .1) (c .b
 
 returns-4 : tie.Need-returns-4
 unfolding lineOf
-returns-4 c = rw (c .before .before .before .before .enum-told3 .given .1) (c .before .before .rel-line .ensures)
+returns-4 c = rw (c .before .before .before .before .enum-told3 .given .1) (c .before .before .rel-line .ensures (c .before .before .before .before .before .before .before .before .before .args .rule))
 
 returns-5 : tie.Need-returns-5
-returns-5 c = step-broken _ _ (form-other (c .before .before .before .before .before .args .line .now) (c .before .before .before .before .before .args .from) _ (c .enum-told4 .given .1))
+returns-5 c = step-broken _ _ _ (form-other (c .before .before .before .before .before .args .line .now) (c .before .before .before .before .before .args .from) _ (c .enum-told4 .given .1))
 
 pub read-rest-spec : {M : Type 1} → statement M
 read-rest-spec =

@@ -13,14 +13,14 @@ read-entries-requires c κs =
     let a = s .args in
     (s .pre, placed-at (a .line .now) (a .from) _ (c .before .before .p .given .1) (c .before .before .before .before .next-name .ensures .placed) .inside)
 
-add-t19 : tie.Need-add-t19
-add-t19 c =
+add-t20 : tie.Need-add-t20
+add-t20 c =
     let s = c .before .before .before .before .before .before .before .before .before .before .before .before .before .before .before in
     let a = s .args in
     omega (arith, s .pre .inside, s .pre .limit, placed-at (a .line .now) (a .from) _ (c .before .before .before .before .before .before .before .before .before .p .given .1) (c .before .before .before .before .before .before .before .before .before .before .before .next-name .ensures .placed))
 
-sub-t20 : tie.Need-sub-t20
-sub-t20 c =
+sub-t21 : tie.Need-sub-t21
+sub-t21 c =
     let s = c .before .before .before .before .before .before .before .before .before .before .before .before .before .before .before in
     let a = s .args in
     omega (arith, placed-at (a .line .now) (a .from) _ (c .before .before .before .before .before .before .before .before .before .p .given .1) (c .before .before .before .before .before .before .before .before .before .before .before .next-name .ensures .placed))
@@ -36,19 +36,19 @@ returns c =
     let s = c .before .before .before .before .before .before .before .before .before .before .before .before .before .before .before .before .before .before in
     let a = s .args in
     let got = entries-got (a .text .now) (a .line .now) (a .words .now) _ (a .counts) _ _ _ _ _ (c .before .before .before .before .before .before .before .before .before .read-entries .ensures) (c .before .before .before .before .before .read .given .1) in
-    rw (node-step (a .text .now) (a .line .now) (a .words .now) (a .counts) (a .base) (a .from) (s .pre) _ (c .before .before .before .before .before .before .before .before .before .before .before .before .before .before .next-name .ensures) _ _ (c .before .before .before .before .before .before .before .before .before .before .before .before .p .given .1) _ _ _ _ (c .before .before .before .before .before .before .before .before .before .read-entries .ensures) _ (c .before .before .before .before .before .read .given .1) got) (c .before .before .add-node .ensures (got .got) (got .after))
+    rw (node-step (a .rule) (a .text .now) (a .line .now) (a .words .now) (a .counts) (a .base) (a .from) (s .pre) _ (c .before .before .before .before .before .before .before .before .before .before .before .before .before .before .next-name .ensures) _ _ (c .before .before .before .before .before .before .before .before .before .before .before .before .p .given .1) _ _ _ _ (c .before .before .before .before .before .before .before .before .before .read-entries .ensures) _ (c .before .before .before .before .before .read .given .1) got) (c .before .before .add-node .ensures (got .got) (got .after))
 
 returns-2 : tie.Need-returns-2
 returns-2 c =
     let s = c .before .before .before .before .before .before .before .before .before .before .before .before .before in
     let a = s .args in
-    node-spoilt (a .text .now) (a .line .now) (a .words .now) (a .counts) (a .base) (a .from) (s .pre) _ (c .before .before .before .before .before .before .before .before .before .next-name .ensures) _ _ (c .before .before .before .before .before .before .before .p .given .1) _ _ _ _ (c .before .before .before .before .read-entries .ensures) (c .enum-told .given .1)
+    node-spoilt (a .rule) (a .text .now) (a .line .now) (a .words .now) (a .counts) (a .base) (a .from) (s .pre) _ (c .before .before .before .before .before .before .before .before .before .next-name .ensures) _ _ (c .before .before .before .before .before .before .before .p .given .1) _ _ _ _ (c .before .before .before .before .read-entries .ensures) (c .enum-told .given .1)
 
 returns-3 : tie.Need-returns-3
 returns-3 c =
     let s = c .before .before .before .before .before .before in
     let a = s .args in
-    node-broken (a .text .now) (a .line .now) (a .words .now) (a .counts) (a .base) (a .from) (s .pre) _ (c .before .before .next-name .ensures) (c .enum-told2 .given .1)
+    node-broken (a .rule) (a .text .now) (a .line .now) (a .words .now) (a .counts) (a .base) (a .from) (s .pre) _ (c .before .before .next-name .ensures) (c .enum-told2 .given .1)
 
 pub node-line-spec : {M : Type 1} → statement M
 node-line-spec =
@@ -58,8 +58,8 @@ node-line-spec =
     (λ c. search needs)
     read-entries-requires
     (λ c. search needs)
-    add-t19
-    sub-t20
+    add-t20
+    sub-t21
     add-node-requires
     (λ c. search needs)
     (λ c. search needs)

@@ -1,4 +1,4 @@
-use Rattle.book_lines.proofs.LineSteps.{rel-broken, rel-got, rel-spoilt, rel-step, entries-got, moved-asked}
+use Rattle.book_lines.proofs.LineSteps.{rel-broken, names-got, rel-spoilt, rel-step, entries-got, moved-asked}
 use Rattle.book_tables.proofs.AgreeLaws.{fits-kept}
 use native.Mathlib.Omega.{arith}
 use borrow.Author.Needs.{needs}
@@ -9,31 +9,31 @@ read-entries-requires : tie.Need-read-entries-requires
 read-entries-requires c κs =
     let s = c .before .before .before .before .before .before .before .before in
     let a = s .args in
-    (s .pre, rel-got (a .text .now) (a .line .now) (a .words .now) (a .counts) (a .base) (a .from) (s .pre) _ (c .before .before .before .before .read-names .ensures) _ _ _ _ (c .before .before .label .given .1) .inside)
+    (s .pre, names-got (a .line .now) (a .from) _ (c .before .before .before .before .read-names .ensures) _ _ _ _ (c .before .before .label .given .1) .inside)
 
 moved-requires : tie.Need-moved-requires
 moved-requires c κs =
     let s = c .before .before .before .before .before .before .before .before .before .before .before .before .before .before .before in
     let a = s .args in
-    omega (arith, s .pre .inside, s .pre .limit, rel-got (a .text .now) (a .line .now) (a .words .now) (a .counts) (a .base) (a .from) (s .pre) _ (c .before .before .before .before .before .before .before .before .before .before .before .read-names .ensures) _ _ _ _ (c .before .before .before .before .before .before .before .before .before .label .given .1))
+    omega (arith, s .pre .inside, s .pre .limit, names-got (a .line .now) (a .from) _ (c .before .before .before .before .before .before .before .before .before .before .before .read-names .ensures) _ _ _ _ (c .before .before .before .before .before .before .before .before .before .label .given .1))
 
 moved-requires-2 : tie.Need-moved-requires-2
 moved-requires-2 c κs =
     let s = c .before .before .before .before .before .before .before .before .before .before .before .before .before .before .before .before in
     let a = s .args in
-    omega (arith, s .pre .inside, s .pre .limit, rel-got (a .text .now) (a .line .now) (a .words .now) (a .counts) (a .base) (a .from) (s .pre) _ (c .before .before .before .before .before .before .before .before .before .before .before .before .read-names .ensures) _ _ _ _ (c .before .before .before .before .before .before .before .before .before .before .label .given .1))
+    omega (arith, s .pre .inside, s .pre .limit, names-got (a .line .now) (a .from) _ (c .before .before .before .before .before .before .before .before .before .before .before .before .read-names .ensures) _ _ _ _ (c .before .before .before .before .before .before .before .before .before .before .label .given .1))
 
 moved-requires-3 : tie.Need-moved-requires-3
 moved-requires-3 c κs =
     let s = c .before .before .before .before .before .before .before .before .before .before .before .before .before .before .before .before .before in
     let a = s .args in
-    omega (arith, s .pre .inside, s .pre .limit, rel-got (a .text .now) (a .line .now) (a .words .now) (a .counts) (a .base) (a .from) (s .pre) _ (c .before .before .before .before .before .before .before .before .before .before .before .before .before .read-names .ensures) _ _ _ _ (c .before .before .before .before .before .before .before .before .before .before .before .label .given .1))
+    omega (arith, s .pre .inside, s .pre .limit, names-got (a .line .now) (a .from) _ (c .before .before .before .before .before .before .before .before .before .before .before .before .before .read-names .ensures) _ _ _ _ (c .before .before .before .before .before .before .before .before .before .before .before .label .given .1))
 
 add-relationship-requires : tie.Need-add-relationship-requires
 add-relationship-requires c κs =
     let s = c .before .before .before .before .before .before .before .before .before .before .before .before .before .before .before .before .before .before in
     let a = s .args in
-    let n = rel-got (a .text .now) (a .line .now) (a .words .now) (a .counts) (a .base) (a .from) (s .pre) _ (c .before .before .before .before .before .before .before .before .before .before .before .before .before .before .read-names .ensures) _ _ _ _ (c .before .before .before .before .before .before .before .before .before .before .before .before .label .given .1) in
+    let n = names-got (a .line .now) (a .from) _ (c .before .before .before .before .before .before .before .before .before .before .before .before .before .before .read-names .ensures) _ _ _ _ (c .before .before .before .before .before .before .before .before .before .before .before .before .label .given .1) in
     let asked = moved-asked (a .text .now) (a .line .now) (a .words .now) (a .counts) (a .base) in (
       rw (c .before .before .moved .ensures) (asked _ (s .pre) (n .label)),
       rw (c .before .moved2 .ensures) (asked _ (s .pre) (n .start)),
@@ -44,22 +44,25 @@ add-relationship-requires c κs =
 
 returns : tie.Need-returns
 returns c =
+    λ rule.
     let s = c .before .before .before .before .before .before .before .before .before .before .before .before .before .before .before .before .before .before .before .before .before in
     let a = s .args in
     let got = entries-got (a .text .now) (a .line .now) (a .words .now) _ (a .counts) _ _ _ _ _ (c .before .before .before .before .before .before .before .before .before .before .before .before .read-entries .ensures) (c .before .before .before .before .before .before .before .before .read .given .1) in
-    rw (rel-step (a .text .now) (a .line .now) (a .words .now) (a .counts) (a .base) (a .from) (s .pre) _ (c .before .before .before .before .before .before .before .before .before .before .before .before .before .before .before .before .before .read-names .ensures) _ _ _ _ (c .before .before .before .before .before .before .before .before .before .before .before .before .before .before .before .label .given .1) _ _ _ _ (c .before .before .before .before .before .before .before .before .before .before .before .before .read-entries .ensures) _ (c .before .before .before .before .before .before .before .before .read .given .1) got, ← c .before .before .before .before .before .moved .ensures, ← c .before .before .before .before .moved2 .ensures, ← c .before .before .before .moved3 .ensures) (c .before .before .add-relationship .ensures (got .got) (got .after))
+    rw (rel-step rule (a .text .now) (a .line .now) (a .words .now) (a .counts) (a .base) (a .from) (s .pre) _ (c .before .before .before .before .before .before .before .before .before .before .before .before .before .before .before .before .before .read-names .ensures) _ _ _ _ (c .before .before .before .before .before .before .before .before .before .before .before .before .before .before .before .label .given .1) _ _ _ _ (c .before .before .before .before .before .before .before .before .before .before .before .before .read-entries .ensures) _ (c .before .before .before .before .before .before .before .before .read .given .1) got, ← c .before .before .before .before .before .moved .ensures, ← c .before .before .before .before .moved2 .ensures, ← c .before .before .before .moved3 .ensures) (c .before .before .add-relationship .ensures rule (got .got) (got .after))
 
 returns-2 : tie.Need-returns-2
 returns-2 c =
+    λ rule.
     let s = c .before .before .before .before .before .before .before .before .before .before .before .before .before in
     let a = s .args in
-    rel-spoilt (a .text .now) (a .line .now) (a .words .now) (a .counts) (a .base) (a .from) (s .pre) _ (c .before .before .before .before .before .before .before .before .before .read-names .ensures) _ _ _ _ (c .before .before .before .before .before .before .before .label .given .1) _ _ _ _ (c .before .before .before .before .read-entries .ensures) (c .enum-told .given .1)
+    rel-spoilt rule (a .text .now) (a .line .now) (a .words .now) (a .counts) (a .base) (a .from) (s .pre) _ (c .before .before .before .before .before .before .before .before .before .read-names .ensures) _ _ _ _ (c .before .before .before .before .before .before .before .label .given .1) _ _ _ _ (c .before .before .before .before .read-entries .ensures) (c .enum-told .given .1)
 
 returns-3 : tie.Need-returns-3
 returns-3 c =
+    λ rule.
     let s = c .before .before .before .before .before .before in
     let a = s .args in
-    rel-broken (a .text .now) (a .line .now) (a .words .now) (a .counts) (a .base) (a .from) (s .pre) _ (c .before .before .read-names .ensures) (c .enum-told2 .given .1)
+    rel-broken rule (a .text .now) (a .line .now) (a .words .now) (a .counts) (a .base) (a .from) (s .pre) _ (c .before .before .read-names .ensures) (c .enum-told2 .given .1)
 
 pub rel-line-spec : {M : Type 1} → statement M
 rel-line-spec =

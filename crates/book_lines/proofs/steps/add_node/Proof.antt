@@ -10,8 +10,8 @@ returns c =
     λ es after.
     let s = c .before .before .before .before .before .before .before .before in
     let a = s .args in
-    node-refused (a .text .now) (a .words .now) (a .counts) (s .pre .1) (a .read) es (a .name) (s .pre .0) after _
-    (rw (c .before .before .before .before .named .ensures) at (c .before .before .before .find-node .ensures)) _ (rw (c .before .before .is-full .ensures) at (c .before .owner-fault .ensures)) (c .if1 .taken)
+    node-refused (a .text .now) (a .words .now) (a .counts) (s .pre .1) (a .read) es (a .rule) (a .name) (s .pre .0) after _
+    (rw (c .before .before .before .before .named .ensures) at (c .before .before .before .find-alike .ensures)) _ (rw (c .before .before .is-full .ensures) at (c .before .owner-fault .ensures)) (c .if1 .taken)
 
 store-owner-requires : tie.Need-store-owner-requires
 store-owner-requires c κs =
@@ -26,8 +26,8 @@ returns-2 c =
     let a = s .args in
     let fault = rw (c .before .before .before .before .before .before .before .before .is-full .ensures) at (c .before .before .before .before .before .before .before .owner-fault .ensures) in
     rw (c .before .before .store-owner .ensures .0, c .before .before .store-owner .ensures .1, c .before .before .before .before .slot-of .ensures .0, c .before .before .before .before .before .name-word .ensures)
-    (node-fine (a .text .now) (a .words .now) (a .counts) (s .pre .1) (a .read) es (a .name) (s .pre .0) after _
-    (rw (c .before .before .before .before .before .before .before .before .before .before .named .ensures) at (c .before .before .before .before .before .before .before .before .before .find-node .ensures)) (sym fault ∙ c .before .before .before .before .before .before .if1 .left))
+    (node-fine (a .text .now) (a .words .now) (a .counts) (s .pre .1) (a .read) es (a .rule) (a .name) (s .pre .0) after _
+    (rw (c .before .before .before .before .before .before .before .before .before .before .named .ensures) at (c .before .before .before .before .before .before .before .before .before .find-alike .ensures)) (sym fault ∙ c .before .before .before .before .before .before .if1 .left))
 
 pub add-node-spec : {M : Type 1} → statement M
 add-node-spec =

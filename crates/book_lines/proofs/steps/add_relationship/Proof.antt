@@ -8,24 +8,24 @@ use Rattle.book_lines.proofs.steps.add_relationship.Tie as tie
 
 returns : tie.Need-returns
 returns c =
-    λ es after.
+    λ rule es after.
     let s = c .before .before .before .before .before .before .before in
     let a = s .args in
-    label-missing (a .text .now) (a .words .now) (a .counts) (s .pre .3) (a .read) es _ _ _ _ (rw (c .before .before .before .named .ensures) at (c .before .before .find-label .ensures)) (c .if1 .taken)
+    label-missing rule (a .text .now) (a .words .now) (a .counts) (s .pre .3) (a .read) es _ _ _ _ (rw (c .before .before .before .named .ensures) at (c .before .before .find-label .ensures)) (c .if1 .taken)
 
 returns-2 : tie.Need-returns-2
 returns-2 c =
-    λ es after.
+    λ rule es after.
     let s = c .before .before .before .before .before .before .before .before .before .before .before .before in
     let a = s .args in
-    from-missing (a .text .now) (a .words .now) (a .counts) (s .pre .3) (a .read) es _ _ _ _ (rw (c .before .before .before .named2 .ensures) at (c .before .before .find-node .ensures)) (c .if2 .taken)
+    from-missing rule (a .text .now) (a .words .now) (a .counts) (s .pre .3) (a .read) es _ _ _ _ (rw (c .before .before .before .named2 .ensures) at (c .before .before .find-node .ensures)) (c .if2 .taken)
 
 returns-3 : tie.Need-returns-3
 returns-3 c =
-    λ es after.
+    λ rule es after.
     let s = c .before .before .before .before .before .before .before .before .before .before .before .before .before .before .before .before .before in
     let a = s .args in
-    to-missing (a .text .now) (a .words .now) (a .counts) (s .pre .3) (a .read) es _ _ _ _ (rw (c .before .before .before .named3 .ensures) at (c .before .before .find-node2 .ensures)) (c .if3 .taken)
+    to-missing rule (a .text .now) (a .words .now) (a .counts) (s .pre .3) (a .read) es _ _ _ _ (rw (c .before .before .before .named3 .ensures) at (c .before .before .find-node2 .ensures)) (c .if3 .taken)
 
 is-related-requires : tie.Need-is-related-requires
 is-related-requires c κs = (c .before .before .before .before .before .before .before .before .before .before .before .before .before .before .before .before .before .before .pre .3, c .before .before .before .before .before .before .before .before .before .before .before .if1 .left, c .before .before .before .before .before .before .if2 .left, c .before .if3 .left)
@@ -35,13 +35,13 @@ is-full-requires c κs = (c .before .before .before .before .before .before .bef
 
 returns-4 : tie.Need-returns-4
 returns-4 c =
-    λ es after.
+    λ rule es after.
     let s = c .before .before .before .before .before .before .before .before .before .before .before .before .before .before .before .before .before .before .before .before .before .before in
     let a = s .args in
     let l = rw (c .before .before .before .before .before .before .before .before .before .before .before .before .before .before .before .before .before .before .named .ensures) at (c .before .before .before .before .before .before .before .before .before .before .before .before .before .before .before .before .before .find-label .ensures) in
     let x = rw (c .before .before .before .before .before .before .before .before .before .before .before .before .before .named2 .ensures) at (c .before .before .before .before .before .before .before .before .before .before .before .before .find-node .ensures) in
     let y = rw (c .before .before .before .before .before .before .before .before .named3 .ensures) at (c .before .before .before .before .before .before .before .find-node2 .ensures) in
-    rel-refused (a .text .now) (a .words .now) (a .counts) (s .pre .3) (a .read) es _ _ _ _ _ _ l x y (c .before .before .before .before .before .before .before .before .before .before .before .before .before .before .before .if1 .left) (c .before .before .before .before .before .before .before .before .before .before .if2 .left) (c .before .before .before .before .before .if3 .left) after _ (c .before .before .before .is-related .ensures) _
+    rel-refused rule (a .text .now) (a .words .now) (a .counts) (s .pre .3) (a .read) es _ _ _ _ _ _ l x y (c .before .before .before .before .before .before .before .before .before .before .before .before .before .before .before .if1 .left) (c .before .before .before .before .before .before .before .before .before .before .if2 .left) (c .before .before .before .before .before .if3 .left) after _ (c .before .before .before .is-related .ensures) _
     (rw (c .before .before .is-full .ensures) at (c .before .owner-fault .ensures)) (c .if4 .taken)
 
 mul-word : tie.Need-mul-word
@@ -67,7 +67,7 @@ store-owner-requires c κs =
 
 returns-5 : tie.Need-returns-5
 returns-5 c =
-    λ es after.
+    λ rule es after.
     let s = c .before .before .before .before .before .before .before .before .before .before .before .before .before .before .before .before .before .before .before .before .before .before .before .before .before .before in
     let a = s .args in
     let l = rw (c .before .before .before .before .before .before .before .before .before .before .before .before .before .before .before .before .before .before .before .before .before .before .named .ensures) at (c .before .before .before .before .before .before .before .before .before .before .before .before .before .before .before .before .before .before .before .before .before .find-label .ensures) in
@@ -75,7 +75,7 @@ returns-5 c =
     let y = rw (c .before .before .before .before .before .before .before .before .before .before .before .before .named3 .ensures) at (c .before .before .before .before .before .before .before .before .before .before .before .find-node2 .ensures) in
     let fault = rw (c .before .before .before .before .before .before .is-full .ensures) at (c .before .before .before .before .before .owner-fault .ensures) in
     rw (c .before .before .store-owner .ensures .0, c .before .before .store-owner .ensures .1)
-    (rel-fine (a .text .now) (a .words .now) (a .counts) (s .pre .3) (a .read) es _ _ _ _ _ _ l x y (c .before .before .before .before .before .before .before .before .before .before .before .before .before .before .before .before .before .before .before .if1 .left) (c .before .before .before .before .before .before .before .before .before .before .before .before .before .before .if2 .left) (c .before .before .before .before .before .before .before .before .before .if3 .left) after _ (c .before .before .before .before .before .before .before .is-related .ensures) (sym fault ∙ c .before .before .before .before .if4 .left))
+    (rel-fine rule (a .text .now) (a .words .now) (a .counts) (s .pre .3) (a .read) es _ _ _ _ _ _ l x y (c .before .before .before .before .before .before .before .before .before .before .before .before .before .before .before .before .before .before .before .if1 .left) (c .before .before .before .before .before .before .before .before .before .before .before .before .before .before .if2 .left) (c .before .before .before .before .before .before .before .before .before .if3 .left) after _ (c .before .before .before .before .before .before .before .is-related .ensures) (sym fault ∙ c .before .before .before .before .if4 .left))
 
 pub add-relationship-spec : {M : Type 1} → statement M
 add-relationship-spec =

@@ -1,7 +1,7 @@
 -- `tables::names::is_named` meets its contract. Assumes nothing.
 use Rattle.book_tables.proofs.NameLaws.{word-slice}
 use Rattle.book_tables.specs.View.{wordAt}
-use Rattle.model.specs.Bytes.{same}
+use Rattle.book_tables.specs.Alike.{alike}
 use native.Mathlib.Omega.{arith}
 use mathlib.Core.Path.{ap, _∙_}
 use borrow.Author.Needs.{needs}
@@ -15,7 +15,7 @@ add-end : tie.Need-add-end
 add-end c = omega (arith, c .shared-slice-known4 .given (c .before .before .before .before .args .at))
 
 returns : tie.Need-returns
-returns c = let a = c .before .before .before .before .before .before .args in c .same-bytes .ensures ∙ ap (same (a .name .now)) (word-slice (a .text .now) (wordAt (a .words .now) (a .at)))
+returns c = let a = c .before .before .before .before .before .before .args in c .is-alike .ensures ∙ ap (alike (a .rule) (a .name .now)) (word-slice (a .text .now) (wordAt (a .words .now) (a .at)))
 
 pub is-named-spec : {M : Type 1} → statement M
 is-named-spec =
