@@ -26,10 +26,8 @@ use book_tables::Owner;
 use items::Piece;
 use items::places;
 use model::Part;
+use model::refusal_numbers::BROKEN;
 use text::End;
-
-// "grammar broken".
-pub const BROKEN: u32 = 3;
 
 // Reads a line, which begins at the base in the text, and adds it; a node is given a second time by the rule for names.
 pub fn read_line(
