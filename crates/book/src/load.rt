@@ -1,6 +1,7 @@
 // A whole book, line by line, into the tables.
 ghost use Prim.Native.Nat.{_≤_, _<_};
 ghost use lib.ListN.{length};
+ghost use Rattle.book_tables.specs.Layout.{bookWords};
 ghost use Rattle.model.specs.Lines.{readLines, linesOf};
 ghost use Rattle.model.specs.Book.{emptyBook};
 ghost use Rattle.model.specs.ReadBook.{readBook};
@@ -23,7 +24,7 @@ use text::BytesRead;
 
 // Reads a book into the tables; on a refusal they are all ones.
 pub fn load(text: &[u8], words: &mut [u32]) -> BookLoad
-    requires { ⌜ 10752 ≤ length (now words) ⌝ }
+    requires { ⌜ bookWords ≤ length (now words) ⌝ }
     ensures { λ r. ⌜ Loaded (now (text .entry)) (now (words .exit)) r (readBook (now (text .entry))) ⌝ }
 {
     load_by(text, words, NameRule::Exact)
@@ -31,7 +32,7 @@ pub fn load(text: &[u8], words: &mut [u32]) -> BookLoad
 
 // The same by a rule for the names of nodes: which of them are given a second time.
 pub fn load_by(text: &[u8], words: &mut [u32], rule: NameRule) -> BookLoad
-    requires { ⌜ 10752 ≤ length (now words) ⌝ }
+    requires { ⌜ bookWords ≤ length (now words) ⌝ }
     ensures { λ r. ⌜ Loaded (now (text .entry)) (now (words .exit)) r (readBookBy rule (now (text .entry))) ⌝ }
 {
     match text::lines::bytes_read(text, MAX_BOOK_BYTES) {
@@ -59,7 +60,7 @@ pub fn load_by(text: &[u8], words: &mut [u32], rule: NameRule) -> BookLoad
 
 // Reads the lines of a book into the tables; on a refusal they are all ones.
 fn load_lines(text: &[u8], words: &mut [u32], rule: NameRule) -> BookLoad
-    requires { ⌜ (length (now text) ≤ 65536) × (10752 ≤ length (now words)) ⌝ }
+    requires { ⌜ (length (now text) ≤ 65536) × (bookWords ≤ length (now words)) ⌝ }
     ensures { λ r. ⌜ Loaded (now (text .entry)) (now (words .exit)) r (readLines 1 (bookStepBy rule) 1 emptyBook (linesOf (now (text .entry)))) ⌝ }
 {
     book_tables::stores::clear_chains(words);

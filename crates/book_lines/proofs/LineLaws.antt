@@ -14,8 +14,8 @@ use Rattle.model.specs.BookLines.{BookLine, label, attrLine, labelLine, bookLin
 use Rattle.model.specs.Answers.{partOf}
 use Rattle.text.specs.declared.End.{End}
 use Rattle.text.specs.declared.End.the-variants as end
-use Rattle.items.specs.declared.Piece.{Piece}
-use Rattle.items.specs.declared.Piece.the-variants as piece
+use Rattle.items.specs.declared.ItemAt.{ItemAt}
+use Rattle.items.specs.declared.ItemAt.the-variants as piece
 use Rattle.items.specs.Rest.{spacesFrom, formAt}
 use Rattle.items.specs.Places.{NextWord, NextName}
 use Rattle.items.specs.Pieces.{wordNext, onPiece, onPlace}
@@ -53,7 +53,7 @@ unfolding onPlace
 opens-none line r e h = line-form bookLine line ∙ rw (sym e ∙ h)
 
 -- the first word, or none
-module _ (line : Bytes) (from : ℕ) (r : Piece) (e : NextWord 3 true line from r) where
+module _ (line : Bytes) (from : ℕ) (r : ItemAt) (e : NextWord 3 true line from r) where
   pub headed : (p q : ℕ) → r ≡ piece.At p q → formAt true from line bookLine ≡ formAt false q line (lineOf (headOf (partOf line p (q - p))))
   unfolding bookLine onPiece
   headed p q h =
@@ -98,12 +98,12 @@ kind-form line i k =
     ∙ form-word false i line (λ w is. andThen (kindOf w) (λ t. k t is))
     ∙ go (wordNext 3 false line i)
   where
-    go : (r : Piece) → onPiece r (λ p q. formAt false q line (λ is. andThen (kindOf (partOf line p (q - p))) (λ t. k t is))) ≡ onKind (kindPiece line r) (λ t q. formAt false q line (k t))
+    go : (r : ItemAt) → onPiece r (λ p q. formAt false q line (λ is. andThen (kindOf (partOf line p (q - p))) (λ t. k t is))) ≡ onKind (kindPiece line r) (λ t q. formAt false q line (k t))
     go (piece.At p q) = form-then false q line (kindOf (partOf line p (q - p))) k ∙ kind-word line i (partOf line p (q - p)) q (λ t q. formAt false q line (k t))
     go piece.None = refl
 
 -- NAME TYPE
-module _ (line : Bytes) (from : ℕ) (make : Bytes → Kind → BookLine) (r : Piece) (e : NextName 3 line from r) where
+module _ (line : Bytes) (from : ℕ) (make : Bytes → Kind → BookLine) (r : ItemAt) (e : NextName 3 line from r) where
   pub attr-nameless : r ≡ piece.None → formAt false from line (attrLine make) ≡ nothing
   unfolding attrLine onPiece
   attr-nameless h = name-form line from _ ∙ rw (sym (e .is) ∙ h)
@@ -140,7 +140,7 @@ module _ (line : Bytes) (from : ℕ) (r : AttrRead)
   attr-none e = form make ∙ rw e
 
 -- NAME
-module _ (line : Bytes) (from : ℕ) (r : Piece) (e : NextName 3 line from r) where
+module _ (line : Bytes) (from : ℕ) (r : ItemAt) (e : NextName 3 line from r) where
   pub label-nameless : r ≡ piece.None → formAt false from line labelLine ≡ nothing
   unfolding labelLine onPiece
   label-nameless h = name-form line from _ ∙ rw (sym (e .is) ∙ h)

@@ -15,8 +15,8 @@ use Rattle.model.specs.Book.{Book}
 use Rattle.model.specs.BookLines.{BookLine, label, node, rel, attrLine, labelLine, nodeLine, relLine}
 use Rattle.model.specs.Answers.{partOf, nameAt}
 use Rattle.model.specs.declared.Part.{Part}
-use Rattle.items.specs.declared.Piece.{Piece}
-use Rattle.items.specs.declared.Piece.the-variants as piece
+use Rattle.items.specs.declared.ItemAt.{ItemAt}
+use Rattle.items.specs.declared.ItemAt.the-variants as piece
 use Rattle.items.specs.Rest.{formAt}
 use Rattle.items.specs.Places.{WordPlaces, NextName}
 use Rattle.items.specs.Pieces.{onPiece}
@@ -65,7 +65,7 @@ module _ (rule : NameRule) (text line : Bytes) (words : List ℕ) (c : BookCount
     attr-broken e = step-broken rule book _ (attr-none line from r form make e)
 
   -- (label NAME)
-  module _ (r : Piece) (e : NextName 3 line from r) where
+  module _ (r : ItemAt) (e : NextName 3 line from r) where
     pub label-broken : r ≡ piece.None → formStepOf rule book (formAt false from line labelLine) ≡ fault 3
     label-broken h = step-broken rule book _ (label-nameless line from r e h)
 
@@ -79,7 +79,7 @@ module _ (rule : NameRule) (text line : Bytes) (words : List ℕ) (c : BookCount
         ∙ ap (λ (n : Bytes). stepOf rule book (label n)) (sym (piece-named text line words c base from p q f (placed-at line from r h (e .placed))))
 
   -- (node NAME (ATTR VALUE)...)
-  module _ (r : Piece) (e : NextName 3 line from r) where
+  module _ (r : ItemAt) (e : NextName 3 line from r) where
     pub node-broken : r ≡ piece.None → formStepOf rule book (formAt false from line nodeLine) ≡ fault 3
     unfolding nodeLine onPiece
     node-broken h = step-broken rule book _ (name-form line from _ ∙ rw (sym (e .is) ∙ h))
@@ -143,17 +143,17 @@ pub moved-asked : (text line : Bytes) (words : List ℕ) (c : BookCounts) (base 
 moved-asked text line words c base p f s = record { inside = omega (arith, f .inside, s .inside); short = s .short; limit = f .limit }
 
 -- LABEL FROM TO
-module _ (line : Bytes) (from : ℕ) (r : Piece) (e : NextName 3 line from r) where
+module _ (line : Bytes) (from : ℕ) (r : ItemAt) (e : NextName 3 line from r) where
   pub names-first : r ≡ piece.None → NamesTold line from names.None
   unfolding onPiece
   names-first h k = name-form line from _ ∙ rw (sym (e .is) ∙ h)
 
-  module _ (a b : ℕ) (h : r ≡ piece.At a b) (r₂ : Piece) (e₂ : NextName 3 line b r₂) where
+  module _ (a b : ℕ) (h : r ≡ piece.At a b) (r₂ : ItemAt) (e₂ : NextName 3 line b r₂) where
     pub names-second : r₂ ≡ piece.None → NamesTold line from names.None
     unfolding onPiece
     names-second h₂ k = name-form line from _ ∙ rw (sym (e .is) ∙ h) (name-form line b _ ∙ rw (sym (e₂ .is) ∙ h₂))
 
-    module _ (c d : ℕ) (h₂ : r₂ ≡ piece.At c d) (r₃ : Piece) (e₃ : NextName 3 line d r₃) where
+    module _ (c d : ℕ) (h₂ : r₂ ≡ piece.At c d) (r₃ : ItemAt) (e₃ : NextName 3 line d r₃) where
       pub names-third : r₃ ≡ piece.None → NamesTold line from names.None
       unfolding onPiece
       names-third h₃ k = name-form line from _ ∙ rw (sym (e .is) ∙ h) (name-form line b _ ∙ rw (sym (e₂ .is) ∙ h₂) (name-form line d _ ∙ rw (sym (e₃ .is) ∙ h₃)))

@@ -16,8 +16,8 @@ use Rattle.model.specs.Answers.{partOf, nameAt, valueOf}
 use Rattle.model.specs.declared.Part.{Part}
 use Rattle.model.specs.declared.Value.{Value}
 use Rattle.model.specs.declared.Value.the-variants.{Number, Text, Truth}
-use Rattle.items.specs.declared.NameRead.{NameRead}
-use Rattle.items.specs.declared.NameRead.the-variants as name
+use Rattle.items.specs.declared.NameItem.{NameItem}
+use Rattle.items.specs.declared.NameItem.the-variants as name
 use Rattle.items.specs.Rest.{formAt}
 use Rattle.items.specs.Places.{WordPlaces, ValueInside}
 use Rattle.items.specs.Pieces.{namePlaces, nameNext, onPiece, onName}
@@ -42,7 +42,7 @@ module _ {B : Type 0} (line : Bytes) (i : ℕ) where
   unfolding onName onPiece
   name-form k = form-name false i line k ∙ go (nameNext 3 false line i)
     where
-      go : (r : NameRead) → onName line r (λ n q. formAt false q line (k n)) (λ e. nothing) ≡ onPiece (namePlaces r) (λ p q. formAt false q line (k (partOf line p (q - p))))
+      go : (r : NameItem) → onName line r (λ n q. formAt false q line (k n)) (λ e. nothing) ≡ onPiece (namePlaces r) (λ p q. formAt false q line (k (partOf line p (q - p))))
       go (name.Name p q) = refl
       go (name.Close e) = refl
       go name.None = refl

@@ -11,8 +11,8 @@ use Rattle.model.specs.Values.{Kind}
 use Rattle.model.specs.Book.{Book}
 use Rattle.model.specs.BookLines.{BookLine, attrLine, labelLine, nodeLine, relLine}
 use Rattle.model.specs.Answers.{partOf}
-use Rattle.items.specs.declared.Piece.{Piece}
-use Rattle.items.specs.declared.Piece.the-variants as piece
+use Rattle.items.specs.declared.ItemAt.{ItemAt}
+use Rattle.items.specs.declared.ItemAt.the-variants as piece
 use Rattle.book_tables.specs.declared.BookCounts.{BookCounts}
 use Rattle.book_tables.specs.declared.Owner.the-variants.{Node, Relationship}
 use Rattle.book_tables.specs.Owners.{declares}
@@ -63,7 +63,7 @@ kindRead w q =
     (pick (same w (bytesOf "bool")) (kind.Kind 2 q) kind.None))
 
 -- the type that a piece of the line is
-unfoldable pub kindPiece : Bytes → Piece → KindRead
+unfoldable pub kindPiece : Bytes → ItemAt → KindRead
 kindPiece line (piece.At p q) = kindRead (partOf line p (q - p)) q
 kindPiece line piece.None = kind.None
 

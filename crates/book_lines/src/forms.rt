@@ -23,7 +23,7 @@ use crate::steps;
 use book_tables::BookCounts;
 use book_tables::NameRule;
 use book_tables::Owner;
-use items::Piece;
+use items::ItemAt;
 use items::places;
 use model::Part;
 use model::refusal_numbers::BROKEN;
@@ -61,7 +61,7 @@ fn read_head(
     ensures { λ r. ⌜ Stepped (now (text .entry)) (now (words .exit)) r (formStepOf rule (bookAt (now (text .entry)) (now (words .entry)) counts) (formAt true from (now (line .entry)) bookLine)) ⌝ }
 {
     match places::next_word(line, from, true, pieces::FORM_DEPTH) {
-        Piece::At(p, q) => read_rest(
+        ItemAt::At(p, q) => read_rest(
             text,
             line,
             base,
@@ -71,7 +71,7 @@ fn read_head(
             counts,
             rule,
         ),
-        Piece::None => LineStep::Fault(BROKEN),
+        ItemAt::None => LineStep::Fault(BROKEN),
     }
 }
 
@@ -104,7 +104,7 @@ fn read_attr(line: &[u8], from: usize) -> AttrRead
     ensures fits { λ r. ⌜ AttrFits (now (line .entry)) from r ⌝ }
 {
     match places::next_name(line, from, pieces::FORM_DEPTH) {
-        Piece::At(p, q) => match pieces::next_kind(line, q) {
+        ItemAt::At(p, q) => match pieces::next_kind(line, q) {
             KindRead::Kind(kind, end) => {
                 if items::forms::form_closes(line, end) {
                     return AttrRead::Attr(p, q, kind);
@@ -113,7 +113,7 @@ fn read_attr(line: &[u8], from: usize) -> AttrRead
             }
             KindRead::None => AttrRead::None,
         },
-        Piece::None => AttrRead::None,
+        ItemAt::None => AttrRead::None,
     }
 }
 
@@ -159,7 +159,7 @@ fn label_line(
     ensures { λ r. ⌜ ((rule : Rule) → Stepped (now (text .entry)) (now (words .exit)) r (formStepOf rule (bookAt (now (text .entry)) (now (words .entry)) counts) (formAt false from (now (line .entry)) labelLine))) ⌝ }
 {
     match places::next_name(line, from, pieces::FORM_DEPTH) {
-        Piece::At(p, q) => {
+        ItemAt::At(p, q) => {
             if items::forms::form_closes(line, q) {
                 return steps::add_label(
                     text,
@@ -173,6 +173,6 @@ fn label_line(
             }
             LineStep::Fault(BROKEN)
         }
-        Piece::None => LineStep::Fault(BROKEN),
+        ItemAt::None => LineStep::Fault(BROKEN),
     }
 }

@@ -23,7 +23,7 @@ use book_tables::BookCounts;
 use book_tables::NameRule;
 use book_tables::Owner;
 use items::EntryRead;
-use items::Piece;
+use items::ItemAt;
 use items::places;
 use model::Part;
 use model::Value;
@@ -127,7 +127,7 @@ pub fn node_line(
     ensures { λ r. ⌜ Stepped (now (text .entry)) (now (words .exit)) r (formStepOf rule (bookAt (now (text .entry)) (now (words .entry)) counts) (formAt false from (now (line .entry)) nodeLine)) ⌝ }
 {
     match places::next_name(line, from, FORM_DEPTH) {
-        Piece::At(p, q) => {
+        ItemAt::At(p, q) => {
             match read_entries(text, line, base, q, words, counts, Owner::Node) {
                 EntriesAnswer::Read(read) => steps::add_node(
                     text,
@@ -143,7 +143,7 @@ pub fn node_line(
                 EntriesAnswer::None => LineStep::Fault(BROKEN),
             }
         }
-        Piece::None => LineStep::Fault(BROKEN),
+        ItemAt::None => LineStep::Fault(BROKEN),
     }
 }
 
@@ -152,9 +152,9 @@ fn read_names(line: &[u8], from: usize) -> RelNames
     ensures { λ r. ⌜ NamesTold (now (line .entry)) from r ⌝ }
 {
     match places::next_name(line, from, FORM_DEPTH) {
-        Piece::At(a, b) => match places::next_name(line, b, FORM_DEPTH) {
-            Piece::At(c, d) => match places::next_name(line, d, FORM_DEPTH) {
-                Piece::At(e, f) => RelNames::Read(
+        ItemAt::At(a, b) => match places::next_name(line, b, FORM_DEPTH) {
+            ItemAt::At(c, d) => match places::next_name(line, d, FORM_DEPTH) {
+                ItemAt::At(e, f) => RelNames::Read(
                     Part {
                         start: a,
                         length: b - a,
@@ -169,11 +169,11 @@ fn read_names(line: &[u8], from: usize) -> RelNames
                     },
                     f,
                 ),
-                Piece::None => RelNames::None,
+                ItemAt::None => RelNames::None,
             },
-            Piece::None => RelNames::None,
+            ItemAt::None => RelNames::None,
         },
-        Piece::None => RelNames::None,
+        ItemAt::None => RelNames::None,
     }
 }
 

@@ -9,7 +9,7 @@ use book_tables::Owner;
 use book_tables::values::BOOL;
 use book_tables::values::INT;
 use book_tables::values::STR;
-use items::Piece;
+use items::ItemAt;
 use items::places;
 use text::compare::same_bytes;
 
@@ -59,7 +59,7 @@ pub fn next_kind(line: &[u8], from: usize) -> KindRead
     ensures { λ r. ⌜ r ≡ kindPiece (now (line .entry)) (wordNext 3 false (now (line .entry)) from) ⌝ }
 {
     match places::next_word(line, from, false, FORM_DEPTH) {
-        Piece::At(p, q) => kind_of(&line[p..q], q),
-        Piece::None => KindRead::None,
+        ItemAt::At(p, q) => kind_of(&line[p..q], q),
+        ItemAt::None => KindRead::None,
     }
 }

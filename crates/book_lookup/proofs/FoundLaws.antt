@@ -25,8 +25,8 @@ use Rattle.book_tables.specs.View.{wordAt, nameOf, namesAt, attrsAt, entryHead,
 use Rattle.book_tables.specs.Fits.{NamesFit, EntriesFit, Fits}
 use Rattle.book_tables.proofs.ListedLaws.{listed-same, map-listed, getD-listed}
 use Rattle.book_tables.proofs.NameLaws.{equal-same, attr-names, node-names}
-use Rattle.book_lookup.specs.declared.Found.{Found}
-use Rattle.book_lookup.specs.declared.Found.the-variants.{At, Nothing}
+use Rattle.book_lookup.specs.declared.AttributeFound.{AttributeFound}
+use Rattle.book_lookup.specs.declared.AttributeFound.the-variants.{At, Nothing}
 use Rattle.book_lookup.specs.Entries.{seek, found, entryValue, maybeValue, valueAt, entriesOf, ownerValue}
 use Rattle.book_lookup.specs.Ready.{FoundReady, Entered}
 use Rattle.book_lookup.proofs.SeekLaws.{seek-step, seek-within}
@@ -85,14 +85,14 @@ module _ (text : Bytes) (words : List ℕ) (offset declared : ℕ) (names : Name
 
     -- what is found among an owner's entries may be read, and is the value of the name
     owner-entered : (all w : ℕ) → EntriesFit text words declared all w → all ≤ 2048 → layout.bookWords ≤ length words
-        → (r : Found) → found r ≡ seek words attribute (startPart w) (countPart w) → Entered text words r (valueIn (entriesIn text words offset w) (nameOf text words offset attribute))
+        → (r : AttributeFound) → found r ≡ seek words attribute (startPart w) (countPart w) → Entered text words r (valueIn (entriesIn text words offset w) (nameOf text words offset attribute))
     unfolding entriesIn valueAt found
     owner-entered all w fit limit room r e = record {
       ready = ready r e;
       value = ap (maybeValue text words) e ∙ seek-value (countPart w) (startPart w) (λ i l. fit .each i l .attribute);
     }
       where
-        ready : (r : Found) → found r ≡ seek words attribute (startPart w) (countPart w) → FoundReady text words r
+        ready : (r : AttributeFound) → found r ≡ seek words attribute (startPart w) (countPart w) → FoundReady text words r
         ready Nothing e = tt
         ready (At k) e =
             let within = seek-within words attribute (countPart w) (startPart w) k (sym e) in
@@ -118,7 +118,7 @@ module _ (text : Bytes) (words : List ℕ) (c : BookCounts) where
   unfolding namesAt
   node-named i l = ap (λ ns. getD ns i []) (node-names text words c) ∙ getD-listed (nameOf text words layout.nodeNames) (c .nodes) i [] l
 
-  pub entered : (fits : Fits text words c) (attribute : ℕ) (r : Found) (o : Owner) (i : ℕ) → i < tablesOf o c .count → attribute < tablesOf o c .declared
+  pub entered : (fits : Fits text words c) (attribute : ℕ) (r : AttributeFound) (o : Owner) (i : ℕ) → i < tablesOf o c .count → attribute < tablesOf o c .declared
       → found r ≡ seek words attribute (startPart (wordAt words (tablesOf o c .entries + i))) (countPart (wordAt words (tablesOf o c .entries + i)))
       → Entered text words r (ownerValue o (bookAt text words c) i attribute)
   entered fits attribute r o i l m e =

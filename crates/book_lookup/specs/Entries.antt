@@ -13,8 +13,8 @@ use Rattle.book_tables.specs.declared.Owner.the-variants.{Node, Relationship}
 use Rattle.book_tables.specs.Owners.{attrsOf}
 use Rattle.book_tables.specs.Layout.{entries}
 use Rattle.book_tables.specs.View.{wordAt, entryHead, valueIn as valueOfWords}
-use Rattle.book_lookup.specs.declared.Found.{Found}
-use Rattle.book_lookup.specs.declared.Found.the-variants.{At, Nothing}
+use Rattle.book_lookup.specs.declared.AttributeFound.{AttributeFound}
+use Rattle.book_lookup.specs.declared.AttributeFound.the-variants.{At, Nothing}
 
 -- the first of n entries, from the kth on, that is of an attribute
 unfoldable pub seek : List ℕ → ℕ → ℕ → ℕ → Maybe ℕ
@@ -22,7 +22,7 @@ seek words attribute k zero = nothing
 seek words attribute k (suc n) = let rest = seek words attribute (k + 1) n in pick (eqb (entryHead words k / 4) attribute) (just k) rest
 
 -- where a look-up found it
-unfoldable pub found : Found → Maybe ℕ
+unfoldable pub found : AttributeFound → Maybe ℕ
 found (At k) = just k
 found Nothing = nothing
 
@@ -46,7 +46,7 @@ maybeValue text words nothing = nothing
 maybeValue text words (just k) = just (entryValue text words k)
 
 -- the value of what a look-up found
-unfoldable pub valueAt : Bytes → List ℕ → Found → Maybe Value
+unfoldable pub valueAt : Bytes → List ℕ → AttributeFound → Maybe Value
 valueAt text words r = maybeValue text words (found r)
 
 -- the entries of an owner by its number

@@ -12,8 +12,8 @@ use Rattle.book_tables.specs.Layout.{entries}
 use Rattle.book_tables.specs.View.{kindIn}
 use Rattle.book_tables.specs.Fits.{Inside, Fits}
 use Rattle.book_tables.specs.ValueWords.{EndsBefore}
-use Rattle.book_lookup.specs.declared.Found.{Found}
-use Rattle.book_lookup.specs.declared.Found.the-variants.{At, Nothing}
+use Rattle.book_lookup.specs.declared.AttributeFound.{AttributeFound}
+use Rattle.book_lookup.specs.declared.AttributeFound.the-variants.{At, Nothing}
 use Rattle.book_lookup.specs.Entries.{kindAt, firstAt, secondAt, valueAt}
 
 -- an entry's three words are among the words
@@ -31,7 +31,7 @@ pub record EntryReady (book : Bytes) (words : List ℕ) (k : ℕ) : Type 0 where
   pub inside : kindAt words k ≡ 1 → Inside book (firstAt words k) (secondAt words k)
 
 -- the same of an entry that was found
-abbrev pub FoundReady : Bytes → List ℕ → Found → Type 0
+abbrev pub FoundReady : Bytes → List ℕ → AttributeFound → Type 0
 FoundReady book words (At k) = EntryReady book words k
 FoundReady book words Nothing = Unit {0}
 
@@ -57,6 +57,6 @@ pub record HasNode (book : Bytes) (words : List ℕ) (node : ℕ) : Type 0 where
   pub counted : node < counts .nodes
 
 -- what was found may be read, and is the entry of a value
-pub record Entered (book : Bytes) (words : List ℕ) (r : Found) (v : Maybe Value) : Type 0 where
+pub record Entered (book : Bytes) (words : List ℕ) (r : AttributeFound) (v : Maybe Value) : Type 0 where
   pub ready : FoundReady book words r
   pub value : valueAt book words r ≡ v

@@ -9,7 +9,7 @@ ghost use Rattle.book_tables.specs.Fits.{Fits};
 ghost use Rattle.book_tables.specs.Owners.{tablesOf};
 ghost use Rattle.book_lookup.specs.Entries.{seek, found, ownerValue};
 ghost use Rattle.book_lookup.specs.Ready.{SomeText, Entered};
-use crate::Found;
+use crate::AttributeFound;
 use book_tables::BookCounts;
 use book_tables::ENTRIES;
 use book_tables::Owner;
@@ -30,7 +30,7 @@ pub fn owner_entry(
     owner: Owner,
     number: usize,
     attribute: usize,
-) -> Found
+) -> AttributeFound
     requires { ⌜ SomeText (now words) counts number (tablesOf owner counts .count) attribute (tablesOf owner counts .declared) ⌝ }
     ensures { λ r. ⌜ ((text : Bytes) → Fits text (now (words .entry)) counts → Entered text (now (words .entry)) r (ownerValue owner (bookAt text (now (words .entry)) counts) number attribute)) ⌝ }
 {
@@ -40,7 +40,7 @@ pub fn owner_entry(
 }
 
 // The first of an owner's entries that is of an attribute, by its number.
-fn entry_of(words: &[u32], owner: u32, attribute: usize) -> Found
+fn entry_of(words: &[u32], owner: u32, attribute: usize) -> AttributeFound
     requires { ⌜ entries + 3 * (startPart owner + countPart owner) ≤ length (now words) ⌝ }
     ensures { λ r. ⌜ found r ≡ seek (now (words .entry)) attribute (startPart owner) (countPart owner) ⌝ }
 {
@@ -50,9 +50,9 @@ fn entry_of(words: &[u32], owner: u32, attribute: usize) -> Found
     while i < count {
         let head = words[ENTRIES + ENTRY_WORDS * (start + i)];
         if (head / KINDS) as usize == attribute {
-            return Found::At(start + i);
+            return AttributeFound::At(start + i);
         }
         i += 1;
     }
-    Found::Nothing
+    AttributeFound::Nothing
 }

@@ -5,7 +5,7 @@ pub mod names;
 pub mod values;
 
 // Where the entry of an attribute stands, if it is there.
-pub enum Found {
+pub enum AttributeFound {
     At(usize),
     Nothing,
 }

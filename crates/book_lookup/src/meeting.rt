@@ -8,7 +8,7 @@ ghost use Rattle.book_tables.specs.View.{bookAt};
 ghost use Rattle.book_tables.specs.Owners.{tablesOf};
 ghost use Rattle.book_lookup.specs.Entries.{entryValue, valueAt, ownerValue, nodeValue, relationshipValue};
 ghost use Rattle.book_lookup.specs.Ready.{Room, EntryReady, FoundReady, ValueInside, Asked};
-use crate::Found;
+use crate::AttributeFound;
 use crate::entries::owner_entry;
 use crate::values::kind_of;
 use crate::values::number_of;
@@ -124,7 +124,7 @@ pub fn entry_meets(
 fn found_meets(
     book: &[u8],
     words: &[u32],
-    found: Found,
+    found: AttributeFound,
     relation: Relation,
     value: Value,
     text: &[u8],
@@ -133,8 +133,8 @@ fn found_meets(
     ensures { λ r. ⌜ r ≡ meets (valueAt (now (book .entry)) (now (words .entry)) found) (relationOf relation) (valueOf (now (text .entry)) value) ⌝ }
 {
     match found {
-        Found::At(entry) => entry_meets(book, words, entry, relation, value, text),
-        Found::Nothing => false,
+        AttributeFound::At(entry) => entry_meets(book, words, entry, relation, value, text),
+        AttributeFound::Nothing => false,
     }
 }
 

@@ -2,6 +2,7 @@
 ghost use mathlib.Core.Path.{_≡_};
 ghost use Prim.Native.Nat.{_+_, _≤_, _<_};
 ghost use lib.ListN.{length};
+ghost use Rattle.book_tables.specs.Layout.{bookWords};
 ghost use Rattle.book_tables.specs.Fits.{Within};
 ghost use Rattle.book_tables.specs.Owners.{tablesOf, moreAttrs, moreOwners};
 ghost use Rattle.book_tables.specs.Stores.{moreLabels, withoutChains, withAttr, withLabel, withOwner, withEntry};
@@ -24,7 +25,7 @@ pub const ENTRY_WORDS: usize = 3;
 
 // No node and no relationship is in any chain.
 pub fn clear_chains(words: &mut [u32])
-    requires { ⌜ 10752 ≤ length (now words) ⌝ }
+    requires { ⌜ bookWords ≤ length (now words) ⌝ }
     ensures { λ _. ⌜ now (words .exit) ≡ withoutChains (now (words .entry)) ⌝ }
 {
     chains::clear(words, NODE_HEADS, SLOTS);
@@ -39,7 +40,7 @@ pub fn store_attr(
     name: u32,
     kind: u32,
 ) -> BookCounts
-    requires { ⌜ (10752 ≤ length (now words)) × Within counts × (tablesOf owner counts .declared < 32) ⌝ }
+    requires { ⌜ (bookWords ≤ length (now words)) × Within counts × (tablesOf owner counts .declared < 32) ⌝ }
     ensures stored { λ r. ⌜ now (words .exit) ≡ withAttr (now (words .entry)) (tablesOf owner counts .attributes) (tablesOf owner counts .declared) name kind ⌝ }
     ensures counted { λ r. ⌜ r ≡ moreAttrs owner counts ⌝ }
 {
@@ -53,7 +54,7 @@ pub fn store_attr(
 
 // A label.
 pub fn store_label(words: &mut [u32], counts: BookCounts, name: u32) -> BookCounts
-    requires { ⌜ (10752 ≤ length (now words)) × (counts .labels < 32) ⌝ }
+    requires { ⌜ (bookWords ≤ length (now words)) × (counts .labels < 32) ⌝ }
     ensures stored { λ r. ⌜ now (words .exit) ≡ withLabel (now (words .entry)) counts name ⌝ }
     ensures counted { λ r. ⌜ r ≡ moreLabels counts ⌝ }
 {
@@ -78,7 +79,7 @@ pub fn store_owner(
     key: usize,
     n: usize,
 ) -> BookCounts
-    requires { ⌜ (10752 ≤ length (now words)) × Within counts × (tablesOf owner counts .count < 1024) × (key < 256) × (counts .entries + n ≤ 2048) ⌝ }
+    requires { ⌜ (bookWords ≤ length (now words)) × Within counts × (tablesOf owner counts .count < 1024) × (key < 256) × (counts .entries + n ≤ 2048) ⌝ }
     ensures stored { λ r. ⌜ now (words .exit) ≡ withOwner (now (words .entry)) counts owner word key n ⌝ }
     ensures counted { λ r. ⌜ r ≡ moreOwners owner counts n ⌝ }
 {
@@ -94,7 +95,7 @@ pub fn store_owner(
 
 // Attribute entry k: its attribute and type in one word, and the two words of its value.
 pub fn store_entry(words: &mut [u32], k: usize, head: u32, first: u32, second: u32)
-    requires { ⌜ (10752 ≤ length (now words)) × (k < 2048) ⌝ }
+    requires { ⌜ (bookWords ≤ length (now words)) × (k < 2048) ⌝ }
     ensures { λ _. ⌜ now (words .exit) ≡ withEntry (now (words .entry)) k head first second ⌝ }
 {
     words[ENTRIES + ENTRY_WORDS * k] = head;

@@ -25,7 +25,7 @@ use Rattle.rules_tables.specs.declared.RulesCounts.{RulesCounts}
 use Rattle.rules_tables.specs.Layout.{names}
 use Rattle.rules_tables.specs.View.{actorsAt, treeOf}
 use Rattle.woven_tables.specs.declared.WovenCounts.{WovenCounts}
-use Rattle.woven_tables.specs.Tables.{returnsAt, wovenAt}
+use Rattle.woven_tables.specs.Tables.{returnsAt, wovenAt, wovenWords}
 use Rattle.woven_tables.proofs.VertexLaws.{length-vertices}
 use Rattle.weave.specs.OneMore.{underNames, Ranged}
 use Rattle.weave.specs.Identities.{identitiesIn, IdentitiesReady, FinishReady, Finished}
@@ -83,7 +83,7 @@ module _ (book : Bytes) (words : List ℕ) (k : BookCounts) (query rules : Bytes
         sym (length-listed (λ i. getD new (408 + i) 0) (c .returns)) ∙ ap (λ (p : WovenPattern). length (p .returns)) e
         ∙ length-map (λ (v : ℕ). moved (weave all-texts .vertices) (underNames 0 (actorsAt rules rulesWords category) tree) v) (tree .returns) ∙ length-map (λ v. place v (vertexNames (treeOf query))) (treeOf query .returns)
 
-    module _ (ids : List Identity) (finished : Finished query rules ids old new c true) (room : 512 ≤ length new) where
+    module _ (ids : List Identity) (finished : Finished query rules ids old new c true) (room : wovenWords ≤ length new) where
       stays : wovenAt b query rules new c ≡ weave all-texts
       stays = woven-stays b query rules all-texts old new c (held .held) ids true finished
 

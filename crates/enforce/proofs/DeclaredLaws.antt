@@ -27,7 +27,7 @@ use Rattle.model.specs.PlainData.{noEdge, noClause}
 use Rattle.query_writer.specs.Writable.{ConditionFits, countLimits, PatternFits}
 use Rattle.woven_tables.specs.declared.WovenCounts.{WovenCounts}
 use Rattle.woven_tables.specs.Tables.{textOf, edgeAt, clauseAt, edgesAt, clausesAt, wovenAt}
-use Rattle.weave.specs.declared.Added.the-variants.{Woven}
+use Rattle.weave.specs.declared.PatternAdded.the-variants.{Woven}
 use Rattle.weave.specs.OneMore.{underNames, moreVertices, oneMore}
 use Rattle.weave.specs.Adding.{noCounts, TextAdded}
 use Rattle.weave.proofs.OneText.{each-take, length-edges, length-clauses}

@@ -22,10 +22,10 @@ use Rattle.rules_tables.specs.Layout.{actorCountAt, actorsFrom, policyAt}
 use Rattle.rules_tables.specs.View.{actorsAt, lowerSet, treeOf, policyText, rulesAt}
 use Rattle.rules_tables.specs.Enforced.{policyPlace, enforcedBelow}
 use Rattle.woven_tables.specs.declared.WovenCounts.{WovenCounts}
-use Rattle.woven_tables.specs.Tables.{textOf, wovenAt, actorsAt as actorsIn}
+use Rattle.woven_tables.specs.Tables.{textOf, wovenAt, actorsAt as actorsIn, wovenWords}
 use Rattle.model.specs.PlainData.{PartsWithin}
-use Rattle.weave.specs.declared.Added.{Added}
-use Rattle.weave.specs.declared.Added.the-variants.{Woven, Passed}
+use Rattle.weave.specs.declared.PatternAdded.{PatternAdded}
+use Rattle.weave.specs.declared.PatternAdded.the-variants.{Woven, Passed}
 use Rattle.weave.specs.Adding.{Kept, noCounts, TextAdded}
 use Rattle.weave.proofs.OneMore.{Sound}
 use Rattle.weave.proofs.Parts.{pattern-in-front}
@@ -70,7 +70,7 @@ module _ (book : Bytes) (words : List ℕ) (k : BookCounts) (query rules : Bytes
     abbrev first : TextPlace
     first = record { category = category; number = 0; base = 0 }
 
-    pub query-ready : 512 ≤ length old → TextReady book words k query query rules rulesWords first old c
+    pub query-ready : wovenWords ≤ length old → TextReady book words k query query rules rulesWords first old c
     query-ready room = record {
       asked = pattern-asked book words k query (treeOf query) (clear .fits) (clear .query-read);
       short = omega (arith, query-short book words k query rules rulesWords rc category clear);
@@ -81,11 +81,11 @@ module _ (book : Bytes) (words : List ℕ) (k : BookCounts) (query rules : Bytes
       few-texts = omega arith;
     }
 
-    module _ (new : List ℕ) (out : Added) (woven : TextWoven b k query query rules (actorsAt rules rulesWords category) first old new c out) where
+    module _ (new : List ℕ) (out : PatternAdded) (woven : TextWoven b k query query rules (actorsAt rules rulesWords category) first old new c out) where
       abbrev ofQuery : Pattern
       ofQuery = woven .0
 
-      query-added : (o : Added) → out ≡ o → TextAdded query rules (actorsAt rules rulesWords category) 0 0 ofQuery old new c o
+      query-added : (o : PatternAdded) → out ≡ o → TextAdded query rules (actorsAt rules rulesWords category) 0 0 ofQuery old new c o
       query-added o e = subst (TextAdded query rules (actorsAt rules rulesWords category) 0 0 ofQuery old new c) e (woven .2)
 
       query-pattern : patternIn b (drop 0 (textOf query rules 0)) ofQuery ≡ patternOf (treeOf query)
@@ -158,14 +158,14 @@ module _ (book : Bytes) (words : List ℕ) (k : BookCounts) (query rules : Bytes
         few-texts = omega (arith, many, few-texts query rules rulesWords rc category m, low, clear .rules-fit .few);
       }
 
-      module _ (new : List ℕ) (out : Added) (woven : TextWoven b k part query rules (actorsAt rules rulesWords m) place old new c out) where
+      module _ (new : List ℕ) (out : PatternAdded) (woven : TextWoven b k part query rules (actorsAt rules rulesWords m) place old new c out) where
         abbrev ofPolicy : Pattern
         ofPolicy = woven .0
 
         read : PatternRead b k (policyText rules rulesWords i) ofPolicy
         read = subst (λ s. PatternRead b k s ofPolicy) part-is (woven .1)
 
-        policy-added : (o : Added) → out ≡ o → TextAdded query rules (own .actors) (length (below m)) start ofPolicy old new c o
+        policy-added : (o : PatternAdded) → out ≡ o → TextAdded query rules (own .actors) (length (below m)) start ofPolicy old new c o
         policy-added o e = subst (λ j. TextAdded query rules (own .actors) j start ofPolicy old new c o) many (subst (TextAdded query rules (own .actors) count start ofPolicy old new c) e (woven .2))
 
         sound : Each Sound (below m)

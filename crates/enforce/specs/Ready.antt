@@ -17,7 +17,7 @@ use Rattle.rules_tables.specs.Layout.{actorCountAt}
 use Rattle.rules_tables.specs.View.{treeOf, rulesAt}
 use Rattle.rules_tables.specs.Fits.{Fits as RulesFit}
 use Rattle.woven_tables.specs.declared.WovenCounts.{WovenCounts}
-use Rattle.woven_tables.specs.Tables.{wovenAt}
+use Rattle.woven_tables.specs.Tables.{wovenAt, wovenWords}
 use Rattle.weave.specs.Adding.{Kept}
 use Rattle.weave.specs.Identities.{IdentitiesReady}
 use Rattle.enforce.specs.declared.TextPlace.{TextPlace}
@@ -43,7 +43,7 @@ pub record AskedReady (book : Bytes) (words : List ℕ) (query rules : Bytes) (r
 pub record TextReady (book : Bytes) (words : List ℕ) (k : BookCounts) (text query rules : Bytes) (rulesWords : List ℕ) (t : TextPlace) (woven : List ℕ) (c : WovenCounts) : Type 0 where
   pub asked : PatternAsked book words k text
   pub short : t .base + length text ≤ 65536
-  pub room : 512 ≤ length rulesWords
+  pub room : wovenWords ≤ length rulesWords
   pub low : t .category < 16
   pub few-actors : wordAt rulesWords (actorCountAt (t .category)) ≤ 8
   pub kept : Kept query rules woven c

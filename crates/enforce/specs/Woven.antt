@@ -20,8 +20,8 @@ use Rattle.rules_tables.specs.Layout.{names}
 use Rattle.rules_tables.specs.View.{rulesAt}
 use Rattle.woven_tables.specs.declared.WovenCounts.{WovenCounts}
 use Rattle.woven_tables.specs.Tables.{wovenAt}
-use Rattle.weave.specs.declared.Added.{Added}
-use Rattle.weave.specs.declared.Added.the-variants as added
+use Rattle.weave.specs.declared.PatternAdded.{PatternAdded}
+use Rattle.weave.specs.declared.PatternAdded.the-variants as added
 use Rattle.weave.specs.Adding.{TextAdded}
 use Rattle.weave.specs.Identities.{identitiesIn}
 use Rattle.weave.specs.Given.{Given, Identified}
@@ -40,7 +40,7 @@ abbrev pub LimitPassed : Bytes → Bytes → List ℕ → RulesCounts → ℕ �
 LimitPassed query rules rulesWords rc category = (ids : List Identity) → wovenFault (weave (textsBelow query rules rulesWords rc category (rc .categories))) ids ≡ just 12
 
 -- the pattern of a text is woven, or a limit is passed
-abbrev pub TextWoven : Book → BookCounts → Bytes → Bytes → Bytes → List Bytes → TextPlace → List ℕ → List ℕ → WovenCounts → Added → Type 0
+abbrev pub TextWoven : Book → BookCounts → Bytes → Bytes → Bytes → List Bytes → TextPlace → List ℕ → List ℕ → WovenCounts → PatternAdded → Type 0
 TextWoven b k text query rules actors t old new c out =
     (p : Pattern) × PatternRead b k text p × TextAdded query rules actors (t .number) (t .base) p old new c out
 
@@ -51,7 +51,7 @@ CategoryWoven b k query rules rulesWords rc category m woven (texts.Woven count 
 CategoryWoven b k query rules rulesWords rc category m woven texts.Passed = LimitPassed query rules rulesWords rc category
 
 -- all enforced policies are woven behind the query, or a limit is passed
-abbrev pub PoliciesWoven : Book → BookCounts → Bytes → Bytes → List ℕ → RulesCounts → ℕ → List ℕ → Added → Type 0
+abbrev pub PoliciesWoven : Book → BookCounts → Bytes → Bytes → List ℕ → RulesCounts → ℕ → List ℕ → PatternAdded → Type 0
 PoliciesWoven b k query rules rulesWords rc category woven (added.Woven c) = Held b k query rules rulesWords rc category (rc .categories) woven c
 PoliciesWoven b k query rules rulesWords rc category woven added.Passed = LimitPassed query rules rulesWords rc category
 

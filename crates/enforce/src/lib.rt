@@ -1,6 +1,7 @@
 // The asked pattern: the query and every enforced policy, each with the actors of its own category, woven together.
 ghost use Prim.Native.Nat.{_≤_};
 ghost use lib.ListN.{length};
+ghost use Rattle.woven_tables.specs.Tables.{wovenWords};
 ghost use Rattle.book_tables.specs.View.{bookAt};
 ghost use Rattle.rules_tables.specs.View.{actorsAt};
 ghost use Rattle.enforce.specs.Ready.{TextsClear, TextReady, AskedReady};
@@ -14,7 +15,7 @@ use rules_tables::ACTORS;
 use rules_tables::CATEGORIES;
 use rules_tables::CATEGORY_WORDS;
 use rules_tables::RulesCounts;
-use weave::Added;
+use weave::PatternAdded;
 use woven_tables::WovenCounts;
 
 pub mod policies; // policies.rt: the enforced policies, one category after another
@@ -43,7 +44,7 @@ pub fn weave_request(
     ready: Ready,
     woven: &mut [u32],
 ) -> AskedWoven
-    requires { ⌜ AskedReady (now book) (now words) (now query) (now rules) (now «rules_words») ready × (512 ≤ length (now woven)) ⌝ }
+    requires { ⌜ AskedReady (now book) (now words) (now query) (now rules) (now «rules_words») ready × (wovenWords ≤ length (now woven)) ⌝ }
     ensures { λ r. ⌜ AskedAnswer (now (book .entry)) (now (words .entry)) (now (query .entry)) (now (rules .entry)) (now («rules_words» .entry)) (now (request .entry)) ready (now (woven .exit)) r ⌝ }
 {
     let counts = ready.book;
@@ -61,7 +62,7 @@ pub fn weave_request(
         read.category,
         woven,
     );
-    let Added::Woven(shape) = all else {
+    let PatternAdded::Woven(shape) = all else {
         return AskedWoven::Refused(WOVEN_LIMIT_PASSED);
     };
     if weave::finish(query, rules, request, identities, read.count, woven, shape) {
@@ -81,8 +82,8 @@ pub fn weave_texts(
     rules_counts: RulesCounts,
     category: usize,
     woven: &mut [u32],
-) -> Added
-    requires { ⌜ TextsClear (now book) (now words) counts (now query) (now rules) (now «rules_words») «rules_counts» category × (512 ≤ length (now woven)) ⌝ }
+) -> PatternAdded
+    requires { ⌜ TextsClear (now book) (now words) counts (now query) (now rules) (now «rules_words») «rules_counts» category × (wovenWords ≤ length (now woven)) ⌝ }
     ensures { λ r. ⌜ PoliciesWoven (bookAt (now (book .entry)) (now (words .entry)) counts) counts (now (query .entry)) (now (rules .entry)) (now («rules_words» .entry)) «rules_counts» category (now (woven .exit)) r ⌝ }
 {
     let place = TextPlace {
@@ -102,8 +103,8 @@ pub fn weave_texts(
         woven,
         weave::empty(),
     );
-    let Added::Woven(alone) = first else {
-        return Added::Passed;
+    let PatternAdded::Woven(alone) = first else {
+        return PatternAdded::Passed;
     };
     policies::weave_policies(
         book,
@@ -131,7 +132,7 @@ pub fn weave_text(
     place: TextPlace,
     woven: &mut [u32],
     shape: WovenCounts,
-) -> Added
+) -> PatternAdded
     requires { ⌜ TextReady (now book) (now words) counts (now text) (now query) (now rules) (now «rules_words») place (now woven) shape ⌝ }
     ensures { λ r. ⌜ TextWoven (bookAt (now (book .entry)) (now (words .entry)) counts) counts (now (text .entry)) (now (query .entry)) (now (rules .entry))
         (actorsAt (now (rules .entry)) (now («rules_words» .entry)) (place .category)) place (now (woven .entry)) (now (woven .exit)) shape r ⌝ }

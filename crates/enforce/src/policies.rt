@@ -12,7 +12,7 @@ use rules_tables::POLICIES;
 use rules_tables::POLICY_WORDS;
 use rules_tables::RulesCounts;
 use rules_tables::policies::policy_place;
-use weave::Added;
+use weave::PatternAdded;
 use woven_tables::WovenCounts;
 
 // How many texts are woven, and the counts of their woven pattern; or it passes a limit.
@@ -33,7 +33,7 @@ pub fn weave_policies(
     category: usize,
     woven: &mut [u32],
     alone: WovenCounts,
-) -> Added
+) -> PatternAdded
     requires { ⌜ PoliciesReady (now book) (now words) counts (now query) (now rules) (now «rules_words») «rules_counts» category (now woven) alone ⌝ }
     ensures { λ r. ⌜ PoliciesWoven (bookAt (now (book .entry)) (now (words .entry)) counts) counts (now (query .entry)) (now (rules .entry)) (now («rules_words» .entry)) «rules_counts» category (now (woven .exit)) r ⌝ }
 {
@@ -57,13 +57,13 @@ pub fn weave_policies(
             shape,
         );
         let TextsWoven::Woven(more, next) = step else {
-            return Added::Passed;
+            return PatternAdded::Passed;
         };
         texts = more;
         shape = next;
         lower += 1;
     }
-    Added::Woven(shape)
+    PatternAdded::Woven(shape)
 }
 
 // Weaves the policy of one category, if the request's category is it or is over it, and it has a policy.
@@ -113,7 +113,7 @@ fn weave_category(
         shape,
     );
     match added {
-        Added::Woven(next) => TextsWoven::Woven(texts + 1, next),
-        Added::Passed => TextsWoven::Passed,
+        PatternAdded::Woven(next) => TextsWoven::Woven(texts + 1, next),
+        PatternAdded::Passed => TextsWoven::Passed,
     }
 }

@@ -18,8 +18,8 @@ use Rattle.text.specs.declared.End.the-variants as end
 use Rattle.text.specs.Places.{peekAt, past, isSpace, endOf}
 use Rattle.text.proofs.PlaceLaws.{peek-drop}
 use Rattle.items.specs.declared.Next.the-variants as next
-use Rattle.items.specs.declared.Piece.the-variants as piece
-use Rattle.items.specs.declared.ValueRead.the-variants as read
+use Rattle.items.specs.declared.ItemAt.the-variants as piece
+use Rattle.items.specs.declared.ValueItem.the-variants as read
 use Rattle.items.specs.declared.EntryRead.{EntryRead}
 use Rattle.items.specs.declared.EntryRead.the-variants as entry
 use Rattle.items.specs.declared.ClaimRead.{ClaimRead}

@@ -23,10 +23,10 @@ use Rattle.items.specs.declared.ItemRead.{ItemRead}
 use Rattle.items.specs.declared.ItemRead.the-variants.{Word, Number, Text, Quoted, List, None}
 use Rattle.items.specs.declared.Next.{Next}
 use Rattle.items.specs.declared.Next.the-variants as next
-use Rattle.items.specs.declared.Piece.{Piece}
-use Rattle.items.specs.declared.Piece.the-variants as piece
-use Rattle.items.specs.declared.NameRead.the-variants as name
-use Rattle.items.specs.declared.ValueRead.the-variants as read
+use Rattle.items.specs.declared.ItemAt.{ItemAt}
+use Rattle.items.specs.declared.ItemAt.the-variants as piece
+use Rattle.items.specs.declared.NameItem.the-variants as name
+use Rattle.items.specs.declared.ValueItem.the-variants as read
 use Rattle.items.specs.Reads.{endRead, nextAt, itemTo}
 use Rattle.items.specs.Rest.{restAt, onNext, onItem}
 use Rattle.items.specs.Pieces.{afterEnd, openAfter, wordPiece, quotedPiece, namePiece, truthPiece, valuePiece, readAt, openNext, onPiece, onName, onValue}
@@ -106,7 +106,7 @@ module _ {B : Type 0} (d : ℕ) (s : Bytes) (p : ℕ) where
       go None e = refl
 
 -- a word as a name
-name-piece : {B : Type 0} (s : Bytes) (w : Piece) (f : Bytes → ℕ → Maybe B) (g : ℕ → Maybe B)
+name-piece : {B : Type 0} (s : Bytes) (w : ItemAt) (f : Bytes → ℕ → Maybe B) (g : ℕ → Maybe B)
     → onPiece w (λ p q. andThen (nameOf (partOf s p (q - p))) (λ n. f n q)) ≡ onName s (namePiece s w) f g
 unfolding onPiece onName namePiece andThen
 name-piece s piece.None f g = refl

@@ -16,12 +16,12 @@ use Rattle.text.specs.declared.End.{End}
 use Rattle.text.specs.declared.End.the-variants as end
 use Rattle.items.specs.declared.Next.{Next}
 use Rattle.items.specs.declared.Next.the-variants as next
-use Rattle.items.specs.declared.Piece.{Piece}
-use Rattle.items.specs.declared.Piece.the-variants as piece
-use Rattle.items.specs.declared.NameRead.{NameRead}
-use Rattle.items.specs.declared.NameRead.the-variants as name
-use Rattle.items.specs.declared.ValueRead.{ValueRead}
-use Rattle.items.specs.declared.ValueRead.the-variants as read
+use Rattle.items.specs.declared.ItemAt.{ItemAt}
+use Rattle.items.specs.declared.ItemAt.the-variants as piece
+use Rattle.items.specs.declared.NameItem.{NameItem}
+use Rattle.items.specs.declared.NameItem.the-variants as name
+use Rattle.items.specs.declared.ValueItem.{ValueItem}
+use Rattle.items.specs.declared.ValueItem.the-variants as read
 use Rattle.items.specs.declared.ClaimRead.the-variants as claim
 use Rattle.items.specs.declared.EntryRead.the-variants as entry
 use Rattle.items.specs.Rest.{restAt, spacesFrom, formAt, onNext}
@@ -46,7 +46,7 @@ first-then reading (i ∷ is) k c = go (reading i)
     go (just a) = refl
 
 module _ {B : Type 0} (s : Bytes) where
-  entry-shut : (d : ℕ) (a b : ℕ) (r : ValueRead) (k : Entry → ℕ → Maybe B) (g : ℕ → Maybe B)
+  entry-shut : (d : ℕ) (a b : ℕ) (r : ValueItem) (k : Entry → ℕ → Maybe B) (g : ℕ → Maybe B)
       → onValue s r (λ v q. restAt d false q s (λ e is. andThen (atEnd is (record { attr = partOf s a (b - a); value = v })) (λ x. k x e))) ≡ onEntry s (entryValued s a b r) k g
   unfolding onValue entryValued onEntry onPlace afterEnd
   entry-shut d a b read.None k g = refl
@@ -57,7 +57,7 @@ module _ {B : Type 0} (s : Bytes) where
       go (end.At e) = refl
       go end.None = refl
 
-  entry-named : (d : ℕ) (n : NameRead) (k : Entry → ℕ → Maybe B) (g : ℕ → Maybe B)
+  entry-named : (d : ℕ) (n : NameItem) (k : Entry → ℕ → Maybe B) (g : ℕ → Maybe B)
       → onName s n (λ w q. restAt d false q s (λ e is. first asValue is (λ v is. andThen (atEnd is (record { attr = w; value = v })) (λ x. k x e)))) (λ e. nothing) ≡ onEntry s (entryNamed d s (namePlaces n)) k g
   unfolding onName entryNamed onEntry
   entry-named d (name.Close e) k g = refl
@@ -107,7 +107,7 @@ first-nothing {A} {B} reading (i ∷ is) = go (reading i)
     go (just a) = refl
 
 module _ {B : Type 0} (d : ℕ) (s : Bytes) (k : Claim → ℕ → Maybe B) (g : ℕ → Maybe B) where
-  claim-node : (a b : ℕ) (n : NameRead)
+  claim-node : (a b : ℕ) (n : NameItem)
       → onName s n (λ w q. restAt d false q s (λ e is. andThen (atEnd is (record { actor = partOf s a (b - a); node = w })) (λ x. k x e))) (λ e. nothing) ≡ onClaim s (claimNode s a b (namePlaces n)) k g
   unfolding onName claimNode onClaim onPlace afterEnd
   claim-node a b (name.Close e) = refl
@@ -119,7 +119,7 @@ module _ {B : Type 0} (d : ℕ) (s : Bytes) (k : Claim → ℕ → Maybe B) (g :
       go (end.At e) = refl
       go end.None = refl
 
-  claim-actor : (n : NameRead)
+  claim-actor : (n : NameItem)
       → onName s n (λ w q. restAt d false q s (λ e is. first asName is (λ m is. andThen (atEnd is (record { actor = w; node = m })) (λ x. k x e)))) (λ e. nothing) ≡ onClaim s (claimActor d s (namePlaces n)) k g
   unfolding onName claimActor onClaim
   claim-actor (name.Close e) = refl
@@ -131,7 +131,7 @@ module _ {B : Type 0} (d : ℕ) (s : Bytes) (k : Claim → ℕ → Maybe B) (g :
   unfolding claimRest
   claim-rest i = first-name d false s i (λ e a is. first asName is (λ n is. andThen (atEnd is (record { actor = a; node = n })) (λ x. k x e))) ∙ claim-actor (nameNext d false s i)
 
-  claim-head : (w : Piece)
+  claim-head : (w : ItemAt)
       → onPiece w (λ p q. restAt d false q s (λ e is. first asName is (λ a is. first asName is (λ n is. andThen (pick (same (partOf s p (q - p)) (bytesOf "id")) (atEnd is (record { actor = a; node = n })) nothing) (λ x. k x e)))))
       ≡ onClaim s (claimHead d s w) k g
   unfolding onPiece claimHead onClaim andThen
@@ -176,12 +176,12 @@ form-claims s free i k =
 
 -- what the tests of `entry` say
 module _ (d : ℕ) (s : Bytes) (i p : ℕ) (e : next.Item p ≡ openNext s i) where
-  pub at-entry : (w : Piece) → w ≡ namePlaces (nameNext d true s p) → entryNamed d s w ≡ entryNext d s i
+  pub at-entry : (w : ItemAt) → w ≡ namePlaces (nameNext d true s p) → entryNamed d s w ≡ entryNext d s i
   unfolding entryNext entryAfter
   at-entry w h = ap (entryNamed d s) h ∙ ap (entryAfter d s) e
 
   module _ (a b : ℕ) (n : piece.At a b ≡ namePlaces (nameNext d true s p)) where
-    pub entry-value : (r : ValueRead) → r ≡ valueNext d false s b → entryValued s a b r ≡ entryNext d s i
+    pub entry-value : (r : ValueItem) → r ≡ valueNext d false s b → entryValued s a b r ≡ entryNext d s i
     unfolding entryNamed
     entry-value r h = ap (entryValued s a b) h ∙ at-entry (piece.At a b) n
 
@@ -191,7 +191,7 @@ module _ (d : ℕ) (s : Bytes) (i p : ℕ) (e : next.Item p ≡ openNext s i) wh
 
 -- what the tests of `claim` and `claim_rest` say
 module _ (d : ℕ) (s : Bytes) (i a b : ℕ) (n : piece.At a b ≡ namePlaces (nameNext d false s i)) where
-  pub at-node : (w : Piece) → w ≡ namePlaces (nameNext d false s b) → claimNode s a b w ≡ claimRest d s i
+  pub at-node : (w : ItemAt) → w ≡ namePlaces (nameNext d false s b) → claimNode s a b w ≡ claimRest d s i
   unfolding claimRest claimActor
   at-node w h = ap (claimNode s a b) h ∙ ap (claimActor d s) n
 
@@ -199,7 +199,7 @@ module _ (d : ℕ) (s : Bytes) (i a b : ℕ) (n : piece.At a b ≡ namePlaces (n
   unfolding claimNode
   at-shut x y h r k = ap (λ (r : End). afterEnd r (λ e. claim.Claim a b x y e) claim.None) k ∙ at-node (piece.At x y) h
 
-pub at-claim : (d : ℕ) (s : Bytes) (i p : ℕ) → next.Item p ≡ openNext s i → (w : Piece) → w ≡ wordNext d true s p → claimHead d s w ≡ claimNext d s i
+pub at-claim : (d : ℕ) (s : Bytes) (i p : ℕ) → next.Item p ≡ openNext s i → (w : ItemAt) → w ≡ wordNext d true s p → claimHead d s w ≡ claimNext d s i
 unfolding claimNext claimAfter
 at-claim d s i p e w h = ap (claimHead d s) h ∙ ap (claimAfter d s) e
 

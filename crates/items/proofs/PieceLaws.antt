@@ -17,10 +17,10 @@ use Rattle.text.specs.Places.{peekAt, past, isSpace}
 use Rattle.items.specs.declared.ItemRead.the-variants.{None}
 use Rattle.items.specs.declared.Next.{Next}
 use Rattle.items.specs.declared.Next.the-variants as next
-use Rattle.items.specs.declared.Piece.{Piece}
-use Rattle.items.specs.declared.Piece.the-variants as piece
-use Rattle.items.specs.declared.ValueRead.{ValueRead}
-use Rattle.items.specs.declared.ValueRead.the-variants as read
+use Rattle.items.specs.declared.ItemAt.{ItemAt}
+use Rattle.items.specs.declared.ItemAt.the-variants as piece
+use Rattle.items.specs.declared.ValueItem.{ValueItem}
+use Rattle.items.specs.declared.ValueItem.the-variants as read
 use Rattle.items.specs.Reads.{nextAt}
 use Rattle.items.specs.Rest.{restAt, onNext, onItem}
 use Rattle.items.specs.Pieces.{itemPlace, afterEnd, nameAfter, closeAfter, wordPiece, quotedPiece, namePiece, valuePiece, readAt, wordNext, quotedNext, nameNext, valueNext, openNext, closeNext, onPiece, onName, onValue, onPlace}
@@ -100,7 +100,7 @@ module _ {A B : Type 0} (d : ℕ) (free : Bool) (s : Bytes) (i : ℕ) where
       ∙ close-item free s i (λ e. k e a)
 
 -- a list that is asked for a word, a name, a value, a policy text, a list
-after-piece : {B : Type 0} (n : Next) (f : ℕ → Piece) (g : ℕ → ℕ → Maybe B) → onNext n (λ p. onPiece (f p) g) (λ e. nothing) ≡ onPiece (afterEnd (itemPlace n) f piece.None) g
+after-piece : {B : Type 0} (n : Next) (f : ℕ → ItemAt) (g : ℕ → ℕ → Maybe B) → onNext n (λ p. onPiece (f p) g) (λ e. nothing) ≡ onPiece (afterEnd (itemPlace n) f piece.None) g
 unfolding onNext afterEnd onPiece
 after-piece (next.Item p) f g = refl
 after-piece (next.Close e) f g = refl
@@ -113,7 +113,7 @@ after-name d s (next.Item p) g h = refl
 after-name d s (next.Close e) g h = refl
 after-name d s next.None g h = refl
 
-after-value : {B : Type 0} (s : Bytes) (n : Next) (f : ℕ → ValueRead) (g : Value → ℕ → Maybe B) → onNext n (λ p. onValue s (f p) g) (λ e. nothing) ≡ onValue s (afterEnd (itemPlace n) f read.None) g
+after-value : {B : Type 0} (s : Bytes) (n : Next) (f : ℕ → ValueItem) (g : Value → ℕ → Maybe B) → onNext n (λ p. onValue s (f p) g) (λ e. nothing) ≡ onValue s (afterEnd (itemPlace n) f read.None) g
 unfolding onNext afterEnd onValue
 after-value s (next.Item p) f g = refl
 after-value s (next.Close e) f g = refl

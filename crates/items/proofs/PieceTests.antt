@@ -21,9 +21,9 @@ use Rattle.text.specs.Places.{peekAt, endOf}
 use Rattle.items.specs.declared.ItemRead.{ItemRead}
 use Rattle.items.specs.declared.ItemRead.the-variants.{Word, Number, Text, Quoted, List, None}
 use Rattle.items.specs.declared.Next.the-variants as next
-use Rattle.items.specs.declared.Piece.the-variants as piece
-use Rattle.items.specs.declared.NameRead.the-variants as name
-use Rattle.items.specs.declared.ValueRead.the-variants as read
+use Rattle.items.specs.declared.ItemAt.the-variants as piece
+use Rattle.items.specs.declared.NameItem.the-variants as name
+use Rattle.items.specs.declared.ValueItem.the-variants as read
 use Rattle.items.specs.Reads.{kindAt, readOf, nextAt}
 use Rattle.items.specs.Pieces.{itemPlace, wordEnd, wordOf, quotedEnd, afterEnd, nameAfter, openAfter, wordPiece, quotedPiece, namePiece, truthPiece, valuePiece, readAt, wordNext, quotedNext, nameNext, valueNext}
 use Rattle.items.proofs.ReadLaws.{plain-word, plain-whole, plain-text, plain-quoted, plain-none, item-opened, item-deep, read-plain, Within, read-within}

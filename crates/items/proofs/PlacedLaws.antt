@@ -21,11 +21,11 @@ use Rattle.items.specs.declared.ItemRead.{ItemRead}
 use Rattle.items.specs.declared.ItemRead.the-variants.{Word, Number, Text, Quoted, List, None}
 use Rattle.items.specs.declared.Next.{Next}
 use Rattle.items.specs.declared.Next.the-variants as next
-use Rattle.items.specs.declared.Piece.{Piece}
-use Rattle.items.specs.declared.Piece.the-variants as piece
-use Rattle.items.specs.declared.NameRead.the-variants as name
-use Rattle.items.specs.declared.ValueRead.{ValueRead}
-use Rattle.items.specs.declared.ValueRead.the-variants as read
+use Rattle.items.specs.declared.ItemAt.{ItemAt}
+use Rattle.items.specs.declared.ItemAt.the-variants as piece
+use Rattle.items.specs.declared.NameItem.the-variants as name
+use Rattle.items.specs.declared.ValueItem.{ValueItem}
+use Rattle.items.specs.declared.ValueItem.the-variants as read
 use Rattle.items.specs.declared.EntryRead.{EntryRead}
 use Rattle.items.specs.declared.EntryRead.the-variants as entry
 use Rattle.items.specs.Reads.{nextAt}
@@ -35,7 +35,7 @@ use Rattle.items.specs.Places.{WordPlaces, Placed, NextWord, NextName, Q
 use Rattle.items.proofs.ReadLaws.{read-within, text-within, quoted-within, word-small}
 
 -- where a piece that was read stands
-pub placed-at : (s : Bytes) (i : ℕ) {p q : ℕ} (r : Piece) → r ≡ piece.At p q → Placed s i r → WordPlaces s i p q
+pub placed-at : (s : Bytes) (i : ℕ) {p q : ℕ} (r : ItemAt) → r ≡ piece.At p q → Placed s i r → WordPlaces s i p q
 placed-at s i r e h = subst (Placed s i) e h
 
 -- what follows in a list stands behind the place
@@ -84,7 +84,7 @@ module _ (d : ℕ) (free : Bool) (s : Bytes) (i : ℕ) where
   unfolding nameNext nameAfter namePiece
   name-placed = go (nextAt free s i) (follows free s i)
     where
-      named : (w : Piece) → Placed s i w → Placed s i (namePlaces (namePiece s w))
+      named : (w : ItemAt) → Placed s i w → Placed s i (namePlaces (namePiece s w))
       named (piece.At p q) h = by (not (mem (partOf s p (q - p)) neverNames))
         where
           by : (b : Bool) → Placed s i (namePlaces (pick b (name.Name p q) name.None))
@@ -120,7 +120,7 @@ record ValuePlaces (s : Bytes) (i : ℕ) (v : ValueData) (q : ℕ) : Type 0 wher
   inside : q ≤ length s
   ends : ValueInside s v
 
-abbrev ValuePlaced : Bytes → ℕ → ValueRead → Type 0
+abbrev ValuePlaced : Bytes → ℕ → ValueItem → Type 0
 ValuePlaced s i (read.Value v q) = ValuePlaces s i v q
 ValuePlaced s i read.None = Unit {0}
 
@@ -179,7 +179,7 @@ module _ (s : Bytes) (i : ℕ) where
 
 -- (ATTR VALUE)
 module _ (d : ℕ) (s : Bytes) (i : ℕ) where
-  entry-valued : (a b : ℕ) → WordPlaces s i a b → (r : ValueRead) → ValuePlaced s b r → EntryPlaced s i (entryValued s a b r)
+  entry-valued : (a b : ℕ) → WordPlaces s i a b → (r : ValueItem) → ValuePlaced s b r → EntryPlaced s i (entryValued s a b r)
   unfolding entryValued afterEnd
   entry-valued a b w (read.Value v q) h = go (closeNext s q) (close-placed s q)
     where
@@ -188,7 +188,7 @@ module _ (d : ℕ) (s : Bytes) (i : ℕ) where
       go end.None k = tt
   entry-valued a b w read.None h = tt
 
-  entry-named : (p : ℕ) → i ≤ p → (r : Piece) → Placed s p r → EntryPlaced s i (entryNamed d s r)
+  entry-named : (p : ℕ) → i ≤ p → (r : ItemAt) → Placed s p r → EntryPlaced s i (entryNamed d s r)
   unfolding entryNamed
   entry-named p l (piece.At a b) w =
       entry-valued a b (record { after = omega (arith, w .after); some = w .some; inside = w .inside; short = w .short }) (valueNext d false s b) (value-placed s b d)
@@ -204,13 +204,13 @@ module _ (d : ℕ) (s : Bytes) (i : ℕ) where
       go next.None h = tt
 
 -- what the readers give stands there
-pub told-word : {d : ℕ} {free : Bool} {s : Bytes} {i : ℕ} {r : Piece} → r ≡ wordNext d free s i → NextWord d free s i r
+pub told-word : {d : ℕ} {free : Bool} {s : Bytes} {i : ℕ} {r : ItemAt} → r ≡ wordNext d free s i → NextWord d free s i r
 told-word {d} {free} {s} {i} e = record { is = e; placed = subst (Placed s i) (sym e) (word-placed d free s i) }
 
-pub told-name : {d : ℕ} {s : Bytes} {i : ℕ} {r : Piece} → r ≡ namePlaces (nameNext d false s i) → NextName d s i r
+pub told-name : {d : ℕ} {s : Bytes} {i : ℕ} {r : ItemAt} → r ≡ namePlaces (nameNext d false s i) → NextName d s i r
 told-name {d} {s} {i} e = record { is = e; placed = subst (Placed s i) (sym e) (name-placed d false s i) }
 
-pub told-quoted : {d : ℕ} {s : Bytes} {i : ℕ} {r : Piece} → r ≡ quotedNext d false s i → NextQuoted d s i r
+pub told-quoted : {d : ℕ} {s : Bytes} {i : ℕ} {r : ItemAt} → r ≡ quotedNext d false s i → NextQuoted d s i r
 told-quoted {d} {s} {i} e = record { is = e; placed = subst (QuotedPlaced s) (sym e) (quoted-placed d false s i) }
 
 pub told-entry : {d : ℕ} {s : Bytes} {i : ℕ} {r : EntryRead} → r ≡ entryNext d s i → NextEntry d s i r

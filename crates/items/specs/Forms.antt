@@ -12,10 +12,10 @@ use Rattle.text.specs.declared.End.the-variants as end
 use Rattle.text.specs.Places.{peekAt, past, isSpace}
 use Rattle.items.specs.declared.Next.{Next}
 use Rattle.items.specs.declared.Next.the-variants as next
-use Rattle.items.specs.declared.Piece.{Piece}
-use Rattle.items.specs.declared.Piece.the-variants as piece
-use Rattle.items.specs.declared.ValueRead.{ValueRead}
-use Rattle.items.specs.declared.ValueRead.the-variants as read
+use Rattle.items.specs.declared.ItemAt.{ItemAt}
+use Rattle.items.specs.declared.ItemAt.the-variants as piece
+use Rattle.items.specs.declared.ValueItem.{ValueItem}
+use Rattle.items.specs.declared.ValueItem.the-variants as read
 use Rattle.items.specs.declared.EntryRead.{EntryRead}
 use Rattle.items.specs.declared.EntryRead.the-variants as entry
 use Rattle.items.specs.declared.ClaimRead.{ClaimRead}
@@ -24,11 +24,11 @@ use Rattle.items.specs.Rest.{spacesFrom}
 use Rattle.items.specs.Pieces.{afterEnd, namePlaces, wordNext, nameNext, valueNext, openNext, closeNext}
 
 -- the next (ATTR VALUE), step by step
-unfoldable pub entryValued : Bytes → ℕ → ℕ → ValueRead → EntryRead
+unfoldable pub entryValued : Bytes → ℕ → ℕ → ValueItem → EntryRead
 entryValued s a b (read.Value v q) = afterEnd (closeNext s q) (λ e. entry.Entry a b v e) entry.None
 entryValued s a b read.None = entry.None
 
-unfoldable pub entryNamed : ℕ → Bytes → Piece → EntryRead
+unfoldable pub entryNamed : ℕ → Bytes → ItemAt → EntryRead
 entryNamed d s (piece.At a b) = entryValued s a b (valueNext d false s b)
 entryNamed d s piece.None = entry.None
 
@@ -60,11 +60,11 @@ unfoldable pub formCloses : Bytes → ℕ → Bool
 formCloses s i = spacesBehind s (closeNext s i)
 
 -- the two names of an (id ACTOR NODE) behind its first word, step by step
-unfoldable pub claimNode : Bytes → ℕ → ℕ → Piece → ClaimRead
+unfoldable pub claimNode : Bytes → ℕ → ℕ → ItemAt → ClaimRead
 claimNode s a b (piece.At x y) = afterEnd (closeNext s y) (λ e. claim.Claim a b x y e) claim.None
 claimNode s a b piece.None = claim.None
 
-unfoldable pub claimActor : ℕ → Bytes → Piece → ClaimRead
+unfoldable pub claimActor : ℕ → Bytes → ItemAt → ClaimRead
 claimActor d s (piece.At a b) = claimNode s a b (namePlaces (nameNext d false s b))
 claimActor d s piece.None = claim.None
 
@@ -72,7 +72,7 @@ unfoldable pub claimRest : ℕ → Bytes → ℕ → ClaimRead
 claimRest d s i = claimActor d s (namePlaces (nameNext d false s i))
 
 -- the next (id ACTOR NODE), or the closing bracket
-unfoldable pub claimHead : ℕ → Bytes → Piece → ClaimRead
+unfoldable pub claimHead : ℕ → Bytes → ItemAt → ClaimRead
 claimHead d s (piece.At p q) = pick (same (partOf s p (q - p)) (bytesOf "id")) (claimRest d s q) claim.None
 claimHead d s piece.None = claim.None
 

@@ -19,12 +19,12 @@ use Rattle.items.specs.declared.ItemRead.{ItemRead}
 use Rattle.items.specs.declared.ItemRead.the-variants.{Word, Number, Text, Quoted, List, None}
 use Rattle.items.specs.declared.Next.{Next}
 use Rattle.items.specs.declared.Next.the-variants as next
-use Rattle.items.specs.declared.Piece.{Piece}
-use Rattle.items.specs.declared.Piece.the-variants as piece
-use Rattle.items.specs.declared.NameRead.{NameRead}
-use Rattle.items.specs.declared.NameRead.the-variants as name
-use Rattle.items.specs.declared.ValueRead.{ValueRead}
-use Rattle.items.specs.declared.ValueRead.the-variants as read
+use Rattle.items.specs.declared.ItemAt.{ItemAt}
+use Rattle.items.specs.declared.ItemAt.the-variants as piece
+use Rattle.items.specs.declared.NameItem.{NameItem}
+use Rattle.items.specs.declared.NameItem.the-variants as name
+use Rattle.items.specs.declared.ValueItem.{ValueItem}
+use Rattle.items.specs.declared.ValueItem.the-variants as read
 use Rattle.items.specs.Reads.{readOf, nextAt}
 
 -- the place of an item that follows
@@ -60,31 +60,31 @@ afterEnd (end.At q) f x = f q
 afterEnd end.None f x = x
 
 -- an item at a place as a word, or as what stands between the quotes of a policy text
-unfoldable pub wordPiece : ℕ → ItemRead → Piece
+unfoldable pub wordPiece : ℕ → ItemRead → ItemAt
 wordPiece p r = afterEnd (wordEnd r) (λ q. piece.At p q) piece.None
 
-unfoldable pub quotedPiece : ℕ → ItemRead → Piece
+unfoldable pub quotedPiece : ℕ → ItemRead → ItemAt
 quotedPiece p r = afterEnd (quotedEnd r) (λ q. piece.At (p + 1) (q - 1)) piece.None
 
 -- a word as a name
-unfoldable pub namePiece : Bytes → Piece → NameRead
+unfoldable pub namePiece : Bytes → ItemAt → NameItem
 namePiece s (piece.At p q) = pick (not (mem (partOf s p (q - p)) neverNames)) (name.Name p q) name.None
 namePiece s piece.None = name.None
 
 -- the start and end of a name that was read
-abbrev pub namePlaces : NameRead → Piece
+abbrev pub namePlaces : NameItem → ItemAt
 namePlaces (name.Name p q) = piece.At p q
 namePlaces (name.Close e) = piece.None
 namePlaces name.None = piece.None
 
 -- a word as a truth value
-unfoldable pub truthPiece : Bytes → ℕ → ℕ → ValueRead
+unfoldable pub truthPiece : Bytes → ℕ → ℕ → ValueItem
 truthPiece s p q =
     pick (same (partOf s p (q - p)) (bytesOf "true")) (read.Value (value.Truth true) q)
     (pick (same (partOf s p (q - p)) (bytesOf "false")) (read.Value (value.Truth false) q) read.None)
 
 -- an item at a place as a value
-unfoldable pub valuePiece : Bytes → ℕ → ItemRead → ValueRead
+unfoldable pub valuePiece : Bytes → ℕ → ItemRead → ValueItem
 valuePiece s p (Word q) = truthPiece s p q
 valuePiece s p (Number n q) = read.Value (value.Number n) q
 valuePiece s p (Text q) = read.Value (value.Text (p + 1) (q - p - 2)) q
@@ -97,21 +97,21 @@ abbrev pub readAt : ℕ → Bytes → ℕ → ItemRead
 readAt d s p = readOf p (itemAt d (drop p s))
 
 -- the next piece of a list from a place on
-unfoldable pub wordNext : ℕ → Bool → Bytes → ℕ → Piece
+unfoldable pub wordNext : ℕ → Bool → Bytes → ℕ → ItemAt
 wordNext d free s i = afterEnd (itemPlace (nextAt free s i)) (λ p. wordPiece p (readAt d s p)) piece.None
 
-unfoldable pub quotedNext : ℕ → Bool → Bytes → ℕ → Piece
+unfoldable pub quotedNext : ℕ → Bool → Bytes → ℕ → ItemAt
 quotedNext d free s i = afterEnd (itemPlace (nextAt free s i)) (λ p. quotedPiece p (readAt d s p)) piece.None
 
-unfoldable pub nameAfter : ℕ → Bytes → Next → NameRead
+unfoldable pub nameAfter : ℕ → Bytes → Next → NameItem
 nameAfter d s (next.Item p) = namePiece s (wordPiece p (readAt d s p))
 nameAfter d s (next.Close e) = name.Close e
 nameAfter d s next.None = name.None
 
-unfoldable pub nameNext : ℕ → Bool → Bytes → ℕ → NameRead
+unfoldable pub nameNext : ℕ → Bool → Bytes → ℕ → NameItem
 nameNext d free s i = nameAfter d s (nextAt free s i)
 
-unfoldable pub valueNext : ℕ → Bool → Bytes → ℕ → ValueRead
+unfoldable pub valueNext : ℕ → Bool → Bytes → ℕ → ValueItem
 valueNext d free s i = afterEnd (itemPlace (nextAt free s i)) (λ p. valuePiece s p (readAt d s p)) read.None
 
 -- where the items of the next item begin, if it is a list; or the closing bracket
@@ -133,16 +133,16 @@ unfoldable pub closeNext : Bytes → ℕ → End
 closeNext s i = closeAfter (nextAt true s i)
 
 -- go on with a piece, with a name or the closing bracket, with a value, with an end
-unfoldable pub onPiece : {B : Type 0} → Piece → (ℕ → ℕ → Maybe B) → Maybe B
+unfoldable pub onPiece : {B : Type 0} → ItemAt → (ℕ → ℕ → Maybe B) → Maybe B
 onPiece (piece.At p q) f = f p q
 onPiece piece.None f = nothing
 
-unfoldable pub onName : {B : Type 0} → Bytes → NameRead → (Bytes → ℕ → Maybe B) → (ℕ → Maybe B) → Maybe B
+unfoldable pub onName : {B : Type 0} → Bytes → NameItem → (Bytes → ℕ → Maybe B) → (ℕ → Maybe B) → Maybe B
 onName s (name.Name p q) f g = f (partOf s p (q - p)) q
 onName s (name.Close e) f g = g e
 onName s name.None f g = nothing
 
-unfoldable pub onValue : {B : Type 0} → Bytes → ValueRead → (values.Value → ℕ → Maybe B) → Maybe B
+unfoldable pub onValue : {B : Type 0} → Bytes → ValueItem → (values.Value → ℕ → Maybe B) → Maybe B
 onValue s (read.Value v q) f = f (valueOf s v) q
 onValue s read.None f = nothing
 

@@ -6,8 +6,8 @@ use lib.ListN.{length}
 use Rattle.model.specs.Bytes.{Bytes}
 use Rattle.model.specs.declared.Value.{Value}
 use Rattle.model.specs.declared.Value.the-variants.{Number, Text, Truth}
-use Rattle.items.specs.declared.Piece.{Piece}
-use Rattle.items.specs.declared.Piece.the-variants.{At, None}
+use Rattle.items.specs.declared.ItemAt.{ItemAt}
+use Rattle.items.specs.declared.ItemAt.the-variants.{At, None}
 use Rattle.items.specs.declared.EntryRead.{EntryRead}
 use Rattle.items.specs.declared.EntryRead.the-variants as entry
 use Rattle.items.specs.Pieces.{wordNext, quotedNext, nameNext, namePlaces}
@@ -21,17 +21,17 @@ pub record WordPlaces (s : Bytes) (i p q : ℕ) : Type 0 where
   pub short : q - p ≤ 24
 
 -- the same of a piece that was read, if one was
-abbrev pub Placed : Bytes → ℕ → Piece → Type 0
+abbrev pub Placed : Bytes → ℕ → ItemAt → Type 0
 Placed s i (At p q) = WordPlaces s i p q
 Placed s i None = Unit {0}
 
 -- the word that follows, and where it stands
-pub record NextWord (d : ℕ) (free : Bool) (s : Bytes) (i : ℕ) (r : Piece) : Type 0 where
+pub record NextWord (d : ℕ) (free : Bool) (s : Bytes) (i : ℕ) (r : ItemAt) : Type 0 where
   pub is : r ≡ wordNext d free s i
   pub placed : Placed s i r
 
 -- the name that follows behind a word, and where it stands
-pub record NextName (d : ℕ) (s : Bytes) (i : ℕ) (r : Piece) : Type 0 where
+pub record NextName (d : ℕ) (s : Bytes) (i : ℕ) (r : ItemAt) : Type 0 where
   pub is : r ≡ namePlaces (nameNext d false s i)
   pub placed : Placed s i r
 
@@ -41,12 +41,12 @@ pub record QuotedPlaces (s : Bytes) (t u : ℕ) : Type 0 where
   pub inside : u < length s
 
 -- the same of a piece that was read, if one was
-abbrev pub QuotedPlaced : Bytes → Piece → Type 0
+abbrev pub QuotedPlaced : Bytes → ItemAt → Type 0
 QuotedPlaced s (At t u) = QuotedPlaces s t u
 QuotedPlaced s None = Unit {0}
 
 -- the policy text that follows behind a word, and where it stands
-pub record NextQuoted (d : ℕ) (s : Bytes) (i : ℕ) (r : Piece) : Type 0 where
+pub record NextQuoted (d : ℕ) (s : Bytes) (i : ℕ) (r : ItemAt) : Type 0 where
   pub is : r ≡ quotedNext d false s i
   pub placed : QuotedPlaced s r
 

@@ -5,9 +5,9 @@ ghost use Rattle.items.specs.Forms.{claimRest, claimNext, formOpens, for
 ghost use Rattle.items.specs.Places.{NextEntry};
 use crate::ClaimRead;
 use crate::EntryRead;
+use crate::ItemAt;
 use crate::Next;
-use crate::Piece;
-use crate::ValueRead;
+use crate::ValueItem;
 use crate::pieces;
 use crate::places;
 use crate::read;
@@ -53,11 +53,11 @@ pub fn entry(s: &[u8], from: usize, depth: usize) -> EntryRead
             let End::At(next) = read::list(s, i, true, depth) else {
                 return EntryRead::None;
             };
-            let Piece::At(start, end) = pieces::name_places(pieces::next_name(s, i, true, depth))
+            let ItemAt::At(start, end) = pieces::name_places(pieces::next_name(s, i, true, depth))
             else {
                 return EntryRead::None;
             };
-            let ValueRead::Value(value, q) = pieces::next_value(s, end, false, depth) else {
+            let ValueItem::Value(value, q) = pieces::next_value(s, end, false, depth) else {
                 return EntryRead::None;
             };
             if pieces::only_closes(s, q, next) {
@@ -82,10 +82,10 @@ pub fn claim_rest(s: &[u8], from: usize, depth: usize) -> ClaimRead
     let End::At(next) = read::list(s, from, false, depth) else {
         return ClaimRead::None;
     };
-    let Piece::At(actor_start, actor_end) = places::next_name(s, from, depth) else {
+    let ItemAt::At(actor_start, actor_end) = places::next_name(s, from, depth) else {
         return ClaimRead::None;
     };
-    let Piece::At(node_start, node_end) = places::next_name(s, actor_end, depth) else {
+    let ItemAt::At(node_start, node_end) = places::next_name(s, actor_end, depth) else {
         return ClaimRead::None;
     };
     if pieces::only_closes(s, node_end, next) {
@@ -106,7 +106,7 @@ pub fn claim(s: &[u8], from: usize, depth: usize) -> ClaimRead
 {
     match pieces::open_list(s, from) {
         Next::Item(i) => {
-            let Piece::At(p, q) = places::next_word(s, i, true, depth) else {
+            let ItemAt::At(p, q) = places::next_word(s, i, true, depth) else {
                 return ClaimRead::None;
             };
             if compare::same_bytes(&s[p..q], b"id") {

@@ -24,20 +24,20 @@ pub enum Next {
 }
 
 // A part of a text from its first byte to the place behind its last one; or that it cannot be read there.
-pub enum Piece {
+pub enum ItemAt {
     At(usize, usize),
     None,
 }
 
 // A name by its start and end, the closing bracket with the place behind it, or neither.
-pub enum NameRead {
+pub enum NameItem {
     Name(usize, usize),
     Close(usize),
     None,
 }
 
 // A value and the place behind it; or that none can be read there.
-pub enum ValueRead {
+pub enum ValueItem {
     Value(Value, usize),
     None,
 }

@@ -8,11 +8,11 @@ ghost use Rattle.model.specs.Items.{itemAt};
 ghost use Rattle.text.specs.Places.{past, isSpace};
 ghost use Rattle.items.specs.Reads.{readOf};
 ghost use Rattle.items.specs.Pieces.{itemPlace, wordOf, quotedEnd, namePlaces, nameNext, valuePiece, valueNext, openNext, closeNext};
+use crate::ItemAt;
 use crate::ItemRead;
-use crate::NameRead;
+use crate::NameItem;
 use crate::Next;
-use crate::Piece;
-use crate::ValueRead;
+use crate::ValueItem;
 use crate::read;
 use model::Value;
 use text::End;
@@ -56,63 +56,63 @@ pub fn quoted_end(i: ItemRead) -> End
 }
 
 // The next item, if it is a name; or the closing bracket.
-pub fn next_name(s: &[u8], from: usize, free: bool, depth: usize) -> NameRead
+pub fn next_name(s: &[u8], from: usize, free: bool, depth: usize) -> NameItem
     ensures { λ r. ⌜ r ≡ nameNext depth free (now (s .entry)) from ⌝ }
 {
     match read::next(s, from, free) {
         Next::Item(p) => {
             let End::At(q) = word_at(s, p) else {
-                return NameRead::None;
+                return NameItem::None;
             };
             if compare::is_name(&s[p..q]) {
-                return NameRead::Name(p, q);
+                return NameItem::Name(p, q);
             }
-            NameRead::None
+            NameItem::None
         }
-        Next::Close(e) => NameRead::Close(e),
-        Next::None => NameRead::None,
+        Next::Close(e) => NameItem::Close(e),
+        Next::None => NameItem::None,
     }
 }
 
 // The start and end of a name that was read.
-pub fn name_places(n: NameRead) -> Piece
+pub fn name_places(n: NameItem) -> ItemAt
     ensures { λ r. ⌜ r ≡ namePlaces n ⌝ }
 {
     match n {
-        NameRead::Name(p, q) => Piece::At(p, q),
-        NameRead::Close(_) => Piece::None,
-        NameRead::None => Piece::None,
+        NameItem::Name(p, q) => ItemAt::At(p, q),
+        NameItem::Close(_) => ItemAt::None,
+        NameItem::None => ItemAt::None,
     }
 }
 
 // The value at a place.
-pub fn value(s: &[u8], at: usize, depth: usize) -> ValueRead
+pub fn value(s: &[u8], at: usize, depth: usize) -> ValueItem
     ensures { λ r. ⌜ r ≡ valuePiece (now (s .entry)) at (readOf at (itemAt depth (drop at (now (s .entry))))) ⌝ }
 {
     match read::item(s, at, depth) {
         ItemRead::Word(q) => {
             if compare::same_bytes(&s[at..q], b"true") {
-                return ValueRead::Value(Value::Truth(true), q);
+                return ValueItem::Value(Value::Truth(true), q);
             }
             if compare::same_bytes(&s[at..q], b"false") {
-                return ValueRead::Value(Value::Truth(false), q);
+                return ValueItem::Value(Value::Truth(false), q);
             }
-            ValueRead::None
+            ValueItem::None
         }
-        ItemRead::Number(n, q) => ValueRead::Value(Value::Number(n), q),
-        ItemRead::Text(q) => ValueRead::Value(Value::Text(at + 1, q - at - 2), q),
-        ItemRead::Quoted(_) => ValueRead::None,
-        ItemRead::List(_) => ValueRead::None,
-        ItemRead::None => ValueRead::None,
+        ItemRead::Number(n, q) => ValueItem::Value(Value::Number(n), q),
+        ItemRead::Text(q) => ValueItem::Value(Value::Text(at + 1, q - at - 2), q),
+        ItemRead::Quoted(_) => ValueItem::None,
+        ItemRead::List(_) => ValueItem::None,
+        ItemRead::None => ValueItem::None,
     }
 }
 
 // The next item, if it is a value.
-pub fn next_value(s: &[u8], from: usize, free: bool, depth: usize) -> ValueRead
+pub fn next_value(s: &[u8], from: usize, free: bool, depth: usize) -> ValueItem
     ensures { λ r. ⌜ r ≡ valueNext depth free (now (s .entry)) from ⌝ }
 {
     let End::At(p) = item_place(read::next(s, from, free)) else {
-        return ValueRead::None;
+        return ValueItem::None;
     };
     value(s, p, depth)
 }

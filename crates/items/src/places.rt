@@ -1,39 +1,39 @@
 // The word, the name or the policy text that follows, with where it stands.
 ghost use Rattle.items.specs.Places.{NextWord, NextName, NextQuoted};
-use crate::Piece;
+use crate::ItemAt;
 use crate::pieces;
 use crate::read;
 use text::End;
 
 // The next item, if it is a word.
-pub fn next_word(s: &[u8], from: usize, free: bool, depth: usize) -> Piece
+pub fn next_word(s: &[u8], from: usize, free: bool, depth: usize) -> ItemAt
     ensures { λ r. ⌜ NextWord depth free (now (s .entry)) from r ⌝ }
 {
     let End::At(p) = pieces::item_place(read::next(s, from, free)) else {
-        return Piece::None;
+        return ItemAt::None;
     };
     let End::At(q) = pieces::word_at(s, p) else {
-        return Piece::None;
+        return ItemAt::None;
     };
-    Piece::At(p, q)
+    ItemAt::At(p, q)
 }
 
 // The next item behind a word, if it is a name.
-pub fn next_name(s: &[u8], from: usize, depth: usize) -> Piece
+pub fn next_name(s: &[u8], from: usize, depth: usize) -> ItemAt
     ensures { λ r. ⌜ NextName depth (now (s .entry)) from r ⌝ }
 {
     pieces::name_places(pieces::next_name(s, from, false, depth))
 }
 
 // The next item behind a word, if it is a policy text: what stands between its quotes.
-pub fn next_quoted(s: &[u8], from: usize, depth: usize) -> Piece
+pub fn next_quoted(s: &[u8], from: usize, depth: usize) -> ItemAt
     ensures { λ r. ⌜ NextQuoted depth (now (s .entry)) from r ⌝ }
 {
     let End::At(p) = pieces::item_place(read::next(s, from, false)) else {
-        return Piece::None;
+        return ItemAt::None;
     };
     let End::At(q) = pieces::quoted_end(read::item(s, p, depth)) else {
-        return Piece::None;
+        return ItemAt::None;
     };
-    Piece::At(p + 1, q - 1)
+    ItemAt::At(p + 1, q - 1)
 }

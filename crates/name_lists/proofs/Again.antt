@@ -8,7 +8,7 @@ use Rattle.model.specs.Bytes.{Bytes}
 use Rattle.model.specs.Choice.{pick, just}
 use Rattle.model.specs.Names.{mem, twice}
 use Rattle.model.specs.Answers.{partOf, nameAt}
-use Rattle.items.specs.declared.Piece.the-variants as piece
+use Rattle.items.specs.declared.ItemAt.the-variants as piece
 use Rattle.items.specs.Pieces.{nameNext, namePlaces}
 use Rattle.names_met.specs.Table.{Names, namesMet, Holds}
 use Rattle.names_met.proofs.MemberLaws.{twice-end}

@@ -21,10 +21,10 @@ use Rattle.text.specs.declared.End.the-variants as end
 use Rattle.text.specs.Places.{peekAt, past, isSpace}
 use Rattle.items.specs.declared.Next.{Next}
 use Rattle.items.specs.declared.Next.the-variants as next
-use Rattle.items.specs.declared.Piece.{Piece}
-use Rattle.items.specs.declared.Piece.the-variants as piece
-use Rattle.items.specs.declared.NameRead.{NameRead}
-use Rattle.items.specs.declared.NameRead.the-variants as name
+use Rattle.items.specs.declared.ItemAt.{ItemAt}
+use Rattle.items.specs.declared.ItemAt.the-variants as piece
+use Rattle.items.specs.declared.NameItem.{NameItem}
+use Rattle.items.specs.declared.NameItem.the-variants as name
 use Rattle.items.specs.Reads.{nextAt, listEnd}
 use Rattle.items.specs.Rest.{restAt, formAt, onNext}
 use Rattle.items.specs.Pieces.{itemPlace, afterEnd, wordPiece, namePiece, readAt, namePlaces, wordNext, nameAfter, nameNext, openNext, closeAfter}
@@ -66,7 +66,7 @@ module _ (s : Bytes) (i : ℕ) where
   unfolding namesBehind oneMore onName
   names-next = each-name 2 false s i (λ e ns. just (record { names = ns; end = e })) ∙ go (nameNext 2 false s i)
     where
-      go : (r : NameRead) → onName s r (λ n q. restAt 2 false q s (λ e is. andThen (each asName is) (λ ns. just (record { names = n ∷ ns; end = e }))))
+      go : (r : NameItem) → onName s r (λ n q. restAt 2 false q s (λ e is. andThen (each asName is) (λ ns. just (record { names = n ∷ ns; end = e }))))
           (λ e. just (record { names = []; end = e }))
           ≡ onName s r (λ n q. oneMore n (namesBehind s q)) (λ e. just (record { names = []; end = e }))
       go (name.Name p q) = rest-names s q (λ e ns. just (record { names = partOf s p (q - p) ∷ ns; end = e }))
@@ -78,7 +78,7 @@ module _ (s : Bytes) (i : ℕ) where
   unfolding onName oneMore
   name-step x p q n e = go (nameNext 2 false s i) n (sym names-next ∙ e)
     where
-      go : (r : NameRead) → piece.At p q ≡ namePlaces r → onName s r (λ n q. oneMore n (namesBehind s q)) (λ e. just (record { names = []; end = e })) ≡ just x
+      go : (r : NameItem) → piece.At p q ≡ namePlaces r → onName s r (λ n q. oneMore n (namesBehind s q)) (λ e. just (record { names = []; end = e })) ≡ just x
           → (y : NamesRead) × (namesBehind s q ≡ just y) × (x .names ≡ partOf s p (q - p) ∷ y .names)
       go (name.Name a b) n e =
           let y = then-e (namesBehind s b) (λ (y : NamesRead). just (record { names = partOf s a (b - a) ∷ y .names; end = y .end })) x e in
@@ -97,7 +97,7 @@ module _ (s : Bytes) (i : ℕ) where
   unfolding onName
   names-done x n e = go (nameNext 2 false s i) n (sym names-next ∙ e)
     where
-      go : (r : NameRead) → piece.None ≡ namePlaces r
+      go : (r : NameItem) → piece.None ≡ namePlaces r
           → onName s r (λ n q. oneMore n (namesBehind s q)) (λ e. just (record { names = []; end = e })) ≡ just x → x .names ≡ []
       go (name.Name a b) n e = let z : _≡_ {A = ℕ} 0 1 = cc in absurd (omega arith)
       go (name.Close a) n e = let z : record { names = []; end = a } ≡ x = cc in ap (λ (w : NamesRead). w .names) (sym z)
@@ -116,7 +116,7 @@ module _ (s : Bytes) (i : ℕ) where
       more nothing n = refl
       more (just x) n = refl
 
-      go : (r : NameRead) → piece.At p q ≡ namePlaces r
+      go : (r : NameItem) → piece.At p q ≡ namePlaces r
           → namesEnd (namesBehind s q) ≡ namesEnd (onName s r (λ n q. oneMore n (namesBehind s q)) (λ e. just (record { names = []; end = e })))
       go (name.Name a b) n = let e : q ≡ b = cc in ap (λ (z : ℕ). namesEnd (namesBehind s z)) e ∙ more (namesBehind s b) (partOf s a (b - a))
       go (name.Close a) n = let z : _≡_ {A = ℕ} 0 1 = cc in absurd (omega arith)
@@ -144,7 +144,7 @@ module _ (s : Bytes) (i : ℕ) where
           choose true u v n = let z : _≡_ {A = ℕ} 0 1 = cc in absurd (omega arith)
           choose false u v n = refl
 
-          by : (w : Piece) → piece.None ≡ namePlaces (namePiece s w)
+          by : (w : ItemAt) → piece.None ≡ namePlaces (namePiece s w)
               → end.None ≡ namesEnd (onName s (namePiece s w) (λ n q. oneMore n (namesBehind s q)) (λ e. just (record { names = []; end = e })))
           by (piece.At u v) n = choose (not (mem (partOf s u (v - u)) neverNames)) u v n
           by piece.None n = refl
@@ -228,7 +228,7 @@ module _ {B : Type 0} (head s : Bytes) (k : List Bytes → List Item → Maybe B
       by true q = rest-names s q (λ e ns. formAt true e s (k ns))
       by false q = rest-nothing 2 false q s
 
-      go : (r : Piece) → onPiece r (λ a b. restAt 2 false b s
+      go : (r : ItemAt) → onPiece r (λ a b. restAt 2 false b s
           (λ e is. andThen (pick (same (partOf s a (b - a)) head) (each asName is) nothing) (λ ns. formAt true e s (k ns))))
           ≡ onPlace (headPiece head s r) (λ a. andThen (namesBehind s a) goOn)
       go (piece.At a b) = by (same (partOf s a (b - a)) head) b

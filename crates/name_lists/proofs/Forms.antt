@@ -11,10 +11,10 @@ use Rattle.model.specs.Forms.{asWord, asName, first}
 use Rattle.model.specs.Answers.{partOf}
 use Rattle.text.specs.declared.End.{End}
 use Rattle.text.specs.declared.End.the-variants as end
-use Rattle.items.specs.declared.Piece.{Piece}
-use Rattle.items.specs.declared.Piece.the-variants as piece
-use Rattle.items.specs.declared.NameRead.{NameRead}
-use Rattle.items.specs.declared.NameRead.the-variants as name
+use Rattle.items.specs.declared.ItemAt.{ItemAt}
+use Rattle.items.specs.declared.ItemAt.the-variants as piece
+use Rattle.items.specs.declared.NameItem.{NameItem}
+use Rattle.items.specs.declared.NameItem.the-variants as name
 use Rattle.items.specs.Rest.{formAt, spacesFrom}
 use Rattle.items.specs.Pieces.{namePlaces, wordNext, nameNext, onPiece, onName, onPlace}
 use Rattle.items.specs.Forms.{formOpens}
@@ -47,11 +47,11 @@ module _ {B : Type 0} (s : Bytes) (f : List Item → Maybe B) where
 module _ {B : Type 0} (free : Bool) (s : Bytes) (i : ℕ) (k : Bytes → List Item → Maybe B) where
   pub no-word : piece.None ≡ wordNext 3 free s i → formAt free i s (λ is. first asWord is k) ≡ nothing
   unfolding onPiece
-  no-word w = form-word free i s k ∙ ap (λ (r : Piece). onPiece r (λ p q. formAt false q s (k (partOf s p (q - p))))) (sym w)
+  no-word w = form-word free i s k ∙ ap (λ (r : ItemAt). onPiece r (λ p q. formAt false q s (k (partOf s p (q - p))))) (sym w)
 
   pub a-word : {p q : ℕ} → piece.At p q ≡ wordNext 3 free s i → formAt free i s (λ is. first asWord is k) ≡ formAt false q s (k (partOf s p (q - p)))
   unfolding onPiece
-  a-word w = form-word free i s k ∙ ap (λ (r : Piece). onPiece r (λ p q. formAt false q s (k (partOf s p (q - p))))) (sym w)
+  a-word w = form-word free i s k ∙ ap (λ (r : ItemAt). onPiece r (λ p q. formAt false q s (k (partOf s p (q - p))))) (sym w)
 
 -- a name that begins what follows
 module _ {B : Type 0} (s : Bytes) (i : ℕ) (k : Bytes → List Item → Maybe B) where
@@ -59,7 +59,7 @@ module _ {B : Type 0} (s : Bytes) (i : ℕ) (k : Bytes → List Item → Maybe B
   unfolding onName
   no-name n = form-name false i s k ∙ go (nameNext 3 false s i) n
     where
-      go : (r : NameRead) → piece.None ≡ namePlaces r → onName s r (λ n q. formAt false q s (k n)) (λ e. nothing) ≡ nothing
+      go : (r : NameItem) → piece.None ≡ namePlaces r → onName s r (λ n q. formAt false q s (k n)) (λ e. nothing) ≡ nothing
       go (name.Name p q) n = let z : _≡_ {A = ℕ} 0 1 = cc in absurd (omega arith)
       go (name.Close e) n = refl
       go name.None n = refl
@@ -69,7 +69,7 @@ module _ {B : Type 0} (s : Bytes) (i : ℕ) (k : Bytes → List Item → Maybe B
   unfolding onName
   a-name p q n = form-name false i s k ∙ go (nameNext 3 false s i) n
     where
-      go : (r : NameRead) → piece.At p q ≡ namePlaces r → onName s r (λ n q. formAt false q s (k n)) (λ e. nothing) ≡ formAt false q s (k (partOf s p (q - p)))
+      go : (r : NameItem) → piece.At p q ≡ namePlaces r → onName s r (λ n q. formAt false q s (k n)) (λ e. nothing) ≡ formAt false q s (k (partOf s p (q - p)))
       go (name.Name a b) n =
           let ea : a ≡ p = cc in
           let eb : b ≡ q = cc in

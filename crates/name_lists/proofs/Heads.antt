@@ -10,8 +10,8 @@ use Rattle.model.specs.Names.{mem, twice}
 use Rattle.model.specs.Answers.{partOf}
 use Rattle.text.specs.declared.End.{End}
 use Rattle.text.specs.declared.End.the-variants as end
-use Rattle.items.specs.declared.Piece.{Piece}
-use Rattle.items.specs.declared.Piece.the-variants as piece
+use Rattle.items.specs.declared.ItemAt.{ItemAt}
+use Rattle.items.specs.declared.ItemAt.the-variants as piece
 use Rattle.items.specs.Pieces.{itemPlace, afterEnd, wordNext, openNext}
 pub use Rattle.items.proofs.PlacedLaws.{placed-at}
 use Rattle.name_lists.specs.Names.{headPiece, headedAt}
@@ -23,7 +23,7 @@ module _ (head s : Bytes) (i : ℕ) where
   headed-none e = ap (λ (o : End). afterEnd o (λ p. headPiece head s (wordNext 2 true s p)) end.None) e
 
   module _ (p : ℕ) (e : end.At p ≡ itemPlace (openNext s i)) where
-    headed-piece : (r : Piece) → r ≡ wordNext 2 true s p → headPiece head s r ≡ headedAt head s i
+    headed-piece : (r : ItemAt) → r ≡ wordNext 2 true s p → headPiece head s r ≡ headedAt head s i
     unfolding headedAt afterEnd
     headed-piece r h = ap (headPiece head s) h ∙ ap (λ (o : End). afterEnd o (λ p. headPiece head s (wordNext 2 true s p)) end.None) e
 

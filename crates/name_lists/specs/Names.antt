@@ -10,8 +10,8 @@ use Rattle.model.specs.Forms.{asName}
 use Rattle.model.specs.Answers.{partOf}
 use Rattle.text.specs.declared.End.{End}
 use Rattle.text.specs.declared.End.the-variants as end
-use Rattle.items.specs.declared.Piece.{Piece}
-use Rattle.items.specs.declared.Piece.the-variants as piece
+use Rattle.items.specs.declared.ItemAt.{ItemAt}
+use Rattle.items.specs.declared.ItemAt.the-variants as piece
 use Rattle.items.specs.Rest.{restAt}
 use Rattle.items.specs.Pieces.{itemPlace, afterEnd, wordNext, openNext}
 
@@ -34,7 +34,7 @@ namesEnd nothing = end.None
 namesEnd (just x) = end.At (x .end)
 
 -- the place behind a word, if it is the head
-unfoldable pub headPiece : Bytes → Bytes → Piece → End
+unfoldable pub headPiece : Bytes → Bytes → ItemAt → End
 headPiece head s (piece.At p q) = pick (same (partOf s p (q - p)) head) (end.At q) end.None
 headPiece head s piece.None = end.None
 

@@ -2,7 +2,7 @@
 ghost use mathlib.Core.Path.{_≡_};
 ghost use Rattle.name_lists.specs.Names.{headedAt};
 use crate::LIST_DEPTH;
-use items::Piece;
+use items::ItemAt;
 use items::pieces;
 use items::places;
 use text::End;
@@ -15,7 +15,7 @@ pub fn headed(s: &[u8], from: usize, head: &[u8]) -> End
     let End::At(i) = pieces::item_place(pieces::open_list(s, from)) else {
         return End::None;
     };
-    let Piece::At(p, q) = places::next_word(s, i, true, LIST_DEPTH) else {
+    let ItemAt::At(p, q) = places::next_word(s, i, true, LIST_DEPTH) else {
         return End::None;
     };
     if compare::same_bytes(&s[p..q], head) {

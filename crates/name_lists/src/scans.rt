@@ -7,7 +7,7 @@ ghost use Rattle.model.specs.Names.{mem, twice};
 ghost use Rattle.names_met.specs.Table.{Holds};
 ghost use Rattle.name_lists.specs.Names.{NamesRead, namesBehind, namesEnd};
 use crate::LIST_DEPTH;
-use items::Piece;
+use items::ItemAt;
 use items::pieces;
 use items::places;
 use items::read;
@@ -35,7 +35,7 @@ pub fn names_end(s: &[u8], from: usize) -> End
     };
     let mut i = from;
     while i < s.len() {
-        let Piece::At(_, q) = places::next_name(s, i, LIST_DEPTH) else {
+        let ItemAt::At(_, q) = places::next_name(s, i, LIST_DEPTH) else {
             if pieces::only_closes(s, i, end) {
                 return End::At(end);
             }
@@ -52,7 +52,7 @@ pub fn has_name(s: &[u8], from: usize, name: &[u8]) -> bool
 {
     let mut i = from;
     while i < s.len() {
-        let Piece::At(p, q) = places::next_name(s, i, LIST_DEPTH) else {
+        let ItemAt::At(p, q) = places::next_name(s, i, LIST_DEPTH) else {
             return false;
         };
         if compare::same_bytes(name, &s[p..q]) {
@@ -93,7 +93,7 @@ fn has_twice_with(s: &[u8], from: usize, table: &mut [u32]) -> bool
     let mut n = 0;
     let mut i = from;
     while i < s.len() {
-        let Piece::At(p, q) = places::next_name(s, i, LIST_DEPTH) else {
+        let ItemAt::At(p, q) = places::next_name(s, i, LIST_DEPTH) else {
             return false;
         };
         if table.len() <= n {
@@ -118,7 +118,7 @@ fn has_again(s: &[u8], from: usize) -> bool
 {
     let mut i = from;
     while i < s.len() {
-        let Piece::At(p, q) = places::next_name(s, i, LIST_DEPTH) else {
+        let ItemAt::At(p, q) = places::next_name(s, i, LIST_DEPTH) else {
             return false;
         };
         if has_name(s, q, &s[p..q]) {
@@ -136,7 +136,7 @@ pub fn count_names(s: &[u8], from: usize) -> usize
     let mut n = 0;
     let mut i = from;
     while i < s.len() {
-        let Piece::At(_, q) = places::next_name(s, i, LIST_DEPTH) else {
+        let ItemAt::At(_, q) = places::next_name(s, i, LIST_DEPTH) else {
             return n;
         };
         n += 1;

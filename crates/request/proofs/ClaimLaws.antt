@@ -19,8 +19,8 @@ use Rattle.text.specs.Places.{peekAt, past, isSpace}
 use Rattle.text.proofs.PlaceLaws.{past-on}
 use Rattle.items.specs.declared.Next.{Next}
 use Rattle.items.specs.declared.Next.the-variants as next
-use Rattle.items.specs.declared.Piece.{Piece}
-use Rattle.items.specs.declared.Piece.the-variants as piece
+use Rattle.items.specs.declared.ItemAt.{ItemAt}
+use Rattle.items.specs.declared.ItemAt.the-variants as piece
 use Rattle.items.specs.declared.ClaimRead.{ClaimRead}
 use Rattle.items.specs.declared.ClaimRead.the-variants as claim
 use Rattle.items.specs.Reads.{nextAt}
@@ -74,17 +74,17 @@ module _ (s : Bytes) where
     shut-placed a b x y h k (end.At e) c = record { actor = h; node = k; onward = omega (arith, close-after y e c, k .after, k .some) }
     shut-placed a b x y h k end.None c = tt
 
-    node-placed : (a b : ℕ) → WordPlaces s i a b → (w : Piece) → Placed s b w → ClaimPlaced s i (claimAt (claimNode s a b w))
+    node-placed : (a b : ℕ) → WordPlaces s i a b → (w : ItemAt) → Placed s b w → ClaimPlaced s i (claimAt (claimNode s a b w))
     unfolding claimNode
     node-placed a b h (piece.At x y) k = shut-placed a b x y h (earlier b x y (omega (arith, h .after, h .some)) k) (closeNext s y) refl
     node-placed a b h piece.None k = tt
 
-    actor-placed : (j : ℕ) → i ≤ j → (w : Piece) → Placed s j w → ClaimPlaced s i (claimAt (claimActor 2 s w))
+    actor-placed : (j : ℕ) → i ≤ j → (w : ItemAt) → Placed s j w → ClaimPlaced s i (claimAt (claimActor 2 s w))
     unfolding claimActor
     actor-placed j l (piece.At a b) k = node-placed a b (earlier j a b l k) (namePlaces (nameNext 2 false s b)) (name-placed 2 false s b)
     actor-placed j l piece.None k = tt
 
-    head-placed : (j : ℕ) → i ≤ j → (w : Piece) → Placed s j w → ClaimPlaced s i (claimAt (claimHead 2 s w))
+    head-placed : (j : ℕ) → i ≤ j → (w : ItemAt) → Placed s j w → ClaimPlaced s i (claimAt (claimHead 2 s w))
     unfolding claimHead claimRest
     head-placed j l (piece.At p q) k = go (same (partOf s p (q - p)) (bytesOf "id"))
       where

@@ -12,8 +12,8 @@ use Rattle.model.specs.Forms.{asName, first}
 use Rattle.model.specs.Request.{Claim, claimOf, RequestLine, requestLine}
 use Rattle.model.specs.Answers.{partOf}
 use Rattle.text.specs.declared.End.the-variants as end
-use Rattle.items.specs.declared.Piece.{Piece}
-use Rattle.items.specs.declared.Piece.the-variants as piece
+use Rattle.items.specs.declared.ItemAt.{ItemAt}
+use Rattle.items.specs.declared.ItemAt.the-variants as piece
 use Rattle.items.specs.Rest.{formAt}
 use Rattle.items.specs.Pieces.{namePlaces, wordNext, nameNext}
 use Rattle.items.specs.Forms.{formOpens}
@@ -54,7 +54,7 @@ module _ (s : Bytes) where
       unfolding byWord made
       of-other h = worded ∙ ap (λ (t : Bool). formAt false b s (λ is. first asName is (made t))) h ∙ go (namePlaces (nameNext 3 false s b)) refl
         where
-          go : (r : Piece) → r ≡ namePlaces (nameNext 3 false s b) → formAt false b s (λ is. first asName is (made false)) ≡ nothing
+          go : (r : ItemAt) → r ≡ namePlaces (nameNext 3 false s b) → formAt false b s (λ is. first asName is (made false)) ≡ nothing
           go (piece.At p q) e = a-name s b (made false) p q e ∙ claims-then s q false (λ cs. nothing) ∙ then-never (claimsFrom s q)
           go piece.None e = no-name s b (made false) e
 
@@ -94,8 +94,8 @@ module _ (s : Bytes) where
               }
 
 -- what was read, by the answer
-pub form-at : (s : Bytes) (line : Maybe RequestLine) {p q : ℕ} (r : Piece) → r ≡ piece.At p q → FormRead s line r → LineRead s line p q
+pub form-at : (s : Bytes) (line : Maybe RequestLine) {p q : ℕ} (r : ItemAt) → r ≡ piece.At p q → FormRead s line r → LineRead s line p q
 form-at s line r e h = subst (FormRead s line) e h
 
-pub form-none : (s : Bytes) (line : Maybe RequestLine) (r : Piece) → r ≡ piece.None → FormRead s line r → line ≡ nothing
+pub form-none : (s : Bytes) (line : Maybe RequestLine) (r : ItemAt) → r ≡ piece.None → FormRead s line r → line ≡ nothing
 form-none s line r e h = subst (FormRead s line) e h

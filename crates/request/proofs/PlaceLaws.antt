@@ -25,9 +25,9 @@ use Rattle.items.specs.declared.ItemRead.{ItemRead}
 use Rattle.items.specs.declared.ItemRead.the-variants.{Word, Number, Text, Quoted, List as ListTo, None}
 use Rattle.items.specs.declared.Next.{Next}
 use Rattle.items.specs.declared.Next.the-variants as next
-use Rattle.items.specs.declared.Piece.{Piece}
-use Rattle.items.specs.declared.Piece.the-variants as piece
-use Rattle.items.specs.declared.NameRead.the-variants as name
+use Rattle.items.specs.declared.ItemAt.{ItemAt}
+use Rattle.items.specs.declared.ItemAt.the-variants as piece
+use Rattle.items.specs.declared.NameItem.the-variants as name
 use Rattle.items.specs.declared.ClaimRead.{ClaimRead}
 use Rattle.items.specs.declared.ClaimRead.the-variants as claim
 use Rattle.items.specs.Reads.{nextAt}
@@ -63,7 +63,7 @@ module _ (s : Bytes) where
   Onward i (next.Close e) = wordsAt s i ≡ wordsAt s e
   Onward i next.None = Unit {0}
 
-  abbrev WordNext : ℕ → Piece → Type 0
+  abbrev WordNext : ℕ → ItemAt → Type 0
   WordNext i (piece.At p q) = wordsAt s i ≡ partAt p q ∷ wordsAt s q
   WordNext i piece.None = Unit {0}
 
@@ -106,7 +106,7 @@ module _ (s : Bytes) where
   unfolding nameNext nameAfter namePiece
   name-next d free i = go (nextAt free s i) (next-onward free i)
     where
-      named : (w : Piece) → WordNext i w → WordNext i (namePlaces (namePiece s w))
+      named : (w : ItemAt) → WordNext i w → WordNext i (namePlaces (namePiece s w))
       named (piece.At p q) h = by (not (mem (partOf s p (q - p)) neverNames))
         where
           by : (b : Bool) → WordNext i (namePlaces (pick b (name.Name p q) name.None))
@@ -171,17 +171,17 @@ module _ (s : Bytes) where
         (ap (λ (t : List Part). getD t 1 (noIdentity .actor)) w, ap (drop 3) w)
     claim-shut a b x y k end.None l = tt
 
-    claim-node : (a b : ℕ) → wordsAt s q ≡ partAt a b ∷ wordsAt s b → (w : Piece) → WordNext b w → Claimed i (claimNode s a b w)
+    claim-node : (a b : ℕ) → wordsAt s q ≡ partAt a b ∷ wordsAt s b → (w : ItemAt) → WordNext b w → Claimed i (claimNode s a b w)
     unfolding claimNode
     claim-node a b k (piece.At x y) l = claim-shut a b x y (k ∙ ap (λ (t : List Part). partAt a b ∷ t) l) (closeNext s y) (close-next y)
     claim-node a b k piece.None l = tt
 
-    claim-actor : (w : Piece) → WordNext q w → Claimed i (claimActor d s w)
+    claim-actor : (w : ItemAt) → WordNext q w → Claimed i (claimActor d s w)
     unfolding claimActor
     claim-actor (piece.At a b) k = claim-node a b k (namePlaces (nameNext d false s b)) (name-next d false b)
     claim-actor piece.None k = tt
 
-  claim-head : (d i : ℕ) (w : Piece) → WordNext i w → Claimed i (claimHead d s w)
+  claim-head : (d i : ℕ) (w : ItemAt) → WordNext i w → Claimed i (claimHead d s w)
   unfolding claimHead claimRest
   claim-head d i (piece.At p q) h = go (same (partOf s p (q - p)) (bytesOf "id"))
     where

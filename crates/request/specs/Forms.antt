@@ -9,8 +9,8 @@ use Rattle.model.specs.Choice.{Maybe, nothing, just}
 use Rattle.model.specs.Request.{Claim, RequestLine}
 use Rattle.model.specs.Answers.{partOf}
 use Rattle.model.specs.RequestPlaces.{wordsFrom}
-use Rattle.items.specs.declared.Piece.{Piece}
-use Rattle.items.specs.declared.Piece.the-variants as piece
+use Rattle.items.specs.declared.ItemAt.{ItemAt}
+use Rattle.items.specs.declared.ItemAt.the-variants as piece
 use Rattle.items.specs.Places.{WordPlaces}
 use Rattle.request.specs.Claims.{wordsAt, claimsFrom}
 
@@ -27,6 +27,6 @@ pub record LineRead (s : Bytes) (line : Maybe RequestLine) (p q : ℕ) : Type 0 
   pub words : drop 2 (wordsFrom false 0 s) ≡ wordsAt s q
 
 -- what a form says of the line that the model reads
-abbrev pub FormRead : Bytes → Maybe RequestLine → Piece → Type 0
+abbrev pub FormRead : Bytes → Maybe RequestLine → ItemAt → Type 0
 FormRead s line (piece.At p q) = LineRead s line p q
 FormRead s line piece.None = line ≡ nothing

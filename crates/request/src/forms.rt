@@ -4,7 +4,7 @@ ghost use Rattle.model.specs.Items.{lineItems};
 ghost use Rattle.model.specs.Request.{requestLine};
 ghost use Rattle.request.specs.Forms.{FormRead};
 use crate::claims;
-use items::Piece;
+use items::ItemAt;
 use items::forms;
 use items::places;
 use name_lists::LINE_DEPTH;
@@ -12,23 +12,23 @@ use text::End;
 use text::compare;
 
 // (request CATEGORY (id ACTOR NODE)...): where the category's name stands; the identities follow it.
-pub fn request_form(s: &[u8]) -> Piece
+pub fn request_form(s: &[u8]) -> ItemAt
     ensures { λ r. ⌜ FormRead (now (s .entry)) (andThen (lineItems (now (s .entry))) requestLine) r ⌝ }
 {
     let End::At(i) = forms::open_form(s) else {
-        return Piece::None;
+        return ItemAt::None;
     };
-    let Piece::At(a, b) = places::next_word(s, i, true, LINE_DEPTH) else {
-        return Piece::None;
+    let ItemAt::At(a, b) = places::next_word(s, i, true, LINE_DEPTH) else {
+        return ItemAt::None;
     };
     if !compare::same_bytes(&s[a..b], b"request") {
-        return Piece::None;
+        return ItemAt::None;
     }
-    let Piece::At(p, q) = places::next_name(s, b, LINE_DEPTH) else {
-        return Piece::None;
+    let ItemAt::At(p, q) = places::next_name(s, b, LINE_DEPTH) else {
+        return ItemAt::None;
     };
     if claims::are_claims(s, q) {
-        return Piece::At(p, q);
+        return ItemAt::At(p, q);
     }
-    Piece::None
+    ItemAt::None
 }

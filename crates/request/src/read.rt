@@ -11,7 +11,7 @@ use crate::faults;
 use crate::forms;
 use crate::stores;
 use book_tables::BookCounts;
-use items::Piece;
+use items::ItemAt;
 use model::Refusal;
 use model::RequestRead;
 use model::Verdict;
@@ -54,7 +54,7 @@ fn read_line(
     requires { ⌜ Fits (now book) (now words) counts × RulesFit (now rules) (now table) sizes ⌝ }
     ensures { λ r. ⌜ LineReads (now (book .entry)) (now (words .entry)) counts (now (rules .entry)) (now (table .entry)) sizes (now (s .entry)) r ⌝ }
 {
-    let Piece::At(p, q) = forms::request_form(s) else {
+    let ItemAt::At(p, q) = forms::request_form(s) else {
         return refused(BROKEN, 1);
     };
     let k = book_tables::names::find_name(rules, table, CATEGORY_NAMES, sizes.categories, &s[p..q]);

@@ -27,7 +27,7 @@ use Rattle.book_tables.proofs.ListedLaws.{getD-listed}
 use Rattle.book_tables.proofs.NameLaws.{length-names}
 use Rattle.book_tables.proofs.AgreeLaws.{name-kept, names-kept}
 use Rattle.rules_tables.specs.declared.RulesCounts.{RulesCounts}
-use Rattle.rules_tables.specs.Layout.{names, slot, actorCountAt, overCountAt, lowerAt, actorsFrom, overFrom}
+use Rattle.rules_tables.specs.Layout.{names, slot, actorCountAt, overCountAt, lowerAt, actorsFrom, overFrom, rulesWords}
 use Rattle.rules_tables.specs.View.{actorsAt, overAt, lowerSet, rulesAt}
 use Rattle.rules_tables.specs.Fits.{rank, belowSome, CategoryFits, Fits, Holds, LowerAsked}
 use Rattle.rules_tables.specs.Agree.{Free, Agree}
@@ -101,7 +101,7 @@ stored-agrees words words′ c j s base ns l h st = record {
   policies = λ x b. st .above (448 + x) (omega arith);
 }
 
-module _ (words : List ℕ) (k name actors over lower : ℕ) (room : 512 ≤ length words) (l : k < 16) where
+module _ (words : List ℕ) (k name actors over lower : ℕ) (room : rulesWords ≤ length words) (l : k < 16) where
   abbrev after : List ℕ
   after = withCategory words k name actors over lower
 

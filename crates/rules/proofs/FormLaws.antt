@@ -15,10 +15,10 @@ use Rattle.model.specs.ReadRules.{RulesLine, category, policy, categoryLine, po
 use Rattle.model.specs.Answers.{partOf}
 use Rattle.text.specs.declared.End.{End}
 use Rattle.text.specs.declared.End.the-variants as end
-use Rattle.items.specs.declared.Piece.{Piece}
-use Rattle.items.specs.declared.Piece.the-variants as piece
-use Rattle.items.specs.declared.NameRead.{NameRead}
-use Rattle.items.specs.declared.NameRead.the-variants as name
+use Rattle.items.specs.declared.ItemAt.{ItemAt}
+use Rattle.items.specs.declared.ItemAt.the-variants as piece
+use Rattle.items.specs.declared.NameItem.{NameItem}
+use Rattle.items.specs.declared.NameItem.the-variants as name
 use Rattle.items.specs.Rest.{formAt, spacesFrom}
 use Rattle.items.specs.Pieces.{namePlaces, wordNext, nameNext, quotedNext, onPiece, onName, onPlace}
 use Rattle.items.specs.Forms.{formOpens, formCloses}
@@ -73,7 +73,7 @@ module _ (s : Bytes) (i : ℕ) (k : Bytes → List Item → Maybe RulesLine) whe
   unfolding onName
   no-name n = form-name false i s k ∙ go (nameNext 3 false s i) n
     where
-      go : (r : NameRead) → piece.None ≡ namePlaces r → onName s r (λ n q. formAt false q s (k n)) (λ e. nothing) ≡ nothing
+      go : (r : NameItem) → piece.None ≡ namePlaces r → onName s r (λ n q. formAt false q s (k n)) (λ e. nothing) ≡ nothing
       go (name.Name p q) n = let z : _≡_ {A = ℕ} 0 1 = cc in absurd (omega arith)
       go (name.Close e) n = refl
       go name.None n = refl
@@ -82,7 +82,7 @@ module _ (s : Bytes) (i : ℕ) (k : Bytes → List Item → Maybe RulesLine) whe
   unfolding onName
   a-name p q n = form-name false i s k ∙ go (nameNext 3 false s i) n
     where
-      go : (r : NameRead) → piece.At p q ≡ namePlaces r → onName s r (λ n q. formAt false q s (k n)) (λ e. nothing) ≡ formAt false q s (k (between s p q))
+      go : (r : NameItem) → piece.At p q ≡ namePlaces r → onName s r (λ n q. formAt false q s (k n)) (λ e. nothing) ≡ formAt false q s (k (between s p q))
       go (name.Name a b) n =
           let ea : a ≡ p = cc in
           let eb : b ≡ q = cc in
@@ -158,7 +158,7 @@ module _ (s : Bytes) (i : ℕ) where
     policy-no-text e =
         a-name s i _ p q n
         ∙ form-quoted false q s (λ t is. andThen (atEnd is t) made)
-        ∙ ap (λ (r : Piece). onPiece r (λ p q. formAt false (q + 1) s (λ is. andThen (atEnd is (partOf s p (q - p))) made))) (sym e)
+        ∙ ap (λ (r : ItemAt). onPiece r (λ p q. formAt false (q + 1) s (λ is. andThen (atEnd is (partOf s p (q - p))) made))) (sym e)
 
     pub policy-line : {t u : ℕ} → piece.At t u ≡ quotedNext 3 false s q
         → formAt false i s policyLine ≡ pick (formCloses s (u + 1)) (made (between s t u)) nothing
@@ -166,7 +166,7 @@ module _ (s : Bytes) (i : ℕ) where
     policy-line {t} {u} e =
         a-name s i _ p q n
         ∙ form-quoted false q s (λ t is. andThen (atEnd is t) made)
-        ∙ ap (λ (r : Piece). onPiece r (λ p q. formAt false (q + 1) s (λ is. andThen (atEnd is (partOf s p (q - p))) made))) (sym e)
+        ∙ ap (λ (r : ItemAt). onPiece r (λ p q. formAt false (q + 1) s (λ is. andThen (atEnd is (partOf s p (q - p))) made))) (sym e)
         ∙ form-on false (u + 1) s (λ is. atEnd is (between s t u)) made
         ∙ ap (λ (o : Maybe Bytes). andThen o made) (form-end false (u + 1) s (between s t u))
         ∙ go (formCloses s (u + 1))
@@ -188,14 +188,14 @@ module _ (s : Bytes) (i : ℕ) where
       policy-open c = policy-line e ∙ ap (λ (b : Bool). pick b (made (between s t u)) nothing) c
 
 -- what was read, by the answer
-pub list-at : (head s : Bytes) (i : ℕ) {a e : ℕ} (r : Piece) → r ≡ piece.At a e → NamesList head s i r → ListRead head s i a e
+pub list-at : (head s : Bytes) (i : ℕ) {a e : ℕ} (r : ItemAt) → r ≡ piece.At a e → NamesList head s i r → ListRead head s i a e
 list-at head s i r e h = subst (NamesList head s i) e h
 
-pub list-not : (head s : Bytes) (i : ℕ) (r : Piece) → r ≡ piece.None → NamesList head s i r → (free : Bool) (k : List Bytes → List Item → Maybe RulesLine)
+pub list-not : (head s : Bytes) (i : ℕ) (r : ItemAt) → r ≡ piece.None → NamesList head s i r → (free : Bool) (k : List Bytes → List Item → Maybe RulesLine)
     → afterList head s free i k ≡ nothing
 list-not head s i r e h = subst (NamesList head s i) e h
 
-pub quoted-at : (s : Bytes) {t u : ℕ} (r : Piece) → r ≡ piece.At t u → QuotedPlaced s r → QuotedPlaces s t u
+pub quoted-at : (s : Bytes) {t u : ℕ} (r : ItemAt) → r ≡ piece.At t u → QuotedPlaced s r → QuotedPlaces s t u
 quoted-at s r e h = subst (QuotedPlaced s) e h
 
 pub form-moved : (s : Bytes) (m m′ : Maybe RulesLine) (r : RulesForm) → m ≡ m′ → FormRead s m′ r → FormRead s m r
@@ -217,12 +217,12 @@ module _ (s : Bytes) where
 
     pub wordless : piece.None ≡ wordNext 3 true s i → andThen (lineItems s) rulesLine ≡ nothing
     unfolding rulesLine onPiece byWord
-    wordless w = opened ∙ form-word true i s byWord ∙ ap (λ (r : Piece). onPiece r (λ p q. formAt false q s (byWord (partOf s p (q - p))))) (sym w)
+    wordless w = opened ∙ form-word true i s byWord ∙ ap (λ (r : ItemAt). onPiece r (λ p q. formAt false q s (byWord (partOf s p (q - p))))) (sym w)
 
     module _ {p q : ℕ} (w : piece.At p q ≡ wordNext 3 true s i) where
       worded : andThen (lineItems s) rulesLine ≡ formAt false q s (byWord (between s p q))
       unfolding rulesLine onPiece byWord
-      worded = opened ∙ form-word true i s byWord ∙ ap (λ (r : Piece). onPiece r (λ p q. formAt false q s (byWord (partOf s p (q - p))))) (sym w)
+      worded = opened ∙ form-word true i s byWord ∙ ap (λ (r : ItemAt). onPiece r (λ p q. formAt false q s (byWord (partOf s p (q - p))))) (sym w)
 
       pub of-category : same (between s p q) (bytesOf "category") ≡ true → andThen (lineItems s) rulesLine ≡ formAt false q s categoryLine
       unfolding byWord

@@ -7,6 +7,7 @@ use native.Mathlib.Omega.{arith}
 use lib.ListN.{length, take, drop, length-drop}
 use lib.Seq.{length-take-le}
 use borrow.Author.Tests.{lt-ltb, le-ltb}
+use Rattle.rules_tables.specs.Layout.{rulesWords}
 use Rattle.model.specs.Bytes.{Bytes}
 use Rattle.model.specs.Choice.{Maybe, andThen}
 use Rattle.model.specs.Lines.{Step, fault, known, formStep, readLines, linesOf}
@@ -41,7 +42,7 @@ module _ (text : Bytes) (words : List ℕ) (c : RulesCounts) (none : c .categori
   unfolding rulesAt listed
   empty-is = rw (none, no-policy)
 
-  pub empty-fits : 512 ≤ length words → Fits text words c
+  pub empty-fits : rulesWords ≤ length words → Fits text words c
   empty-fits room = record {
     room = room;
     few = omega arith;
@@ -52,7 +53,7 @@ module _ (text : Bytes) (words : List ℕ) (c : RulesCounts) (none : c .categori
     one-each = λ i j l m e. absurd (omega arith);
   }
 
-  pub reading-start : (b : Book) → 512 ≤ length words → Reading b text words words 0 1 c
+  pub reading-start : (b : Book) → rulesWords ≤ length words → Reading b text words words 0 1 c
   reading-start b room = record {
     size = refl;
     fits = empty-fits room;

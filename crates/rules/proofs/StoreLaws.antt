@@ -8,7 +8,7 @@ use lib.Seq.{getD-set-same, getD-set-other}
 use Rattle.logic.specs.Tests.{either, equal-or-not}
 use Rattle.model.specs.Bytes.{Bytes}
 use Rattle.model.specs.Answers.{partOf}
-use Rattle.items.specs.declared.Piece.the-variants as piece
+use Rattle.items.specs.declared.ItemAt.the-variants as piece
 use Rattle.items.specs.Pieces.{namePlaces, nameNext}
 use mathlib.Core.Bool.{false}
 use Rattle.text.proofs.PlaceLaws.{part-in-part}

@@ -11,8 +11,8 @@ use Rattle.model.specs.Forms.{first}
 use Rattle.model.specs.Grammar.{queryText}
 use Rattle.model.specs.ReadRules.{RulesLine, category, policy, namesAfter}
 use Rattle.model.specs.Answers.{partOf}
-use Rattle.items.specs.declared.Piece.{Piece}
-use Rattle.items.specs.declared.Piece.the-variants as piece
+use Rattle.items.specs.declared.ItemAt.{ItemAt}
+use Rattle.items.specs.declared.ItemAt.the-variants as piece
 use Rattle.items.specs.Rest.{formAt}
 use Rattle.items.specs.Places.{WordPlaces}
 use Rattle.name_lists.specs.Names.{NamesRead, namesBehind}
@@ -34,7 +34,7 @@ pub record ListRead (head s : Bytes) (i a e : ℕ) : Type 0 where
   pub line : (free : Bool) (k : List Bytes → List Item → Maybe RulesLine) → afterList head s free i k ≡ formAt true e s (k (read .names))
 
 -- such a list, or that there is none
-abbrev pub NamesList : Bytes → Bytes → ℕ → Piece → Type 0
+abbrev pub NamesList : Bytes → Bytes → ℕ → ItemAt → Type 0
 NamesList head s i (piece.At a e) = ListRead head s i a e
 NamesList head s i piece.None = (free : Bool) (k : List Bytes → List Item → Maybe RulesLine) → afterList head s free i k ≡ nothing
 

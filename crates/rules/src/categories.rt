@@ -6,7 +6,7 @@ ghost use Rattle.model.specs.Choice.{just};
 ghost use Rattle.name_lists.specs.Names.{NamesRead, namesBehind};
 ghost use Rattle.rules.specs.Stored.{NamesRoom, NamesStored, CategoryClear, CategoryAdded};
 use book_tables::names::NAME_LENGTHS;
-use items::Piece;
+use items::ItemAt;
 use items::places;
 use name_lists::LIST_DEPTH;
 use rules_tables::ACTORS;
@@ -26,7 +26,7 @@ fn store_names(words: &mut [u32], at: usize, s: &[u8], from: usize, base: usize)
     let mut n = 0;
     let mut i = from;
     while i < s.len() {
-        let Piece::At(p, q) = places::next_name(s, i, LIST_DEPTH) else {
+        let ItemAt::At(p, q) = places::next_name(s, i, LIST_DEPTH) else {
             return n;
         };
         stores::store_name(words, at + n, base + p, q - p);

@@ -6,7 +6,7 @@ ghost use Rattle.model.specs.ReadRules.{categoryLine, policyLine, rulesLine};
 ghost use Rattle.items.specs.Rest.{formAt};
 ghost use Rattle.rules.specs.Forms.{NamesList, FormRead};
 use crate::RulesForm;
-use items::Piece;
+use items::ItemAt;
 use items::forms;
 use items::places;
 use name_lists::LINE_DEPTH;
@@ -15,29 +15,29 @@ use text::End;
 use text::compare;
 
 // (HEAD NAME...): the place behind its head, and the place behind it.
-fn names_list(s: &[u8], from: usize, head: &[u8]) -> Piece
+fn names_list(s: &[u8], from: usize, head: &[u8]) -> ItemAt
     ensures { λ r. ⌜ NamesList (now (head .entry)) (now (s .entry)) from r ⌝ }
 {
     let End::At(a) = name_lists::places::headed(s, from, head) else {
-        return Piece::None;
+        return ItemAt::None;
     };
     let End::At(e) = scans::names_end(s, a) else {
-        return Piece::None;
+        return ItemAt::None;
     };
-    Piece::At(a, e)
+    ItemAt::At(a, e)
 }
 
 // NAME (actors WORD...) (over CATEGORY...), behind the line's first word.
 fn category_form(s: &[u8], from: usize) -> RulesForm
     ensures { λ r. ⌜ FormRead (now (s .entry)) (formAt false from (now (s .entry)) categoryLine) r ⌝ }
 {
-    let Piece::At(p, q) = places::next_name(s, from, LINE_DEPTH) else {
+    let ItemAt::At(p, q) = places::next_name(s, from, LINE_DEPTH) else {
         return RulesForm::None;
     };
-    let Piece::At(a, e) = names_list(s, q, b"actors") else {
+    let ItemAt::At(a, e) = names_list(s, q, b"actors") else {
         return RulesForm::None;
     };
-    let Piece::At(o, f) = names_list(s, e, b"over") else {
+    let ItemAt::At(o, f) = names_list(s, e, b"over") else {
         return RulesForm::None;
     };
     if forms::form_closes(s, f) {
@@ -50,10 +50,10 @@ fn category_form(s: &[u8], from: usize) -> RulesForm
 fn policy_form(s: &[u8], from: usize) -> RulesForm
     ensures { λ r. ⌜ FormRead (now (s .entry)) (formAt false from (now (s .entry)) policyLine) r ⌝ }
 {
-    let Piece::At(p, q) = places::next_name(s, from, LINE_DEPTH) else {
+    let ItemAt::At(p, q) = places::next_name(s, from, LINE_DEPTH) else {
         return RulesForm::None;
     };
-    let Piece::At(t, u) = places::next_quoted(s, q, LINE_DEPTH) else {
+    let ItemAt::At(t, u) = places::next_quoted(s, q, LINE_DEPTH) else {
         return RulesForm::None;
     };
     if forms::form_closes(s, u + 1) {
@@ -69,7 +69,7 @@ pub fn rules_form(s: &[u8]) -> RulesForm
     let End::At(i) = forms::open_form(s) else {
         return RulesForm::None;
     };
-    let Piece::At(p, q) = places::next_word(s, i, true, LINE_DEPTH) else {
+    let ItemAt::At(p, q) = places::next_word(s, i, true, LINE_DEPTH) else {
         return RulesForm::None;
     };
     if compare::same_bytes(&s[p..q], b"category") {

@@ -1,6 +1,7 @@
 // The rules of a text, line by line, into the tables.
 ghost use Prim.Native.Nat.{_≤_};
 ghost use lib.ListN.{length};
+ghost use Rattle.rules_tables.specs.Layout.{rulesWords};
 ghost use Rattle.model.specs.Choice.{andThen};
 ghost use Rattle.model.specs.Items.{lineItems};
 ghost use Rattle.model.specs.Lines.{readLines, linesOf};
@@ -113,7 +114,7 @@ fn load_lines(
     text: &[u8],
     rules_words: &mut [u32],
 ) -> RulesLoad
-    requires { ⌜ BookFits (now book) (now words) counts × (length (now text) ≤ 16384) × (512 ≤ length (now «rules_words»)) ⌝ }
+    requires { ⌜ BookFits (now book) (now words) counts × (length (now text) ≤ 16384) × (rulesWords ≤ length (now «rules_words»)) ⌝ }
     ensures { λ r. ⌜ Loaded (bookAt (now (book .entry)) (now (words .entry)) counts) (now (text .entry)) (now («rules_words» .exit)) r
         (onAccept (readLines 2 (rulesStep (bookAt (now (book .entry)) (now (words .entry)) counts)) 1 noRules (linesOf (now (text .entry)))) covered) ⌝ }
 {
@@ -148,7 +149,7 @@ pub fn load(
     text: &[u8],
     rules_words: &mut [u32],
 ) -> RulesLoad
-    requires { ⌜ BookFits (now book) (now words) counts × (512 ≤ length (now «rules_words»)) ⌝ }
+    requires { ⌜ BookFits (now book) (now words) counts × (rulesWords ≤ length (now «rules_words»)) ⌝ }
     ensures { λ r. ⌜ Loaded (bookAt (now (book .entry)) (now (words .entry)) counts) (now (text .entry)) (now («rules_words» .exit)) r
         (readRules (bookAt (now (book .entry)) (now (words .entry)) counts) (now (text .entry))) ⌝ }
 {

@@ -12,14 +12,14 @@ ghost use Rattle.model.specs.Book.{Book};
 ghost use Rattle.model.specs.ReadRules.{category, lacksActor, rulesFault};
 ghost use Rattle.book_tables.specs.View.{nameOf, namesAt};
 ghost use Rattle.book_tables.specs.Fits.{NamesFit};
-ghost use Rattle.rules_tables.specs.Layout.{names};
+ghost use Rattle.rules_tables.specs.Layout.{names, rulesWords};
 ghost use Rattle.rules_tables.specs.View.{actorsAt, rulesAt};
 ghost use Rattle.rules_tables.specs.Fits.{CategoryFits, Fits};
 ghost use Rattle.items.specs.Places.{WordPlaces};
 ghost use Rattle.name_lists.specs.Names.{NamesRead, namesBehind};
 ghost use Rattle.rules.specs.Forms.{between};
 ghost use Rattle.rules.specs.Faults.{faultOf};
-use items::Piece;
+use items::ItemAt;
 use items::places;
 use model::limits::MAX_ACTORS;
 use model::limits::MAX_CATEGORIES;
@@ -43,7 +43,7 @@ fn is_unknown(text: &[u8], words: &[u32], count: usize, s: &[u8], from: usize) -
 {
     let mut i = from;
     while i < s.len() {
-        let Piece::At(p, q) = places::next_name(s, i, LIST_DEPTH) else {
+        let ItemAt::At(p, q) = places::next_name(s, i, LIST_DEPTH) else {
             return false;
         };
         if count <= book_tables::names::find_name(text, words, CATEGORY_NAMES, count, &s[p..q]) {
@@ -90,7 +90,7 @@ fn is_past_limit(count: usize, s: &[u8], a: usize) -> bool
 
 // Whether an actor of category k is none of the names from a place on.
 fn lacks_one_of(text: &[u8], words: &[u32], k: usize, s: &[u8], a: usize) -> bool
-    requires { ⌜ CategoryFits (now text) (now words) k × (k < 16) × (512 ≤ length (now words)) ⌝ }
+    requires { ⌜ CategoryFits (now text) (now words) k × (k < 16) × (rulesWords ≤ length (now words)) ⌝ }
     ensures { λ r. ⌜ ((x : NamesRead) → namesBehind (now (s .entry)) a ≡ just x
         → r ≡ not (all (λ w. mem w (x .names)) (actorsAt (now (text .entry)) (now (words .entry)) k))) ⌝ }
 {
@@ -112,7 +112,7 @@ fn lacks_one_of(text: &[u8], words: &[u32], k: usize, s: &[u8], a: usize) -> boo
 
 // Whether category k is one of those listed from o on, and one of its actors is none of those from a on.
 fn lacks_of_lower(text: &[u8], words: &[u32], k: usize, s: &[u8], a: usize, o: usize) -> bool
-    requires { ⌜ CategoryFits (now text) (now words) k × NamesFit (now text) (now words) names (k + 1) × (k < 16) × (512 ≤ length (now words)) ⌝ }
+    requires { ⌜ CategoryFits (now text) (now words) k × NamesFit (now text) (now words) names (k + 1) × (k < 16) × (rulesWords ≤ length (now words)) ⌝ }
     ensures { λ r. ⌜ ((x y : NamesRead) → namesBehind (now (s .entry)) a ≡ just x → namesBehind (now (s .entry)) o ≡ just y
         → r ≡ (mem (nameOf (now (text .entry)) (now (words .entry)) names k) (y .names)
         && not (all (λ w. mem w (x .names)) (actorsAt (now (text .entry)) (now (words .entry)) k)))) ⌝ }

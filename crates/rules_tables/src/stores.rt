@@ -2,6 +2,7 @@
 ghost use mathlib.Core.Path.{_≡_};
 ghost use Prim.Native.Nat.{_+_, _*_, _≤_, _<_};
 ghost use lib.ListN.{length, set};
+ghost use Rattle.rules_tables.specs.Layout.{rulesWords};
 ghost use Rattle.rules_tables.specs.Stores.{withCategory, withPolicy};
 use crate::CATEGORIES;
 use crate::CATEGORY_NAMES;
@@ -29,7 +30,7 @@ pub fn store_category(
     over: usize,
     lower: u32,
 )
-    requires { ⌜ (512 ≤ length (now words)) × (k < 16) × (actors ≤ 8) × (over ≤ 16) ⌝ }
+    requires { ⌜ (rulesWords ≤ length (now words)) × (k < 16) × (actors ≤ 8) × (over ≤ 16) ⌝ }
     ensures { λ _. ⌜ now (words .exit) ≡ withCategory (now (words .entry)) k name actors over lower ⌝ }
 {
     words[CATEGORY_NAMES + k] = name;
@@ -40,7 +41,7 @@ pub fn store_category(
 
 // Policy i: its category's number, start and length of its text.
 pub fn store_policy(words: &mut [u32], i: usize, category: usize, start: usize, size: usize)
-    requires { ⌜ (512 ≤ length (now words)) × (i < 16) × (category < 16) × (start + size ≤ 16384) ⌝ }
+    requires { ⌜ (rulesWords ≤ length (now words)) × (i < 16) × (category < 16) × (start + size ≤ 16384) ⌝ }
     ensures { λ _. ⌜ now (words .exit) ≡ withPolicy (now (words .entry)) i category start size ⌝ }
 {
     words[POLICIES + POLICY_WORDS * i] = category as u32;

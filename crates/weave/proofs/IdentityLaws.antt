@@ -20,7 +20,7 @@ use Rattle.model.specs.declared.Identity.{Identity as IdentityData}
 use Rattle.model.proofs.Places.{getD-map, length-map}
 use Rattle.bits.specs.Word.{bit, with}
 use Rattle.bits.specs.WordLaws.{bit-zero}
-use Rattle.woven_tables.specs.Tables.{vertexOfWord, nameOf, noNode, nodeIn, identityAt}
+use Rattle.woven_tables.specs.Tables.{vertexOfWord, nameOf, noNode, nodeIn, identityAt, wovenWords}
 use Rattle.weave.specs.Identities.{identityOf, identitiesIn, noIdentity, IdentitiesGiven}
 use Rattle.woven_tables.proofs.NameLaws.{of-actor, of-own}
 use Rattle.weave.proofs.TieLaws.{bit-mark-if}
@@ -108,7 +108,7 @@ pub record GivenSoFar (q r : Bytes) (ids : List Identity) (old words : List ℕ)
 pub given-start : (q r : Bytes) (ids : List Identity) (old : List ℕ) → GivenSoFar q r ids old old 0 0
 given-start q r ids old = record { size = refl; given = record { given = λ v h. absurd (omega arith); marked = λ v h. absurd (omega arith); kept = λ i z. refl }; none-above = λ v h. bit-zero v }
 
-pub given-more : (q r : Bytes) (ids : List Identity) (old words : List ℕ) (i mask node : ℕ) → GivenSoFar q r ids old words i mask → i < 24 → 512 ≤ length words → nodeIn node ≡ identityOf ids (vertexOfWord q r (getD words i 0))
+pub given-more : (q r : Bytes) (ids : List Identity) (old words : List ℕ) (i mask node : ℕ) → GivenSoFar q r ids old words i mask → i < 24 → wovenWords ≤ length words → nodeIn node ≡ identityOf ids (vertexOfWord q r (getD words i 0))
     → GivenSoFar q r ids old (set words (412 + i) node) (i + 1) (pick (not (eqb node noNode)) (with mask i) mask)
 unfolding identityAt
 given-more q r ids old words i mask node so-far low size said =

@@ -25,8 +25,8 @@ use Rattle.model.proofs.Places.{getD-in, length-map}
 use Rattle.book_tables.proofs.ListedLaws.{length-listed}
 use Rattle.woven_tables.specs.declared.WovenCounts.{WovenCounts}
 use Rattle.woven_tables.specs.declared.vertices.Numbers.{Numbers}
-use Rattle.weave.specs.declared.Added.the-variants.{Woven}
-use Rattle.woven_tables.specs.Tables.{textOf, verticesAt, edgesAt, clausesAt, wovenAt}
+use Rattle.weave.specs.declared.PatternAdded.the-variants.{Woven}
+use Rattle.woven_tables.specs.Tables.{textOf, verticesAt, edgesAt, clausesAt, wovenAt, wovenWords}
 use Rattle.weave.specs.OneMore.{underNames, moreVertices, oneMore, ClauseWithin}
 use Rattle.model.specs.PlainData.{noEdge, noClause, ConditionFits, PatternFits}
 use Rattle.woven_tables.specs.Steps.{renumberedEdge, VerticesAdded, textVertices}
@@ -239,7 +239,7 @@ module _ (q r : Bytes) (actors : List Bytes) (k base : ℕ) (p : PatternData) (o
         ap (λ z. length (keep isExcluded z)) (clauses-all b) ∙ ap length (keep-append isExcluded before (map f cs)) ∙ length-append (exclusions before) (exclusions (map f cs))
         ∙ ap₂ (λ x y. x + y) (kept .counted b) (keep-map isExcluded f cs (renumbered-excluded (numbered .numbers) (c .edges)) ∙ counted .exactly b (textFrom q r k base))
 
-    pub text-woven : 512 ≤ length new → c .edges + p .counts .edges ≤ 48 → c .exclusions + n ≤ 48 → c .requirements + (p .counts .clauses - n) ≤ 48
+    pub text-woven : wovenWords ≤ length new → c .edges + p .counts .edges ≤ 48 → c .exclusions + n ≤ 48 → c .requirements + (p .counts .clauses - n) ≤ 48
         → TextAdded q r actors k base p old new c (Woven (record { vertices = numbered .count; edges = c .edges + p .counts .edges; exclusions = c .exclusions + n; requirements = c .requirements + (p .counts .clauses - n); returns = out }))
     unfolding oneMore moreVertices underNames patternIn wovenAt
     text-woven size few-edges few-exclusions few-requirements = (

@@ -24,8 +24,8 @@ use Rattle.model.proofs.Members.{_∈_, map-i}
 use Rattle.model.proofs.Places.{twice-i, twice-tail}
 use Rattle.book_tables.specs.Listed.{listed}
 use Rattle.woven_tables.specs.declared.WovenCounts.{WovenCounts}
-use Rattle.weave.specs.declared.Added.the-variants.{Woven, Passed}
-use Rattle.woven_tables.specs.Tables.{textOf, verticesAt, edgesAt, clausesAt, returnsAt, wovenAt}
+use Rattle.weave.specs.declared.PatternAdded.the-variants.{Woven, Passed}
+use Rattle.woven_tables.specs.Tables.{textOf, verticesAt, edgesAt, clausesAt, returnsAt, wovenAt, wovenWords}
 use Rattle.weave.specs.OneMore.{oneMore, Ranged}
 use Rattle.weave.specs.Adding.{noCounts, Kept, TextAdded}
 use Rattle.weave.specs.Identities.{identityOf, EdgesLow, Finished}
@@ -40,7 +40,7 @@ pub none-woven : (b : Book) (q r : Bytes) (words : List ℕ) → wovenAt b q r w
 unfolding wovenAt verticesAt edgesAt clausesAt returnsAt listed weave named joined firstsBy movedClauses returnsOf
 none-woven b q r words = refl
 
-pub none-kept : (q r : Bytes) (words : List ℕ) → 512 ≤ length words → Kept q r words noCounts
+pub none-kept : (q r : Bytes) (words : List ℕ) → wovenWords ≤ length words → Kept q r words noCounts
 unfolding clausesAt listed keep
 none-kept q r words h = record { room = h; vertices = omega arith; edges = omega arith; exclusions = omega arith; requirements = omega arith; returns = omega arith; counted = λ b. refl }
 

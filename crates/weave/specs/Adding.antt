@@ -12,9 +12,9 @@ use Rattle.model.specs.Weave.{isExcluded, wovenTooMany}
 use Rattle.model.specs.Answers.{edgeIn, patternIn}
 use Rattle.model.specs.declared.Pattern.{Pattern}
 use Rattle.woven_tables.specs.declared.WovenCounts.{WovenCounts}
-use Rattle.weave.specs.declared.Added.{Added}
-use Rattle.weave.specs.declared.Added.the-variants.{Woven, Passed}
-use Rattle.woven_tables.specs.Tables.{textOf, edgesAt, clausesAt, returnsAt, wovenAt}
+use Rattle.weave.specs.declared.PatternAdded.{PatternAdded}
+use Rattle.weave.specs.declared.PatternAdded.the-variants.{Woven, Passed}
+use Rattle.woven_tables.specs.Tables.{textOf, edgesAt, clausesAt, returnsAt, wovenAt, wovenWords}
 use Rattle.weave.specs.OneMore.{oneMore}
 use Rattle.model.specs.PlainData.{PatternFits}
 use Rattle.woven_tables.specs.Steps.{renumberedEdge}
@@ -22,7 +22,7 @@ use Rattle.woven_tables.specs.ClauseSteps.{renumberedClause, namedClause}
 
 -- the counts are those of a woven pattern in the words, and within the limits
 pub record Kept (query rules : Bytes) (words : List ℕ) (c : WovenCounts) : Type 0 where
-  pub room : 512 ≤ length words
+  pub room : wovenWords ≤ length words
   pub vertices : c .vertices ≤ 24
   pub edges : c .edges ≤ 48
   pub exclusions : c .exclusions ≤ 48
@@ -42,7 +42,7 @@ pub record TextReady (query rules : Bytes) (words : List ℕ) (c : WovenCounts) 
   pub fits : PatternFits base p
 
 -- the words hold the woven pattern with the text, or a limit is passed; b is whatever book the labels and attributes are numbered in
-abbrev pub TextAdded : Bytes → Bytes → List Bytes → ℕ → ℕ → Pattern → List ℕ → List ℕ → WovenCounts → Added → Type 0
+abbrev pub TextAdded : Bytes → Bytes → List Bytes → ℕ → ℕ → Pattern → List ℕ → List ℕ → WovenCounts → PatternAdded → Type 0
 TextAdded query rules actors k base p old new c (Woven n) =
     Kept query rules new n × ((b : Book) → wovenAt b query rules new n ≡ oneMore k actors (patternIn b (drop base (textOf query rules k)) p) (wovenAt b query rules old c))
 TextAdded query rules actors k base p old new c Passed =

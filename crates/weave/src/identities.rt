@@ -2,7 +2,7 @@
 ghost use mathlib.Core.Path.{_≡_};
 ghost use Prim.Native.Nat.{_≤_};
 ghost use lib.ListN.{length};
-ghost use Rattle.woven_tables.specs.Tables.{vertexOfWord, nodeIn};
+ghost use Rattle.woven_tables.specs.Tables.{vertexOfWord, nodeIn, wovenWords};
 ghost use Rattle.weave.specs.Identities.{identityOf, identitiesIn, IdentitiesReady, IdentitiesGiven};
 use crate::marks;
 use model::Identity;
@@ -52,7 +52,7 @@ pub fn give_identities(
     words: &mut [u32],
     n: usize,
 ) -> u32
-    requires { ⌜ IdentitiesReady identities count × (n ≤ 24) × (512 ≤ length (now words)) ⌝ }
+    requires { ⌜ IdentitiesReady identities count × (n ≤ 24) × (wovenWords ≤ length (now words)) ⌝ }
     ensures { λ r. ⌜ IdentitiesGiven (now (query .entry)) (now (rules .entry)) (identitiesIn (now (request .entry)) identities count) (now (words .entry)) (now (words .exit)) n r ⌝ }
 {
     let mut mask: u32 = 0;

@@ -1,5 +1,5 @@
 // Weaving: one text's pattern after another into the woven pattern, identities, and what is tied to one.
-ghost use Rattle.woven_tables.specs.Tables.{actorsAt};
+ghost use Rattle.woven_tables.specs.Tables.{actorsAt, wovenWords};
 ghost use Rattle.weave.specs.Adding.{noCounts, TextReady, TextAdded, RestReady, RestAdded};
 ghost use Rattle.weave.specs.Identities.{identitiesIn, FinishReady, Finished};
 ghost use mathlib.Core.Path.{_≡_};
@@ -20,7 +20,7 @@ mod marks;
 mod ties;
 
 // What weaving one text more gives: the counts of the woven pattern, or that it passes a limit (12).
-pub enum Added {
+pub enum PatternAdded {
     Woven(WovenCounts),
     Passed,
 }
@@ -37,7 +37,7 @@ pub fn add_pattern(
     pattern: Pattern,
     words: &mut [u32],
     counts: WovenCounts,
-) -> Added
+) -> PatternAdded
     requires { ⌜ TextReady (now query) (now rules) (now words) counts (now actors) «actor_count» k base pattern ⌝ }
     ensures { λ r. ⌜ TextAdded (now (query .entry)) (now (rules .entry)) (actorsAt (now (rules .entry)) (now (actors .entry)) «actor_count») k base pattern (now (words .entry)) (now (words .exit)) counts r ⌝ }
 {
@@ -56,7 +56,7 @@ pub fn add_pattern(
         counts.vertices,
     );
     if MAX_WOVEN_VERTICES < numbered.count {
-        return Added::Passed;
+        return PatternAdded::Passed;
     }
     let clauses = pattern.clauses;
     let exclusions = woven_tables::clauses::count_exclusions(clauses, own.clauses);
@@ -64,17 +64,17 @@ pub fn add_pattern(
     let exclusion_sum = counts.exclusions + exclusions;
     let requirement_sum = counts.requirements + (own.clauses - exclusions);
     if MAX_WOVEN_EDGES < edge_sum {
-        return Added::Passed;
+        return PatternAdded::Passed;
     }
     if MAX_WOVEN_EXCLUSIONS < exclusion_sum {
-        return Added::Passed;
+        return PatternAdded::Passed;
     }
     if MAX_WOVEN_REQUIREMENTS < requirement_sum {
-        return Added::Passed;
+        return PatternAdded::Passed;
     }
     let numbers = numbered.numbers;
     let returns = add_rest(k, base, pattern, numbers, words, counts);
-    Added::Woven(WovenCounts {
+    PatternAdded::Woven(WovenCounts {
         vertices: numbered.count,
         edges: edge_sum,
         exclusions: exclusion_sum,
@@ -92,7 +92,7 @@ fn add_rest(
     words: &mut [u32],
     counts: WovenCounts,
 ) -> usize
-    requires { ⌜ RestReady k base pattern numbers counts × (512 ≤ length (now words)) ⌝ }
+    requires { ⌜ RestReady k base pattern numbers counts × (wovenWords ≤ length (now words)) ⌝ }
     ensures { λ r. ⌜ RestAdded k base pattern numbers (now (words .entry)) (now (words .exit)) counts r ⌝ }
 {
     let own = pattern.counts;

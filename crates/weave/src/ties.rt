@@ -1,6 +1,7 @@
 // What is tied to an identity: the marked vertices, and those that a path of edges, either way along each, joins to one.
 ghost use Prim.Native.Nat.{_≤_};
 ghost use lib.ListN.{length};
+ghost use Rattle.woven_tables.specs.Tables.{wovenWords};
 ghost use Rattle.weave.specs.Identities.{EdgesLow, Stepped, TiedBy};
 use crate::marks;
 use woven_tables::EDGES;
@@ -10,7 +11,7 @@ const VERTEX_UNIT: usize = 256;
 
 // One step along all edges.
 fn step(words: &[u32], edges: usize, mask: u32) -> u32
-    requires { ⌜ (edges ≤ 48) × (512 ≤ length (now words)) × EdgesLow (now words) edges 24 ⌝ }
+    requires { ⌜ (edges ≤ 48) × (wovenWords ≤ length (now words)) × EdgesLow (now words) edges 24 ⌝ }
     ensures { λ r. ⌜ Stepped (now (words .entry)) edges mask r ⌝ }
 {
     let mut next = mask;
@@ -28,7 +29,7 @@ fn step(words: &[u32], edges: usize, mask: u32) -> u32
 
 // The vertices tied to a marked one: steps along all edges until nothing changes, at most as many as there are vertices.
 pub fn tied(words: &[u32], vertices: usize, edges: usize, mask: u32) -> u32
-    requires { ⌜ (vertices ≤ 24) × (edges ≤ 48) × (512 ≤ length (now words)) × EdgesLow (now words) edges vertices ⌝ }
+    requires { ⌜ (vertices ≤ 24) × (edges ≤ 48) × (wovenWords ≤ length (now words)) × EdgesLow (now words) edges vertices ⌝ }
     ensures { λ r. ⌜ TiedBy (now (words .entry)) vertices edges mask r ⌝ }
 {
     let mut marked = mask;

@@ -19,7 +19,7 @@ use Rattle.model.specs.declared.Condition.the-variants.{Excluded, OfVertex, OfE
 use Rattle.model.specs.declared.Value.{Value}
 use Rattle.model.specs.declared.Value.the-variants.{Number, Text, Truth}
 use Rattle.woven_tables.specs.Tables.{textOf, relationAt, valueAt, clauseAt}
-use Rattle.woven_tables.specs.declared.clauses.ValueWords.{ValueWords}
+use Rattle.woven_tables.specs.declared.clauses.ClauseValue.{ClauseValue}
 use Rattle.woven_tables.specs.declared.clauses.ClauseWords.{ClauseWords}
 use Rattle.woven_tables.specs.ClauseSteps.{ValueSaid, RequirementSaid, renumberedClause, ClauseSaid}
 use Rattle.woven_tables.proofs.NameLaws.{part-of-rest}
@@ -56,7 +56,7 @@ owner-digit : (k owner low what : ℕ) → owner < 64 → low < 4096 → what �
 owner-digit k owner low what h g e = omega arith
 
 -- the words of a requirement
-pub requirement-said : (k base kind owner : ℕ) (x : Requirement) (v : ValueWords) (n what : ℕ) → k < 32 → kind < 4 → owner < 64 → x .attribute < 32 → n < 6 → relationAt n ≡ relationOf (x .relation) → ValueSaid base (x .value) v
+pub requirement-said : (k base kind owner : ℕ) (x : Requirement) (v : ClauseValue) (n what : ℕ) → k < 32 → kind < 4 → owner < 64 → x .attribute < 32 → n < 6 → relationAt n ≡ relationOf (x .relation) → ValueSaid base (x .value) v
     → what ≡ k * 262144 + owner * 4096 + x .attribute * 128 + n * 16 + v .kind * 4 + kind → RequirementSaid k base kind owner x (record { what = what; high = v .high; low = v .low })
 requirement-said k base kind owner x v n what few-texts few-kinds few-owners few-attributes few-relations relation value e =
     let a = x .attribute in

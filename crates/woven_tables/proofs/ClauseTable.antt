@@ -17,7 +17,7 @@ use Rattle.model.specs.declared.Condition.the-variants.{Excluded, OfVertex, OfE
 use Rattle.model.specs.declared.Clause.{Clause as ClauseData}
 use Rattle.book_tables.proofs.ListedLaws.{listed-more, listed-same, map-end}
 use Rattle.woven_tables.specs.declared.clauses.ClauseWords.{ClauseWords}
-use Rattle.woven_tables.specs.Tables.{textOf, clauseAt, clausesAt}
+use Rattle.woven_tables.specs.Tables.{textOf, clauseAt, clausesAt, wovenWords}
 use Rattle.model.specs.PlainData.{noClause}
 use Rattle.woven_tables.specs.Steps.{KeptOutside}
 use Rattle.woven_tables.specs.ClauseSteps.{renumberedClause, ClauseSaid, namedClause, ClausesAdded, oneIfExcluded, ExclusionsCounted}
@@ -30,7 +30,7 @@ unfolding clausesAt
 clauses-same b q r old new n f = listed-same _ _ n (λ i l.
     λ j. clauseAt b q r (f (120 + 3 * i) (omega arith) (omega arith) j) (f (120 + 3 * i + 1) (omega arith) (omega arith) j) (f (120 + 3 * i + 2) (omega arith) (omega arith) j))
 
-module _ (words : List ℕ) (m w x y : ℕ) (room : m < 96) (size : 512 ≤ length words) where
+module _ (words : List ℕ) (m w x y : ℕ) (room : m < 96) (size : wovenWords ≤ length words) where
   at : ℕ
   at = 120 + 3 * m
 
@@ -73,7 +73,7 @@ clauses-start base k clauses numbers before old woven =
     record { size = refl; added = record { clauses-are = λ b q r. ap (clausesAt b q r old) e ∙ sym (append-nil (clausesAt b q r old woven)); kept = λ i z. refl } }
 
 pub clauses-more : (base k : ℕ) (clauses : List ClauseData) (i : ℕ) (numbers : List ℕ) (before : ℕ) (old words : List ℕ) (woven : ℕ) (out : ClauseWords) → ClausesSoFar base k clauses i numbers before old words woven
-    → i < length clauses → woven + i < 96 → 512 ≤ length words → ClauseSaid k base numbers before (getD clauses i noClause .condition) out
+    → i < length clauses → woven + i < 96 → wovenWords ≤ length words → ClauseSaid k base numbers before (getD clauses i noClause .condition) out
     → ClausesSoFar base k clauses (i + 1) numbers before old (set (set (set words (120 + 3 * (woven + i)) (out .what)) (120 + 3 * (woven + i) + 1) (out .high)) (120 + 3 * (woven + i) + 2) (out .low)) woven
 clauses-more base k clauses i numbers before old words woven out so-far more room size said =
     let e : woven + (i + 1) ≡ woven + i + 1 = omega arith in

@@ -12,7 +12,7 @@ use Rattle.model.specs.Book.{Book}
 use Rattle.model.specs.Answers.{partOf, nameAt, edgeIn}
 use Rattle.model.specs.declared.Edge.{Edge as EdgeData}
 use Rattle.book_tables.proofs.ListedLaws.{listed-more, listed-same, map-end}
-use Rattle.woven_tables.specs.Tables.{textOf, nameOf, edgeAt, edgesAt}
+use Rattle.woven_tables.specs.Tables.{textOf, nameOf, edgeAt, edgesAt, wovenWords}
 use Rattle.model.specs.PlainData.{noEdge}
 use Rattle.woven_tables.specs.Steps.{KeptOutside, renumberedEdge, EdgeReady, EdgesAdded}
 use Rattle.woven_tables.proofs.NameLaws.{part-of-rest, name-word-says}
@@ -29,7 +29,7 @@ pub edges-same : (b : Book) (q r : Bytes) (old new : List ℕ) (n : ℕ) → n �
 unfolding edgesAt
 edges-same b q r old new n few f g = listed-same _ _ n (λ i l. ap₂ (edgeAt b q r) (f (24 + i) (omega arith) (omega arith)) (g (72 + i) (omega arith) (omega arith)))
 
-module _ (words : List ℕ) (m w x : ℕ) (room : m < 48) (size : 512 ≤ length words) where
+module _ (words : List ℕ) (m w x : ℕ) (room : m < 48) (size : wovenWords ≤ length words) where
   stored : List ℕ
   stored = set (set words (24 + m) w) (72 + m) x
 
@@ -79,7 +79,7 @@ edges-start base k edges numbers old woven =
     record { size = refl; added = record { edges-are = λ b q r. ap (edgesAt b q r old) e ∙ sym (append-nil (edgesAt b q r old woven)); kept = λ i z. refl } }
 
 pub edges-more : (base k : ℕ) (edges : List EdgeData) (i : ℕ) (numbers old words : List ℕ) (woven w x : ℕ) → EdgesSoFar base k edges i numbers old words woven
-    → i < length edges → woven + i < 48 → 512 ≤ length words → EdgeReady base numbers (getD edges i noEdge)
+    → i < length edges → woven + i < 48 → wovenWords ≤ length words → EdgeReady base numbers (getD edges i noEdge)
     → w ≡ getD edges i noEdge .label * 65536 + getD numbers (getD edges i noEdge .from) 0 * 256 + getD numbers (getD edges i noEdge .to) 0
     → x ≡ (k * 65536 + (base + getD edges i noEdge .name .start)) * 32 + getD edges i noEdge .name .length
     → EdgesSoFar base k edges (i + 1) numbers old (set (set words (24 + (woven + i)) w) (72 + (woven + i)) x) woven

@@ -8,7 +8,7 @@ use native.Mathlib.Omega.{arith}
 use lib.ListN.{length, getD, set, take, length-set}
 use lib.Seq.{getD-set-same, getD-set-other, take-suc}
 use Rattle.book_tables.proofs.ListedLaws.{listed-none, listed-more, listed-same, map-end}
-use Rattle.woven_tables.specs.Tables.{returnsAt}
+use Rattle.woven_tables.specs.Tables.{returnsAt, wovenWords}
 use Rattle.woven_tables.specs.Steps.{ReturnsAdded}
 
 -- Return vertices that were there stay
@@ -25,7 +25,7 @@ pub returns-start : (returns numbers old : List ℕ) → ReturnsSoFar returns 0 
 unfolding returnsAt
 returns-start returns numbers old = record { size = refl; added = record { returns-are = listed-none _; kept = λ i z. refl } }
 
-pub returns-more : (returns : List ℕ) (i : ℕ) (numbers old words : List ℕ) → ReturnsSoFar returns i numbers old words → i < length returns → i < 4 → 512 ≤ length words
+pub returns-more : (returns : List ℕ) (i : ℕ) (numbers old words : List ℕ) → ReturnsSoFar returns i numbers old words → i < length returns → i < 4 → wovenWords ≤ length words
     → ReturnsSoFar returns (i + 1) numbers old (set words (408 + i) (getD numbers (getD returns i 0) 0))
 unfolding returnsAt
 returns-more returns i numbers old words so-far more few size =

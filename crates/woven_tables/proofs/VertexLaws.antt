@@ -19,7 +19,7 @@ use Rattle.model.proofs.FirstNames.{firstsBy-append}
 use Rattle.model.proofs.Places.{getD-in, getD-map, length-map}
 use Rattle.book_tables.proofs.ListedLaws.{listed-more, listed-same, length-listed}
 use Rattle.woven_tables.specs.declared.vertices.Placed.{Placed}
-use Rattle.woven_tables.specs.Tables.{verticesAt, vertexOfWord}
+use Rattle.woven_tables.specs.Tables.{verticesAt, vertexOfWord, wovenWords}
 use Rattle.model.specs.PlainData.{noPart}
 use Rattle.woven_tables.specs.Steps.{KeptOutside, VertexPlaced, VerticesAdded, textVertices}
 use Rattle.woven_tables.proofs.NameLaws.{part-of-rest}
@@ -67,7 +67,7 @@ module _ (q r : Bytes) (words : List ℕ) (n word at : ℕ) (found : at ≡ plac
       let e = behind-new (vertexOfWord q r word) (verticesAt q r words n) (omega arith) in
       rw e (omega (arith, length-append (verticesAt q r words n) (vertexOfWord q r word ∷ [])))
 
-  pub place-new : n ≤ at → n < 24 → 512 ≤ length words → VertexPlaced q r words (set words n word) n word (record { at = at; count = n + 1 })
+  pub place-new : n ≤ at → n < 24 → wovenWords ≤ length words → VertexPlaced q r words (set words n word) n word (record { at = at; count = n + 1 })
   unfolding addNewBy verticesAt
   place-new h g s =
       let l = length-vertices q r words n in

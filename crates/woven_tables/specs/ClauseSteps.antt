@@ -14,14 +14,14 @@ use Rattle.model.specs.declared.Requirement.{Requirement}
 use Rattle.model.specs.declared.Condition.{Condition}
 use Rattle.model.specs.declared.Condition.the-variants.{Excluded, OfVertex, OfEdge}
 use Rattle.model.specs.declared.Clause.{Clause as ClauseData}
-use Rattle.woven_tables.specs.declared.clauses.ValueWords.{ValueWords}
+use Rattle.woven_tables.specs.declared.clauses.ClauseValue.{ClauseValue}
 use Rattle.woven_tables.specs.declared.clauses.ClauseWords.{ClauseWords}
 use Rattle.woven_tables.specs.Tables.{textOf, relationAt, valueAt, clauseAt, clausesAt}
 use Rattle.model.specs.PlainData.{noClause, RequirementFits}
 use Rattle.woven_tables.specs.Steps.{KeptOutside}
 
 -- words say a value whose text stands from a base on
-pub record ValueSaid (base : ℕ) (value : Value) (out : ValueWords) : Type 0 where
+pub record ValueSaid (base : ℕ) (value : Value) (out : ClauseValue) : Type 0 where
   pub kind : out .kind < 3
   pub said : (text : Bytes) → valueAt text (out .kind) (out .high) (out .low) ≡ valueOf (drop base text) value
 

@@ -3,7 +3,7 @@ ghost use mathlib.Core.Path.{_≡_};
 ghost use Prim.Native.Nat.{_+_, _*_, _<_, _≤_};
 ghost use lib.ListN.{length};
 ghost use Rattle.model.specs.Answers.{relationOf};
-ghost use Rattle.woven_tables.specs.Tables.{relationAt};
+ghost use Rattle.woven_tables.specs.Tables.{relationAt, wovenWords};
 ghost use Rattle.model.specs.PlainData.{ValueFits, RequirementFits};
 ghost use Rattle.woven_tables.specs.ClauseSteps.{ValueSaid, RequirementSaid, ConditionReady, ClauseSaid, ClausesReady, ClausesAdded, oneIfExcluded, ExclusionsCounted};
 use crate::CLAUSE_WORDS;
@@ -38,7 +38,7 @@ const OF_VERTEX: usize = 1;
 const OF_EDGE: usize = 2;
 
 // A value in words: 0, a whole number in two halves; 1, a text by its start and length; 2, a truth value.
-struct ValueWords {
+struct ClauseValue {
     kind: usize,
     high: u32,
     low: u32,
@@ -66,22 +66,22 @@ fn relation_number(relation: Relation) -> usize
 }
 
 // The words of a value; its text stands from a base on.
-fn value_words(base: usize, value: Value) -> ValueWords
+fn value_words(base: usize, value: Value) -> ClauseValue
     requires { ⌜ ValueFits base value ⌝ }
     ensures { λ r. ⌜ ValueSaid base value r ⌝ }
 {
     match value {
-        Value::Number(n) => ValueWords {
+        Value::Number(n) => ClauseValue {
             kind: 0,
             high: (n / HALF) as u32,
             low: (n % HALF) as u32,
         },
-        Value::Text(start, length) => ValueWords {
+        Value::Text(start, length) => ClauseValue {
             kind: 1,
             high: (base + start) as u32,
             low: length as u32,
         },
-        Value::Truth(t) => ValueWords {
+        Value::Truth(t) => ClauseValue {
             kind: 2,
             high: 0,
             low: if t { 1 } else { 0 },
@@ -153,7 +153,7 @@ pub fn add_clauses(
     words: &mut [u32],
     woven: usize,
 )
-    requires { ⌜ ClausesReady base k clauses count numbers before woven × (512 ≤ length (now words)) ⌝ }
+    requires { ⌜ ClausesReady base k clauses count numbers before woven × (wovenWords ≤ length (now words)) ⌝ }
     ensures { λ r. ⌜ ClausesAdded base k clauses count numbers before (now (words .entry)) (now (words .exit)) woven ⌝ }
 {
     let mut i = 0;

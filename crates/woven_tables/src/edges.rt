@@ -2,6 +2,7 @@
 ghost use mathlib.Core.Path.{_≡_};
 ghost use Prim.Native.Nat.{_+_, _*_, _<_, _≤_};
 ghost use lib.ListN.{length};
+ghost use Rattle.woven_tables.specs.Tables.{wovenWords};
 ghost use Rattle.woven_tables.specs.Steps.{EdgesReady, EdgesAdded};
 use crate::EDGE_NAMES;
 use crate::EDGES;
@@ -33,7 +34,7 @@ pub fn add_edges(
     words: &mut [u32],
     woven: usize,
 )
-    requires { ⌜ EdgesReady base k edges count numbers woven × (512 ≤ length (now words)) ⌝ }
+    requires { ⌜ EdgesReady base k edges count numbers woven × (wovenWords ≤ length (now words)) ⌝ }
     ensures { λ r. ⌜ EdgesAdded base k edges count numbers (now (words .entry)) (now (words .exit)) woven ⌝ }
 {
     let mut i = 0;

@@ -1,6 +1,7 @@
 // The Return vertices of the query, with their woven numbers.
 ghost use Prim.Native.Nat.{_≤_};
 ghost use lib.ListN.{length};
+ghost use Rattle.woven_tables.specs.Tables.{wovenWords};
 ghost use Rattle.woven_tables.specs.Steps.{ReturnsReady, ReturnsAdded};
 use crate::RETURNS;
 use model::limits::MAX_RETURNS;
@@ -13,7 +14,7 @@ pub fn add_returns(
     numbers: [usize; MAX_VERTICES],
     words: &mut [u32],
 )
-    requires { ⌜ ReturnsReady returns count numbers × (512 ≤ length (now words)) ⌝ }
+    requires { ⌜ ReturnsReady returns count numbers × (wovenWords ≤ length (now words)) ⌝ }
     ensures { λ r. ⌜ ReturnsAdded returns count numbers (now (words .entry)) (now (words .exit)) ⌝ }
 {
     let mut i = 0;

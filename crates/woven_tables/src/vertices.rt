@@ -1,7 +1,7 @@
 // Weaving the vertices of one text: actor vertices of one name are joined, all others kept apart.
 ghost use Prim.Native.Nat.{_<_, _≤_};
 ghost use lib.ListN.{length, drop};
-ghost use Rattle.woven_tables.specs.Tables.{textOf, actorsAt};
+ghost use Rattle.woven_tables.specs.Tables.{textOf, actorsAt, wovenWords};
 ghost use Rattle.woven_tables.specs.Steps.{VertexPlaced, VerticesReady, VerticesAdded, textVertices};
 use crate::names;
 use model::Part;
@@ -22,7 +22,7 @@ pub struct Numbers {
 
 // Gives a vertex its place among the woven ones.
 fn place_vertex(query: &[u8], rules: &[u8], words: &mut [u32], n: usize, word: u32) -> Placed
-    requires { ⌜ (n ≤ 24) × (512 ≤ length (now words)) ⌝ }
+    requires { ⌜ (n ≤ 24) × (wovenWords ≤ length (now words)) ⌝ }
     ensures { λ r. ⌜ VertexPlaced (now (query .entry)) (now (rules .entry)) (now (words .entry)) (now (words .exit)) n word r ⌝ }
 {
     let at = names::find_vertex(query, rules, words, n, word);
@@ -49,7 +49,7 @@ pub fn add_vertices(
     words: &mut [u32],
     woven: usize,
 ) -> Numbers
-    requires { ⌜ VerticesReady base k parts count × («actor_count» ≤ length (now actors)) × (woven ≤ 24) × (512 ≤ length (now words)) ⌝ }
+    requires { ⌜ VerticesReady base k parts count × («actor_count» ≤ length (now actors)) × (woven ≤ 24) × (wovenWords ≤ length (now words)) ⌝ }
     ensures { λ r. ⌜ VerticesAdded (now (query .entry)) (now (rules .entry))
         (textVertices (drop base (textOf (now (query .entry)) (now (rules .entry)) k)) k (actorsAt (now (rules .entry)) (now (actors .entry)) «actor_count») parts count) count
         (now (words .entry)) (now (words .exit)) woven r ⌝ }
