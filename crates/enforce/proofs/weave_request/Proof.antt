@@ -10,18 +10,6 @@ use borrow.Author.Needs.{needs}
 use Rattle.enforce.proofs.weave_request.Statement.{statement}
 use Rattle.enforce.proofs.weave_request.Tie as tie
 
-weave-texts-requires : tie.Need-weave-texts-requires
-weave-texts-requires c κs = search needs
-
-enum-known-all : tie.Need-enum-known-all
-enum-known-all c = search needs
-
-enum-told : tie.Need-enum-told
-enum-told c = search needs
-
-same-length : tie.Need-same-length
-same-length c = search needs
-
 returns : tie.Need-returns
 returns c =
     let a = c .before .before .before .before .before .before .before .before .before .before .before .before .before .before .before .before .before .args in
@@ -36,9 +24,6 @@ finish-requires c κs =
     let old = c .before .before .before .before .before .before .weave-texts .last .1 .1 .1 .1 .1 .1 .1 .1 .0 in
     finish-ready (a .book .now) (a .words .now) (a .ready .book) (a .query .now) (a .rules .now) (a .rules-words .now) (a .ready .rules) (a .ready .request .category) (given .texts) old old _ (subst (PoliciesWoven (bookAt (a .book .now) (a .words .now) (a .ready .book)) (a .ready .book) (a .query .now) (a .rules .now) (a .rules-words .now) (a .ready .rules) (a .ready .request .category) old) (c .before .before .all .given .1) (c .before .before .before .before .before .before .weave-texts .ensures)) _ _ (given .identified)
 
-same-length-2 : tie.Need-same-length-2
-same-length-2 c = search needs
-
 returns-2 : tie.Need-returns-2
 returns-2 c =
     let a = c .before .before .before .before .before .before .before .before .before .before .before .before .before .before .before .before .before .before .before .before .before .before .before .args in
@@ -49,9 +34,6 @@ returns-2 c =
     answer-for (a .book .now) (a .words .now) (a .ready .book) (a .query .now) (a .rules .now) (a .rules-words .now) (a .ready .rules) (a .ready .request .category) (given .texts) (a .request .now) (a .ready .request) refl new (Woven _)
     (all-woven (a .book .now) (a .words .now) (a .ready .book) (a .query .now) (a .rules .now) (a .rules-words .now) (a .ready .rules) (a .ready .request .category) (given .texts) old new _ held (identitiesIn (a .request .now) (a .ready .request .identities) (a .ready .request .count)) (subst (Finished (a .query .now) (a .rules .now) (identitiesIn (a .request .now) (a .ready .request .identities) (a .ready .request .count)) old new (c .before .before .before .before .before .before .all .given .0 .0)) (c .if1 .taken) (c .before .before .before .finish .ensures))
     (omega (arith, c .before .before .before .before .before .before .before .before .before .before .before .before .before .before .before .before .before .before .before .before .before .before .before .pre .1, c .before .before .before .before .before .before .before .before .before .before .weave-texts .kept .1 .1 .1 .1 .1 .1 .1 .1 .0, c .before .before .before .finish .kept .1 .1 .1 .1 .1 .0)))
-
-same-length-3 : tie.Need-same-length-3
-same-length-3 c = search needs
 
 returns-3 : tie.Need-returns-3
 returns-3 c =
@@ -67,13 +49,13 @@ pub weave-request-spec : {M : Type 1} → statement M
 weave-request-spec =
     tie.close
     (tie.spec
-    weave-texts-requires
-    enum-known-all
-    enum-told
-    same-length
+    (λ c κs. search needs)
+    (λ c. search needs)
+    (λ c. search needs)
+    (λ c. search needs)
     returns
     finish-requires
-    same-length-2
+    (λ c. search needs)
     returns-2
-    same-length-3
+    (λ c. search needs)
     returns-3)

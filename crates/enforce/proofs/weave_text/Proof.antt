@@ -9,35 +9,8 @@ use borrow.Author.Needs.{needs}
 use Rattle.enforce.proofs.weave_text.Statement.{statement}
 use Rattle.enforce.proofs.weave_text.Tie as tie
 
-mul-at : tie.Need-mul-at
-mul-at c = search needs
-
-add-at : tie.Need-add-at
-add-at c = search needs
-
-mul-actor-count : tie.Need-mul-actor-count
-mul-actor-count c = search needs
-
-shared-slice-read-actor-count : tie.Need-shared-slice-read-actor-count
-shared-slice-read-actor-count c = search needs
-
 cast-actor-count : tie.Need-cast-actor-count
 cast-actor-count c = omega (arith, c .shared-slice-known7 .given (16 + 27 * c .before .before .before .before .before .before .before .before .args .place .category))
-
-add-actors : tie.Need-add-actors
-add-actors c = search needs
-
-mul-actors : tie.Need-mul-actors
-mul-actors c = search needs
-
-sub-actors : tie.Need-sub-actors
-sub-actors c = search needs
-
-part-actors-start : tie.Need-part-actors-start
-part-actors-start c = search needs
-
-part-actors-end : tie.Need-part-actors-end
-part-actors-end c = search needs
 
 pattern-of-requires : tie.Need-pattern-of-requires
 pattern-of-requires c κs = c .before .before .before .before .before .before .before .before .before .pre .asked
@@ -51,9 +24,6 @@ add-pattern-requires c κs =
       few-actors = simp (length-take, length-drop) (omega (arith, given .few-actors, given .room, given .low));
       fits = c .before .pattern-of .ensures .words _ (given .short);
     }
-
-same-length : tie.Need-same-length
-same-length c = search needs
 
 returns : tie.Need-returns
 returns c =
@@ -71,17 +41,17 @@ pub weave-text-spec : {M : Type 1} → statement M
 weave-text-spec =
     tie.close
     (tie.spec
-    mul-at
-    add-at
-    mul-actor-count
-    shared-slice-read-actor-count
+    (λ c. search needs)
+    (λ c. search needs)
+    (λ c. search needs)
+    (λ c. search needs)
     cast-actor-count
-    add-actors
-    mul-actors
-    sub-actors
-    part-actors-start
-    part-actors-end
+    (λ c. search needs)
+    (λ c. search needs)
+    (λ c. search needs)
+    (λ c. search needs)
+    (λ c. search needs)
     pattern-of-requires
     add-pattern-requires
-    same-length
+    (λ c. search needs)
     returns)

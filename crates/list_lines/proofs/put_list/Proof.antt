@@ -7,15 +7,6 @@ use borrow.Author.Needs.{needs}
 use Rattle.list_lines.proofs.put_list.Statement.{statement}
 use Rattle.list_lines.proofs.put_list.Tie as tie
 
-put-header-requires : tie.Need-put-header-requires
-put-header-requires c κs = search needs
-
-put-rows-requires : tie.Need-put-rows-requires
-put-rows-requires c κs = search needs
-
-same-length : tie.Need-same-length
-same-length c = search needs
-
 returns : tie.Need-returns
 returns c =
     let a = c .before .before .before .before .before .before .before .before .before .before .before .before .args in
@@ -23,4 +14,4 @@ returns c =
     (puts-then (c .before .before .before .before .before .before .put-header .ensures) (c .before .before .put-rows .ensures))
 
 pub put-list-spec : {M : Type 1} → statement M
-put-list-spec = tie.close (tie.spec put-header-requires put-rows-requires same-length returns)
+put-list-spec = tie.close (tie.spec (λ c κs. search needs) (λ c κs. search needs) (λ c. search needs) returns)

@@ -11,9 +11,6 @@ use Rattle.list_lines.proofs.PrintingLaws.{names-more, no-names}
 use borrow.Author.Needs.{needs}
 use Rattle.list_lines.proofs.put_names.Statement.{statement}
 use Rattle.list_lines.proofs.put_names.Tie as tie
-use Rattle.list_lines.proofs.put_names.Reads as reads
-use Rattle.list_lines.proofs.put_names.Lts as lts
-use Rattle.list_lines.proofs.put_node.Reads as put-node-reads
 
 abbrev Inv-loop : tie.InvT-loop
 Inv-loop book words counts row out₀ at next₀ i₀ out next i = (i ≤ length row) × Puts out₀ at (namesText (nodeNames (bookAt book words counts)) row i) out next
@@ -24,20 +21,8 @@ abbrev μ-loop : tie.MeasureT-loop
 loop-holds : tie.Need-loop-holds Inv-loop μ-loop
 loop-holds c = let a = c .before .before .before .before .args in (omega arith, no-names (nodeNames (bookAt (a .book .now) (a .words .now) (a .counts))) (a .row .now) (a .out .now) (a .at))
 
-mul-put-node : tie.Need-mul-put-node Inv-loop μ-loop
-mul-put-node c = search needs
-
-shared-slice-read-put-node : tie.Need-shared-slice-read-put-node Inv-loop μ-loop
-shared-slice-read-put-node c = search needs
-
 cast-put-node : tie.Need-cast-put-node Inv-loop μ-loop
 cast-put-node c = omega (arith, c .shared-slice-known4 .given (c .before .before .loop .i))
-
-put-node-requires : tie.Need-put-node-requires Inv-loop μ-loop
-put-node-requires c κs = search needs
-
-add-i : tie.Need-add-i Inv-loop μ-loop
-add-i c = search needs
 
 loop-less : tie.Need-loop-less Inv-loop μ-loop
 loop-less c = omega arith
@@ -58,11 +43,11 @@ put-names-spec =
     Inv-loop
     μ-loop
     loop-holds
-    mul-put-node
-    shared-slice-read-put-node
+    (λ c. search needs)
+    (λ c. search needs)
     cast-put-node
-    put-node-requires
-    add-i
+    (λ c κs. search needs)
+    (λ c. search needs)
     loop-less
     loop-again
     same-length

@@ -4,22 +4,6 @@ use Rattle.list_lines.proofs.PrintingLaws.{no-name}
 use borrow.Author.Needs.{needs}
 use Rattle.list_lines.proofs.put_node.Statement.{statement}
 use Rattle.list_lines.proofs.put_node.Tie as tie
-use Rattle.list_lines.proofs.put_node.Reads as reads
-use Rattle.list_lines.proofs.put_node.Lts as lts
-use Rattle.book_lookup.proofs.names.node_name.Reads as node-name-reads
-use Rattle.putting.proofs.bytes.put_bytes.Reads as put-bytes-reads
-
-slice-aggregate-put-bytes : tie.Need-slice-aggregate-put-bytes
-slice-aggregate-put-bytes c = search needs
-
-put-bytes-requires : tie.Need-put-bytes-requires
-put-bytes-requires c κs = search needs
-
-node-name-requires : tie.Need-node-name-requires
-node-name-requires c κs = search needs
-
-put-bytes-requires-2 : tie.Need-put-bytes-requires-2
-put-bytes-requires-2 c κs = search needs
 
 same-length : tie.Need-same-length
 same-length c = puts-keeps-length (puts-then (c .before .before .before .before .before .before .before .before .before .put-bytes .ensures) (c .before .before .put-bytes2 .ensures))
@@ -28,9 +12,6 @@ returns : tie.Need-returns
 unfolding nameIn
 returns c = let a = c .before .before .before .before .before .before .before .before .before .before .before .before .before .before .before .args in puts-then (c .before .before .before .before .before .before .before .before .before .put-bytes .ensures) (puts-same (c .before .before .before .before .node-name .ensures (a .counts) (c .before .before .before .before .before .if1 .taken)) (c .before .before .put-bytes2 .ensures))
 
-same-length-2 : tie.Need-same-length-2
-same-length-2 c = search needs
-
 returns-2 : tie.Need-returns-2
 returns-2 c = let a = c .before .before .before .before .before .before .before .before .before .before .args in puts-same (no-name (a .book .now) (a .words .now) (a .counts) (a .node) (c .if1 .left)) (c .before .before .before .before .put-bytes .ensures)
 
@@ -38,11 +19,11 @@ pub put-node-spec : {M : Type 1} → statement M
 put-node-spec =
     tie.close
     (tie.spec
-    slice-aggregate-put-bytes
-    put-bytes-requires
-    node-name-requires
-    put-bytes-requires-2
+    (λ c. search needs)
+    (λ c κs. search needs)
+    (λ c κs. search needs)
+    (λ c κs. search needs)
     same-length
     returns
-    same-length-2
+    (λ c. search needs)
     returns-2)

@@ -41,20 +41,11 @@ add-to c = omega (arith, inside c)
 mul-put-row : tie.Need-mul-put-row Inv-loop μ-loop
 mul-put-row c = let h = inside c in search needs
 
-sub-put-row : tie.Need-sub-put-row Inv-loop μ-loop
-sub-put-row c = search needs
-
-part-put-row-start : tie.Need-part-put-row-start Inv-loop μ-loop
-part-put-row-start c = search needs
-
 part-put-row-end : tie.Need-part-put-row-end Inv-loop μ-loop
 part-put-row-end c = let h = inside c in search needs
 
 put-row-requires : tie.Need-put-row-requires Inv-loop μ-loop
 put-row-requires c κs = c .before .before .before .before .before .before .before .before .pre .0
-
-add-i : tie.Need-add-i Inv-loop μ-loop
-add-i c = search needs
 
 loop-less : tie.Need-loop-less Inv-loop μ-loop
 loop-less c = omega arith
@@ -89,11 +80,11 @@ put-rows-spec =
     loop-holds
     add-to
     mul-put-row
-    sub-put-row
-    part-put-row-start
+    (λ c. search needs)
+    (λ c. search needs)
     part-put-row-end
     put-row-requires
-    add-i
+    (λ c. search needs)
     loop-less
     loop-again
     same-length

@@ -4,12 +4,6 @@ use borrow.Author.Needs.{needs}
 use Rattle.prepare.proofs.after_book.Statement.{statement}
 use Rattle.prepare.proofs.after_book.Tie as tie
 
-rules-requires : tie.Need-rules-requires
-rules-requires c κs = search needs
-
-enum-known-sizes : tie.Need-enum-known-sizes
-enum-known-sizes c = search needs
-
 after-rules-requires : tie.Need-after-rules-requires
 after-rules-requires c κs =
     let s = c .before .before .before .before .before .before .before .before .before .before .before .before in
@@ -23,12 +17,6 @@ returns c =
     let l = c .before .before .before .before .before .before .rules in
     rules-read _ _ _ _ _ _ _ _ (l .result) (l .ensures) _ (c .before .before .before .before .sizes .given .1) _ (c .after-rules .ensures)
 
-enum-known-refusal : tie.Need-enum-known-refusal
-enum-known-refusal c = search needs
-
-refused-requires : tie.Need-refused-requires
-refused-requires c κs = search needs
-
 returns-2 : tie.Need-returns-2
 returns-2 c =
     let l = c .before .before .before .before .rules in
@@ -38,10 +26,10 @@ pub after-book-spec : {M : Type 1} → statement M
 after-book-spec =
     tie.close
     (tie.spec
-    rules-requires
-    enum-known-sizes
+    (λ c κs. search needs)
+    (λ c. search needs)
     after-rules-requires
     returns
-    enum-known-refusal
-    refused-requires
+    (λ c. search needs)
+    (λ c κs. search needs)
     returns-2)

@@ -4,25 +4,10 @@ use borrow.Author.Needs.{needs}
 use Rattle.prepare.proofs.after_rules.Statement.{statement}
 use Rattle.prepare.proofs.after_rules.Tie as tie
 
-query-requires : tie.Need-query-requires
-query-requires c κs = search needs
-
-enum-known-verdict : tie.Need-enum-known-verdict
-enum-known-verdict c = search needs
-
-refused-requires : tie.Need-refused-requires
-refused-requires c κs = search needs
-
 returns : tie.Need-returns
 returns c =
     let q = c .before .before .before .before .query in
     query-refused _ _ _ _ _ _ _ _ _ (q .result) (q .ensures) _ (c .before .before .verdict .given .1) _ (c .refused .ensures)
-
-enum-told : tie.Need-enum-told
-enum-told c = search needs
-
-request-requires : tie.Need-request-requires
-request-requires c κs = search needs
 
 returns-2 : tie.Need-returns-2
 returns-2 c =
@@ -33,10 +18,10 @@ pub after-rules-spec : {M : Type 1} → statement M
 after-rules-spec =
     tie.close
     (tie.spec
-    query-requires
-    enum-known-verdict
-    refused-requires
+    (λ c κs. search needs)
+    (λ c. search needs)
+    (λ c κs. search needs)
     returns
-    enum-told
-    request-requires
+    (λ c. search needs)
+    (λ c κs. search needs)
     returns-2)

@@ -6,15 +6,9 @@ use borrow.Author.Needs.{needs}
 use Rattle.prepare.proofs.clear.Statement.{statement}
 use Rattle.prepare.proofs.clear.Tie as tie
 
-fill-requires : tie.Need-fill-requires
-fill-requires c κs = search needs
-
-same-length : tie.Need-same-length
-same-length c = search needs
-
 returns : tie.Need-returns
 unfolding ones
 returns c = c .before .before .fill .ensures ∙ filled-whole (c .before .before .before .before .before .args .work .now)
 
 pub clear-spec : {M : Type 1} → statement M
-clear-spec = tie.close (tie.spec fill-requires same-length returns)
+clear-spec = tie.close (tie.spec (λ c κs. search needs) (λ c. search needs) returns)

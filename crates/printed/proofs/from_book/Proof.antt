@@ -8,35 +8,11 @@ use borrow.Author.Needs.{needs}
 use Rattle.printed.proofs.from_book.Statement.{statement}
 use Rattle.printed.proofs.from_book.Tie as tie
 
-slice-aggregate-list : tie.Need-slice-aggregate-list
-slice-aggregate-list c = search needs
-
-slice-aggregate-list-2 : tie.Need-slice-aggregate-list-2
-slice-aggregate-list-2 c = search needs
-
-list-requires : tie.Need-list-requires
-list-requires c κs = search needs
-
-enum-known-refusal : tie.Need-enum-known-refusal
-enum-known-refusal c = search needs
-
-put-refusal-requires : tie.Need-put-refusal-requires
-put-refusal-requires c κs = search needs
-
-same-length : tie.Need-same-length
-same-length c = search needs
-
 returns : tie.Need-returns
 returns c =
     let a = c .before .before .before .before .before .before .before .before .before .before .before .before .before .before .before .before .before .before .args in
     let l = c .before .before .before .before .before .before .before .before .before .list in
     list-refusal-printed (a .book .now) (a .rules .now) (a .query .now) (a .request .now) (l .result) _ (c .before .before .before .before .before .refusal .given .1) (l .ensures .answer) (c .before .before .put-refusal .ensures)
-
-enum-known-count : tie.Need-enum-known-count
-enum-known-count c = search needs
-
-slice-aggregate-put-list : tie.Need-slice-aggregate-put-list
-slice-aggregate-put-list c = search needs
 
 put-list-requires : tie.Need-put-list-requires
 put-list-requires c κs =
@@ -46,9 +22,6 @@ put-list-requires c κs =
     let shown = list-shown (a .book .now) (a .rules .now) (a .query .now) (a .request .now) (l .result) _ _ (c .before .before .before .count .given .1) (l .ensures .answer) _ (l .ensures .rows-left) _ (s .pre .1) in
     let long : length (l .last .1 .1 .1 .1 .0) ≡ 16384 = l .kept .1 .1 .1 .1 .0 in
     (s .pre .0, omega (arith, shown .fits))
-
-same-length-2 : tie.Need-same-length-2
-same-length-2 c = search needs
 
 returns-2 : tie.Need-returns-2
 returns-2 c =
@@ -63,15 +36,15 @@ pub from-book-spec : {M : Type 1} → statement M
 from-book-spec =
     tie.close
     (tie.spec
-    slice-aggregate-list
-    slice-aggregate-list-2
-    list-requires
-    enum-known-refusal
-    put-refusal-requires
-    same-length
+    (λ c. search needs)
+    (λ c. search needs)
+    (λ c κs. search needs)
+    (λ c. search needs)
+    (λ c κs. search needs)
+    (λ c. search needs)
     returns
-    enum-known-count
-    slice-aggregate-put-list
+    (λ c. search needs)
+    (λ c. search needs)
     put-list-requires
-    same-length-2
+    (λ c. search needs)
     returns-2)

@@ -5,26 +5,8 @@ use borrow.Author.Needs.{needs}
 use Rattle.query_writer.proofs.put_query.Statement.{statement}
 use Rattle.query_writer.proofs.put_query.Tie as tie
 
-put-vertices-requires : tie.Need-put-vertices-requires
-put-vertices-requires c κs = search needs
-
-put-edges-requires : tie.Need-put-edges-requires
-put-edges-requires c κs = search needs
-
-put-conditions-requires : tie.Need-put-conditions-requires
-put-conditions-requires c κs = search needs
-
-slice-aggregate-put-bytes : tie.Need-slice-aggregate-put-bytes
-slice-aggregate-put-bytes c = search needs
-
-put-bytes-requires : tie.Need-put-bytes-requires
-put-bytes-requires c κs = search needs
-
 put-returns-requires : tie.Need-put-returns-requires
 put-returns-requires c κs = c .before .before .before .before .before .before .before .before .before .before .before .before .before .before .before .before .before .before .before .before .before .before .before .before .before .before .before .pre .0 .returns
-
-same-length : tie.Need-same-length
-same-length c = search needs
 
 returns : tie.Need-returns
 unfolding patternText
@@ -34,11 +16,11 @@ pub put-query-spec : {M : Type 1} → statement M
 put-query-spec =
     tie.close
     (tie.spec
-    put-vertices-requires
-    put-edges-requires
-    put-conditions-requires
-    slice-aggregate-put-bytes
-    put-bytes-requires
+    (λ c κs. search needs)
+    (λ c κs. search needs)
+    (λ c κs. search needs)
+    (λ c. search needs)
+    (λ c κs. search needs)
     put-returns-requires
-    same-length
+    (λ c. search needs)
     returns)

@@ -21,20 +21,8 @@ text-is s =
     pattern-written (s .args .book .now) (s .args .words .now) (s .args .counts) (s .args .query .now) (s .args .pattern) (s .pre)
     (sym (length-map (s .args .pattern .vertices) _) ∙ s .good .1 .1 .1 .1 .0 .1 .1 .0 .1 .0 .1)
 
-slice-relend-prefix-put-query : tie.Need-slice-relend-prefix-put-query
-slice-relend-prefix-put-query c = search needs
-
-slice-aggregate-put-query : tie.Need-slice-aggregate-put-query
-slice-aggregate-put-query c = search needs
-
 put-query-requires : tie.Need-put-query-requires
 put-query-requires c κs = let s = c .before .before .before .before .before in (inside-arrays (s .pre), tables-inside (s .pre))
-
-too-long-requires : tie.Need-too-long-requires
-too-long-requires c κs = search needs
-
-same-length : tie.Need-same-length
-same-length c = search needs
 
 returns : tie.Need-returns
 returns c =
@@ -44,9 +32,6 @@ returns c =
 
 put-query-requires-2 : tie.Need-put-query-requires-2
 put-query-requires-2 c κs = let s = c .before .before .before .before .before .before .before .before .before .before .before in (inside-arrays (s .pre), tables-inside (s .pre))
-
-same-length-2 : tie.Need-same-length-2
-same-length-2 c = search needs
 
 returns-2 : tie.Need-returns-2
 returns-2 c =
@@ -59,12 +44,12 @@ pub write-query-spec : {M : Type 1} → statement M
 write-query-spec =
     tie.close
     (tie.spec
-    slice-relend-prefix-put-query
-    slice-aggregate-put-query
+    (λ c. search needs)
+    (λ c. search needs)
     put-query-requires
-    too-long-requires
-    same-length
+    (λ c κs. search needs)
+    (λ c. search needs)
     returns
     put-query-requires-2
-    same-length-2
+    (λ c. search needs)
     returns-2)

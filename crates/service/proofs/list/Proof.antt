@@ -6,43 +6,13 @@ use borrow.Author.Needs.{needs}
 use Rattle.service.proofs.list.Statement.{statement}
 use Rattle.service.proofs.list.Tie as tie
 
-prepare-requires : tie.Need-prepare-requires
-prepare-requires c κs = search needs
-
-enum-known-verdict : tie.Need-enum-known-verdict
-enum-known-verdict c = search needs
-
-clear-requires : tie.Need-clear-requires
-clear-requires c κs = search needs
-
-refuse-requires : tie.Need-refuse-requires
-refuse-requires c κs = search needs
-
-same-length : tie.Need-same-length
-same-length c = search needs
-
-same-length-2 : tie.Need-same-length-2
-same-length-2 c = search needs
-
 returns : tie.Need-returns
 returns c =
     let a = c .before .before .before .before .before .before .before .before .before .before .before .before .before .before .before .before .before .before .before .before .before .before .before .args in
     list-refused _ _ _ _ (a .rows .now) (a .work .now) _ _ _ _ _ (c .before .before .before .before .before .before .before .before .before .before .before .before .before .before .prepare .ensures) (cleared-all (c .before .before .before .before .before .before .before .before .before .before .before .before .before .before .before .before .before .before .before .before .before .before .before .args .work .now) _ _ (c .before .before .before .before .before .before .clear .ensures) (search needs)) _ (c .before .before .before .before .before .before .before .before .before .verdict .given .1) _ (c .before .before .refuse .ensures)
 
-enum-told : tie.Need-enum-told
-enum-told c = search needs
-
 from-texts-requires : tie.Need-from-texts-requires
 from-texts-requires c κs = asked-ready _ _ _ _ _ _ _ _ (c .before .before .before .before .before .before .before .before .prepare .ensures) (c .before .before .before .enum-told .given .1)
-
-clear-requires-2 : tie.Need-clear-requires-2
-clear-requires-2 c κs = search needs
-
-same-length-3 : tie.Need-same-length-3
-same-length-3 c = search needs
-
-same-length-4 : tie.Need-same-length-4
-same-length-4 c = search needs
 
 returns-2 : tie.Need-returns-2
 returns-2 c =
@@ -53,16 +23,16 @@ pub list-spec : {M : Type 1} → statement M
 list-spec =
     tie.close
     (tie.spec
-    prepare-requires
-    enum-known-verdict
-    clear-requires
-    refuse-requires
-    same-length
-    same-length-2
+    (λ c κs. search needs)
+    (λ c. search needs)
+    (λ c κs. search needs)
+    (λ c κs. search needs)
+    (λ c. search needs)
+    (λ c. search needs)
     returns
-    enum-told
+    (λ c. search needs)
     from-texts-requires
-    clear-requires-2
-    same-length-3
-    same-length-4
+    (λ c κs. search needs)
+    (λ c. search needs)
+    (λ c. search needs)
     returns-2)

@@ -5,43 +5,13 @@ use borrow.Author.Needs.{needs}
 use Rattle.service.proofs.read_query.Statement.{statement}
 use Rattle.service.proofs.read_query.Tie as tie
 
-slice-aggregate-prepare : tie.Need-slice-aggregate-prepare
-slice-aggregate-prepare c = search needs
-
-slice-aggregate-prepare-2 : tie.Need-slice-aggregate-prepare-2
-slice-aggregate-prepare-2 c = search needs
-
-prepare-requires : tie.Need-prepare-requires
-prepare-requires c κs = search needs
-
-enum-told : tie.Need-enum-told
-enum-told c = search needs
-
-clear-requires : tie.Need-clear-requires
-clear-requires c κs = search needs
-
-empty-requires : tie.Need-empty-requires
-empty-requires c κs = search needs
-
-same-length : tie.Need-same-length
-same-length c = search needs
-
 returns : tie.Need-returns
 returns c =
     let w = query-refused _ _ _ _ _ _ _ _ (c .before .before .before .before .before .before .before .before .before .before .prepare .ensures) _ (c .before .before .before .before .before .enum-told .given .1) _ (c .empty .ensures) in
     (w .0, (w .1, cleared-all (c .before .before .before .before .before .before .before .before .before .before .before .before .before .before .before .before .before .before .args .work .now) _ _ (c .before .before .before .clear .ensures) (search needs)))
 
-enum-told-2 : tie.Need-enum-told-2
-enum-told-2 c = search needs
-
 pattern-of-requires : tie.Need-pattern-of-requires
 pattern-of-requires c κs = query-asked _ _ _ _ _ _ _ _ (c .before .before .before .before .before .before .before .prepare .ensures) (c .before .before .enum-told2 .given .1)
-
-clear-requires-2 : tie.Need-clear-requires-2
-clear-requires-2 c κs = search needs
-
-same-length-2 : tie.Need-same-length-2
-same-length-2 c = search needs
 
 returns-2 : tie.Need-returns-2
 returns-2 c =
@@ -52,16 +22,16 @@ pub read-query-spec : {M : Type 1} → statement M
 read-query-spec =
     tie.close
     (tie.spec
-    slice-aggregate-prepare
-    slice-aggregate-prepare-2
-    prepare-requires
-    enum-told
-    clear-requires
-    empty-requires
-    same-length
+    (λ c. search needs)
+    (λ c. search needs)
+    (λ c κs. search needs)
+    (λ c. search needs)
+    (λ c κs. search needs)
+    (λ c κs. search needs)
+    (λ c. search needs)
     returns
-    enum-told-2
+    (λ c. search needs)
     pattern-of-requires
-    clear-requires-2
-    same-length-2
+    (λ c κs. search needs)
+    (λ c. search needs)
     returns-2)

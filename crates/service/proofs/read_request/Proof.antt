@@ -5,18 +5,6 @@ use borrow.Author.Needs.{needs}
 use Rattle.service.proofs.read_request.Statement.{statement}
 use Rattle.service.proofs.read_request.Tie as tie
 
-slice-aggregate-prepare : tie.Need-slice-aggregate-prepare
-slice-aggregate-prepare c = search needs
-
-prepare-requires : tie.Need-prepare-requires
-prepare-requires c κs = search needs
-
-clear-requires : tie.Need-clear-requires
-clear-requires c κs = search needs
-
-same-length : tie.Need-same-length
-same-length c = search needs
-
 returns : tie.Need-returns
 returns c =
     let w = request-answered _ _ _ _ _ _ _ _ (c .before .before .before .before .before .before .before .prepare .ensures) in
@@ -24,4 +12,4 @@ returns c =
 
 pub read-request-spec : {M : Type 1} → statement M
 read-request-spec =
-    tie.close (tie.spec slice-aggregate-prepare prepare-requires clear-requires same-length returns)
+    tie.close (tie.spec (λ c. search needs) (λ c κs. search needs) (λ c κs. search needs) (λ c. search needs) returns)

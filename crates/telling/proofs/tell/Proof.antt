@@ -5,19 +5,13 @@ use borrow.Author.Needs.{needs}
 use Rattle.telling.proofs.tell.Statement.{statement}
 use Rattle.telling.proofs.tell.Tie as tie
 
-enum-told : tie.Need-enum-told
-enum-told c = search needs
-
 returns : tie.Need-returns
 unfolding accepting ofRefusal
 returns c = tells _ _ (c .enum-told .given .1)
-
-enum-known-verdict : tie.Need-enum-known-verdict
-enum-known-verdict c = search needs
 
 returns-2 : tie.Need-returns-2
 unfolding accepting ofRefusal
 returns-2 c = tells _ _ (c .before .verdict .given .1)
 
 pub tell-spec : {M : Type 1} → statement M
-tell-spec = tie.close (tie.spec enum-told returns enum-known-verdict returns-2)
+tell-spec = tie.close (tie.spec (λ c. search needs) returns (λ c. search needs) returns-2)

@@ -8,34 +8,13 @@ use borrow.Author.Needs.{needs}
 use Rattle.weave.proofs.add_pattern.Statement.{statement}
 use Rattle.weave.proofs.add_pattern.Tie as tie
 
-add-vertices-requires : tie.Need-add-vertices-requires
-add-vertices-requires c κs = search needs
-
-same-length : tie.Need-same-length
-same-length c = search needs
-
 returns : tie.Need-returns
 returns c =
     let a = c .before .before .before .before .before .before .before .before .before .before .before .before .args in
     passed-by-vertices (a .query .now) (a .rules .now) (actorsAt (a .rules .now) (a .actors .now) (a .actor-count)) (a .k) (a .base) (a .pattern) (a .words .now) (a .counts) (c .before .before .before .before .add-vertices .ensures .passed (c .if1 .taken))
 
-count-exclusions-requires : tie.Need-count-exclusions-requires
-count-exclusions-requires c κs = search needs
-
-add-edge-sum : tie.Need-add-edge-sum
-add-edge-sum c = search needs
-
-add-exclusion-sum : tie.Need-add-exclusion-sum
-add-exclusion-sum c = search needs
-
-sub-requirement-sum : tie.Need-sub-requirement-sum
-sub-requirement-sum c = search needs
-
 add-requirement-sum : tie.Need-add-requirement-sum
 add-requirement-sum c = omega (arith, c .before .before .before .before .before .before .before .before .before .before .before .before .before .before .before .before .before .before .before .pre .kept .requirements, c .before .before .before .before .before .before .before .before .before .before .before .before .before .before .before .before .before .before .before .pre .fits .few-clauses, c .before .before .before .before .before .count-exclusions .ensures .some)
-
-same-length-2 : tie.Need-same-length-2
-same-length-2 c = search needs
 
 returns-2 : tie.Need-returns-2
 returns-2 c =
@@ -43,16 +22,10 @@ returns-2 c =
     passed-by-edges (a .query .now) (a .rules .now) (actorsAt (a .rules .now) (a .actors .now) (a .actor-count)) (a .k) (a .base) (a .pattern) (a .words .now) (a .counts)
     (sym (length-map _ (a .pattern .edges)) ∙ c .before .before .before .before .before .before .before .before .before .before .before .before .before .before .before .before .before .before .before .before .good .1 .1 .1 .1 .1 .1 .0 .1 .1 .1 .0 .1 .0 .1) (c .before .before .before .before .before .before .before .before .before .before .before .before .before .before .before .before .before .before .before .before .pre .fits .few-edges) (c .if2 .taken)
 
-same-length-3 : tie.Need-same-length-3
-same-length-3 c = search needs
-
 returns-3 : tie.Need-returns-3
 returns-3 c =
     let a = c .before .before .before .before .before .before .before .before .before .before .before .before .before .before .before .before .before .before .before .before .before .args in
     passed-by-exclusions (a .query .now) (a .rules .now) (actorsAt (a .rules .now) (a .actors .now) (a .actor-count)) (a .k) (a .base) (a .pattern) (a .words .now) (a .counts) (c .before .before .before .before .before .before .before .count-exclusions .result) (c .before .before .before .before .before .before .before .count-exclusions .ensures) (c .before .before .before .before .before .before .before .before .before .before .before .before .before .before .before .before .before .before .before .before .before .pre .kept) (c .if3 .taken)
-
-same-length-4 : tie.Need-same-length-4
-same-length-4 c = search needs
 
 returns-4 : tie.Need-returns-4
 returns-4 c =
@@ -73,9 +46,6 @@ add-rest-requires c κs =
       omega (arith, c .before .before .before .before .before .before .before .before .before .before .before .before .before .before .before .before .before .before .before .before .before .before .before .before .pre .kept .room, c .before .before .before .before .before .before .before .before .before .before .before .before .before .before .before .before .add-vertices .kept .1 .1 .1 .1 .1 .1 .1 .1 .0),
     )
 
-same-length-5 : tie.Need-same-length-5
-same-length-5 c = search needs
-
 returns-5 : tie.Need-returns-5
 returns-5 c =
     let a = c .before .before .before .before .before .before .before .before .before .before .before .before .before .before .before .before .before .before .before .before .before .before .before .before .before .before .before .args in
@@ -87,20 +57,20 @@ pub add-pattern-spec : {M : Type 1} → statement M
 add-pattern-spec =
     tie.close
     (tie.spec
-    add-vertices-requires
-    same-length
+    (λ c κs. search needs)
+    (λ c. search needs)
     returns
-    count-exclusions-requires
-    add-edge-sum
-    add-exclusion-sum
-    sub-requirement-sum
+    (λ c κs. search needs)
+    (λ c. search needs)
+    (λ c. search needs)
+    (λ c. search needs)
     add-requirement-sum
-    same-length-2
+    (λ c. search needs)
     returns-2
-    same-length-3
+    (λ c. search needs)
     returns-3
-    same-length-4
+    (λ c. search needs)
     returns-4
     add-rest-requires
-    same-length-5
+    (λ c. search needs)
     returns-5)

@@ -6,9 +6,6 @@ use borrow.Author.Needs.{needs}
 use Rattle.weave.proofs.finish.Statement.{statement}
 use Rattle.weave.proofs.finish.Tie as tie
 
-give-identities-requires : tie.Need-give-identities-requires
-give-identities-requires c κs = search needs
-
 tied-requires : tie.Need-tied-requires
 tied-requires c κs =
     let a = c .before .before .before .before .before .before .before .before .before .args in (
@@ -18,12 +15,6 @@ tied-requires c κs =
       low-stays (a .query .now) (a .rules .now) (identitiesIn (a .request .now) (a .identities) (a .count)) (a .words .now) (c .before .before .before .give-identities .last .1 .1 .1 .1 .1 .0) (a .counts) (c .before .before .before .give-identities .result) (c .before .before .before .before .before .before .before .before .before .pre .kept) (c .before .before .before .give-identities .ensures) (c .before .before .before .before .before .before .before .before .before .pre .low),
     )
 
-all-marked-requires : tie.Need-all-marked-requires
-all-marked-requires c κs = search needs
-
-same-length : tie.Need-same-length
-same-length c = search needs
-
 returns : tie.Need-returns
 returns c =
     let a = c .before .before .before .before .before .before .before .before .before .before .before .args in
@@ -32,4 +23,4 @@ returns c =
 pub finish-spec : {M : Type 1} → statement M
 finish-spec =
     tie.close
-    (tie.spec give-identities-requires tied-requires all-marked-requires same-length returns)
+    (tie.spec (λ c κs. search needs) tied-requires (λ c κs. search needs) (λ c. search needs) returns)

@@ -7,15 +7,6 @@ use Rattle.answer_words.proofs.conditions.condition_word.Tie as tie
 returns : tie.Need-returns
 returns c = past-rows 7 _ _ _ (c .if1 .taken)
 
-clause-row-requires : tie.Need-clause-row-requires
-clause-row-requires c κs = search needs
-
-mul-result : tie.Need-mul-result
-mul-result c = search needs
-
-array-read-result : tie.Need-array-read-result
-array-read-result c = search needs
-
 returns-2 : tie.Need-returns-2
 returns-2 c = in-row 7 _ _ _ _ (c .before .if1 .left) (c .clause-row .ensures)
 
@@ -24,7 +15,7 @@ condition-word-spec =
     tie.close
     (tie.spec
     returns
-    clause-row-requires
-    mul-result
-    array-read-result
+    (λ c κs. search needs)
+    (λ c. search needs)
+    (λ c. search needs)
     returns-2)

@@ -6,22 +6,13 @@ use borrow.Author.Needs.{needs}
 use Rattle.answer_words.proofs.conditions.value_row.Statement.{statement}
 use Rattle.answer_words.proofs.conditions.value_row.Tie as tie
 
-enum-known-value : tie.Need-enum-known-value
-enum-known-value c = search needs
-
 returns : tie.Need-returns
 unfolding valueRow
 returns c = sym (ap valueRow (c .before .value .given .1))
 
-enum-known-value-2 : tie.Need-enum-known-value-2
-enum-known-value-2 c = search needs
-
 returns-2 : tie.Need-returns-2
 unfolding valueRow
 returns-2 c = sym (ap valueRow (c .before .value2 .given .1))
-
-enum-known-value-3 : tie.Need-enum-known-value-3
-enum-known-value-3 c = search needs
 
 returns-3 : tie.Need-returns-3
 returns-3 c = row-of-true _ _ (c .before .before .value3 .given .1) (c .if1 .taken)
@@ -33,10 +24,10 @@ pub value-row-spec : {M : Type 1} → statement M
 value-row-spec =
     tie.close
     (tie.spec
-    enum-known-value
+    (λ c. search needs)
     returns
-    enum-known-value-2
+    (λ c. search needs)
     returns-2
-    enum-known-value-3
+    (λ c. search needs)
     returns-3
     returns-4)

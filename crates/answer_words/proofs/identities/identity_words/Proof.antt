@@ -17,24 +17,6 @@ abbrev μ-loop : tie.MeasureT-loop
 loop-holds : tie.Need-loop-holds Inv-loop μ-loop
 loop-holds c = put-start _ _ _ refl
 
-mul-identity-word : tie.Need-mul-identity-word Inv-loop μ-loop
-mul-identity-word c = search needs
-
-array-copy-out-identity-word : tie.Need-array-copy-out-identity-word Inv-loop μ-loop
-array-copy-out-identity-word c = search needs
-
-identity-word-requires : tie.Need-identity-word-requires Inv-loop μ-loop
-identity-word-requires c κs = search needs
-
-mul-words : tie.Need-mul-words Inv-loop μ-loop
-mul-words c = search needs
-
-array-write-words : tie.Need-array-write-words Inv-loop μ-loop
-array-write-words c = search needs
-
-add-k : tie.Need-add-k Inv-loop μ-loop
-add-k c = search needs
-
 loop-less : tie.Need-loop-less Inv-loop μ-loop
 loop-less c = omega arith
 
@@ -53,12 +35,12 @@ identity-words-spec =
     Inv-loop
     μ-loop
     loop-holds
-    mul-identity-word
-    array-copy-out-identity-word
-    identity-word-requires
-    mul-words
-    array-write-words
-    add-k
+    (λ c. search needs)
+    (λ c. search needs)
+    (λ c κs. search needs)
+    (λ c. search needs)
+    (λ c. search needs)
+    (λ c. search needs)
     loop-less
     loop-again
     returns)

@@ -7,14 +7,8 @@ use Rattle.answer_words.proofs.patterns.return_word.Tie as tie
 returns : tie.Need-returns
 returns c = past-returns (c .before .args .t1) _ _ (c .if1 .taken)
 
-mul-result : tie.Need-mul-result
-mul-result c = search needs
-
-array-read-result : tie.Need-array-read-result
-array-read-result c = search needs
-
 returns-2 : tie.Need-returns-2
 returns-2 c = in-returns (c .before .args .t1) _ _ (c .if1 .left)
 
 pub return-word-spec : {M : Type 1} → statement M
-return-word-spec = tie.close (tie.spec returns mul-result array-read-result returns-2)
+return-word-spec = tie.close (tie.spec returns (λ c. search needs) (λ c. search needs) returns-2)

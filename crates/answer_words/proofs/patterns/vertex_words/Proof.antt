@@ -17,24 +17,6 @@ abbrev μ-loop : tie.MeasureT-loop
 loop-holds : tie.Need-loop-holds Inv-loop μ-loop
 loop-holds c = put-start _ _ _ refl
 
-mul-vertex-word : tie.Need-mul-vertex-word Inv-loop μ-loop
-mul-vertex-word c = search needs
-
-array-copy-out-vertex-word : tie.Need-array-copy-out-vertex-word Inv-loop μ-loop
-array-copy-out-vertex-word c = search needs
-
-vertex-word-requires : tie.Need-vertex-word-requires Inv-loop μ-loop
-vertex-word-requires c κs = search needs
-
-mul-words : tie.Need-mul-words Inv-loop μ-loop
-mul-words c = search needs
-
-array-write-words : tie.Need-array-write-words Inv-loop μ-loop
-array-write-words c = search needs
-
-add-k : tie.Need-add-k Inv-loop μ-loop
-add-k c = search needs
-
 loop-less : tie.Need-loop-less Inv-loop μ-loop
 loop-less c = omega arith
 
@@ -53,12 +35,12 @@ vertex-words-spec =
     Inv-loop
     μ-loop
     loop-holds
-    mul-vertex-word
-    array-copy-out-vertex-word
-    vertex-word-requires
-    mul-words
-    array-write-words
-    add-k
+    (λ c. search needs)
+    (λ c. search needs)
+    (λ c κs. search needs)
+    (λ c. search needs)
+    (λ c. search needs)
+    (λ c. search needs)
     loop-less
     loop-again
     returns)

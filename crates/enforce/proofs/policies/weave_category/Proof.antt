@@ -10,32 +10,11 @@ use borrow.Author.Needs.{needs}
 use Rattle.enforce.proofs.policies.weave_category.Statement.{statement}
 use Rattle.enforce.proofs.policies.weave_category.Tie as tie
 
-mul-lower-set : tie.Need-mul-lower-set
-mul-lower-set c = search needs
-
-add-lower-set : tie.Need-add-lower-set
-add-lower-set c = search needs
-
-add-lower-set-2 : tie.Need-add-lower-set-2
-add-lower-set-2 c = search needs
-
-mul-lower-set-2 : tie.Need-mul-lower-set-2
-mul-lower-set-2 c = search needs
-
-shared-slice-read-lower-set : tie.Need-shared-slice-read-lower-set
-shared-slice-read-lower-set c = search needs
-
-has-requires : tie.Need-has-requires
-has-requires c κs = search needs
-
 returns : tie.Need-returns
 returns c =
     let a = c .before .before .before .before .before .before .before .before .before .args in
     let given = c .before .before .before .before .before .before .before .before .before .pre in
     held-on (a .book .now) (a .words .now) (a .counts) (a .query .now) (a .rules .now) (a .rules-words .now) (a .rules-counts) (a .category) (given .texts) (a .lower) (a .texts) (a .woven .now) (a .shape) (not-enforced (a .query .now) (a .rules .now) (a .rules-words .now) (a .rules-counts) (a .category) (a .lower) (sym (c .before .has .ensures) ∙ not-true _ (c .if1 .taken))) (given .held) (given .many)
-
-policy-place-requires : tie.Need-policy-place-requires
-policy-place-requires c κs = search needs
 
 returns-2 : tie.Need-returns-2
 returns-2 c =
@@ -43,32 +22,8 @@ returns-2 c =
     let given = c .before .before .before .before .before .before .before .before .before .before .before .before .pre in
     held-on (a .book .now) (a .words .now) (a .counts) (a .query .now) (a .rules .now) (a .rules-words .now) (a .rules-counts) (a .category) (given .texts) (a .lower) (a .texts) (a .woven .now) (a .shape) (without-policy (a .query .now) (a .rules .now) (a .rules-words .now) (a .rules-counts) (a .category) (a .lower) (sym (c .before .before .before .before .has .ensures) ∙ not-false _ (c .before .before .before .if1 .left)) (subst (λ z. a .rules-counts .policies ≤ z) (c .before .before .policy-place .ensures) (c .if2 .taken))) (given .held) (given .many)
 
-mul-at : tie.Need-mul-at
-mul-at c = search needs
-
-add-at : tie.Need-add-at
-add-at c = search needs
-
-add-start : tie.Need-add-start
-add-start c = search needs
-
-mul-start : tie.Need-mul-start
-mul-start c = search needs
-
-shared-slice-read-start : tie.Need-shared-slice-read-start
-shared-slice-read-start c = search needs
-
 cast-start : tie.Need-cast-start
 cast-start c = omega (arith, c .shared-slice-known7 .given (448 + 3 * c .before .before .before .policy-place .result + 1))
-
-add-end : tie.Need-add-end
-add-end c = search needs
-
-mul-end : tie.Need-mul-end
-mul-end c = search needs
-
-shared-slice-read-end : tie.Need-shared-slice-read-end
-shared-slice-read-end c = search needs
 
 cast-end : tie.Need-cast-end
 cast-end c = omega (arith, c .shared-slice-known8 .given (448 + 3 * c .before .before .before .before .policy-place .result + 2))
@@ -78,12 +33,6 @@ add-end-2 c =
     let a = c .before .before .before .before .before .before .before .before .before .before .before .before .before .before .args in
     let given = c .before .before .before .before .before .before .before .before .before .before .before .before .before .before .pre in
     omega (arith, given .texts .rules-fit .policies (c .before .before .before .before .policy-place .result) (c .before .before .if2 .left) .inside, rules-short (a .book .now) (a .words .now) (a .counts) (a .query .now) (a .rules .now) (a .rules-words .now) (a .rules-counts) (a .category) (given .texts))
-
-sub-weave-text : tie.Need-sub-weave-text
-sub-weave-text c = search needs
-
-part-weave-text-start : tie.Need-part-weave-text-start
-part-weave-text-start c = search needs
 
 part-weave-text-end : tie.Need-part-weave-text-end
 part-weave-text-end c = omega (arith, c .before .before .before .before .before .before .before .before .before .before .before .before .before .before .pre .texts .rules-fit .policies (c .before .before .before .before .policy-place .result) (c .before .before .if2 .left) .inside)
@@ -96,20 +45,11 @@ weave-text-requires c κs =
     let found = c .before .before .before .before .before .before .policy-place in
     policy-ready (a .book .now) (a .words .now) (a .counts) (a .query .now) (a .rules .now) (a .rules-words .now) (a .rules-counts) (a .category) (given .texts) (a .lower) (given .low) enforced (found .result) (found .ensures) (c .before .before .before .before .if2 .left) (a .texts) (given .many) (a .woven .now) (a .shape) (given .held)
 
-enum-known-added : tie.Need-enum-known-added
-enum-known-added c = search needs
-
 add-t37 : tie.Need-add-t37
 add-t37 c =
     let a = c .before .before .before .before .before .before .before .before .before .before .before .before .before .before .before .before .before .before .before .before .before .before .args in
     let given = c .before .before .before .before .before .before .before .before .before .before .before .before .before .before .before .before .before .before .before .before .before .before .pre in
     omega (arith, given .many, few-texts (a .query .now) (a .rules .now) (a .rules-words .now) (a .rules-counts) (a .category) (a .lower), given .low, given .texts .rules-fit .few)
-
-enum-told : tie.Need-enum-told
-enum-told c = search needs
-
-same-length : tie.Need-same-length
-same-length c = search needs
 
 returns-3 : tie.Need-returns-3
 returns-3 c =
@@ -119,9 +59,6 @@ returns-3 c =
     let found = c .before .before .before .before .before .before .before .before .before .before .before .before .policy-place in
     let w = c .before .before .before .before .before .weave-text in
     policy-held (a .book .now) (a .words .now) (a .counts) (a .query .now) (a .rules .now) (a .rules-words .now) (a .rules-counts) (a .category) (given .texts) (a .lower) (given .low) enforced (found .result) (found .ensures) (c .before .before .before .before .before .before .before .before .before .before .if2 .left) (a .texts) (given .many) (a .woven .now) (a .shape) (given .held) (w .last .1 .1 .1 .1 .1 .1 .1 .1 .0) (w .result) (w .ensures) _ (c .before .added .given .1)
-
-same-length-2 : tie.Need-same-length-2
-same-length-2 c = search needs
 
 returns-4 : tie.Need-returns-4
 returns-4 c =
@@ -136,34 +73,34 @@ pub weave-category-spec : {M : Type 1} → statement M
 weave-category-spec =
     tie.close
     (tie.spec
-    mul-lower-set
-    add-lower-set
-    add-lower-set-2
-    mul-lower-set-2
-    shared-slice-read-lower-set
-    has-requires
+    (λ c. search needs)
+    (λ c. search needs)
+    (λ c. search needs)
+    (λ c. search needs)
+    (λ c. search needs)
+    (λ c κs. search needs)
     returns
-    policy-place-requires
+    (λ c κs. search needs)
     returns-2
-    mul-at
-    add-at
-    add-start
-    mul-start
-    shared-slice-read-start
+    (λ c. search needs)
+    (λ c. search needs)
+    (λ c. search needs)
+    (λ c. search needs)
+    (λ c. search needs)
     cast-start
-    add-end
-    mul-end
-    shared-slice-read-end
+    (λ c. search needs)
+    (λ c. search needs)
+    (λ c. search needs)
     cast-end
     add-end-2
-    sub-weave-text
-    part-weave-text-start
+    (λ c. search needs)
+    (λ c. search needs)
     part-weave-text-end
     weave-text-requires
-    enum-known-added
+    (λ c. search needs)
     add-t37
-    enum-told
-    same-length
+    (λ c. search needs)
+    (λ c. search needs)
     returns-3
-    same-length-2
+    (λ c. search needs)
     returns-4)

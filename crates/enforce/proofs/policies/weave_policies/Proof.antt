@@ -28,12 +28,6 @@ loop-holds c =
 weave-category-requires : tie.Need-weave-category-requires Inv-loop μ-loop
 weave-category-requires c κs = record { texts = c .before .before .before .before .before .before .before .before .before .pre .texts; low = omega arith; many = c .before .before .loop .inv .2; held = c .before .before .loop .inv .1 }
 
-enum-known-step : tie.Need-enum-known-step Inv-loop μ-loop
-enum-known-step c = search needs
-
-enum-told : tie.Need-enum-told Inv-loop μ-loop
-enum-told c = search needs
-
 same-length : tie.Need-same-length Inv-loop μ-loop
 same-length c = c .before .before .before .before .weave-category .kept .1 .1 .1 .1 .1 .1 .1 .1 .1 .1 .0 ∙ c .before .before .before .before .before .before .before .loop .inv .3
 
@@ -41,9 +35,6 @@ returns : tie.Need-returns Inv-loop μ-loop
 returns c =
     let a = c .before .before .before .before .before .before .before .before .before .before .before .before .before .before .args in
     subst (CategoryWoven (bookAt (a .book .now) (a .words .now) (a .counts)) (a .counts) (a .query .now) (a .rules .now) (a .rules-words .now) (a .rules-counts) (a .category) (c .before .before .before .before .before .before .before .loop .lower) (c .before .before .before .before .weave-category .last .1 .1 .1 .1 .1 .1 .1 .1 .1 .1 .0)) (c .enum-told .given .1) (c .before .before .before .before .weave-category .ensures)
-
-add-lower : tie.Need-add-lower Inv-loop μ-loop
-add-lower c = search needs
 
 loop-less : tie.Need-loop-less Inv-loop μ-loop
 loop-less c = omega arith
@@ -69,11 +60,11 @@ weave-policies-spec =
     μ-loop
     loop-holds
     weave-category-requires
-    enum-known-step
-    enum-told
+    (λ c. search needs)
+    (λ c. search needs)
     same-length
     returns
-    add-lower
+    (λ c. search needs)
     loop-less
     loop-again
     same-length-2

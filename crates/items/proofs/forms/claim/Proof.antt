@@ -9,21 +9,6 @@ use borrow.Author.Needs.{needs}
 use Rattle.items.proofs.forms.claim.Statement.{statement}
 use Rattle.items.proofs.forms.claim.Tie as tie
 
-open-list-requires : tie.Need-open-list-requires
-open-list-requires c κs = search needs
-
-enum-known-i : tie.Need-enum-known-i
-enum-known-i c = search needs
-
-next-word-requires : tie.Need-next-word-requires
-next-word-requires c κs = search needs
-
-enum-known-p : tie.Need-enum-known-p
-enum-known-p c = search needs
-
-enum-told : tie.Need-enum-told
-enum-told c = search needs
-
 returns : tie.Need-returns
 unfolding claimHead
 returns c = at-claim (c .before .before .before .before .before .before .before .before .args .depth) (c .before .before .before .before .before .before .before .before .args .s .now) (c .before .before .before .before .before .before .before .before .args .from) (c .before .before .before .before .i .given .0 .0) (sym (c .before .before .before .before .i .given .1) ∙ c .before .before .before .before .before .before .open-list .ensures) _ (sym (c .enum-told .given .1) ∙ c .before .before .next-word .ensures .is)
@@ -37,24 +22,9 @@ part-same-bytes-start c = omega (arith, placed-at _ _ _ (c .before .p .given .1)
 part-same-bytes-end : tie.Need-part-same-bytes-end
 part-same-bytes-end c = omega (arith, placed-at _ _ _ (c .before .p .given .1) (c .before .before .before .next-word .ensures .placed))
 
-slice-aggregate-same-bytes : tie.Need-slice-aggregate-same-bytes
-slice-aggregate-same-bytes c = search needs
-
-same-bytes-requires : tie.Need-same-bytes-requires
-same-bytes-requires c κs = search needs
-
-claim-rest-requires : tie.Need-claim-rest-requires
-claim-rest-requires c κs = search needs
-
 returns-2 : tie.Need-returns-2
 unfolding partOf
 returns-2 c = c .claim-rest .ensures ∙ claim-yes (c .before .before .before .before .before .before .before .before .before .before .before .before .before .before .args .depth) (c .before .before .before .before .before .before .before .before .before .before .before .before .before .before .args .s .now) (c .before .before .before .before .before .before .p .given .0 .0) (c .before .before .before .before .before .before .p .given .0 .1 .0) (sym (c .before .before .same-bytes .ensures) ∙ c .before .if1 .taken) ∙ at-claim (c .before .before .before .before .before .before .before .before .before .before .before .before .before .before .args .depth) (c .before .before .before .before .before .before .before .before .before .before .before .before .before .before .args .s .now) (c .before .before .before .before .before .before .before .before .before .before .before .before .before .before .args .from) (c .before .before .before .before .before .before .before .before .before .before .i .given .0 .0) (sym (c .before .before .before .before .before .before .before .before .before .before .i .given .1) ∙ c .before .before .before .before .before .before .before .before .before .before .before .before .open-list .ensures) _ (sym (c .before .before .before .before .before .before .p .given .1) ∙ c .before .before .before .before .before .before .before .before .next-word .ensures .is)
-
-enum-known-e : tie.Need-enum-known-e
-enum-known-e c = search needs
-
-enum-told-2 : tie.Need-enum-told-2
-enum-told-2 c = search needs
 
 returns-3 : tie.Need-returns-3
 unfolding partOf
@@ -72,21 +42,21 @@ pub claim-spec : {M : Type 1} → statement M
 claim-spec =
     tie.close
     (tie.spec
-    open-list-requires
-    enum-known-i
-    next-word-requires
-    enum-known-p
-    enum-told
+    (λ c κs. search needs)
+    (λ c. search needs)
+    (λ c κs. search needs)
+    (λ c. search needs)
+    (λ c. search needs)
     returns
     sub-same-bytes
     part-same-bytes-start
     part-same-bytes-end
-    slice-aggregate-same-bytes
-    same-bytes-requires
-    claim-rest-requires
+    (λ c. search needs)
+    (λ c κs. search needs)
+    (λ c κs. search needs)
     returns-2
-    enum-known-e
-    enum-told-2
+    (λ c. search needs)
+    (λ c. search needs)
     returns-3
     returns-4
     returns-5)

@@ -8,39 +8,12 @@ use borrow.Author.Needs.{needs}
 use Rattle.items.proofs.forms.claim_rest.Statement.{statement}
 use Rattle.items.proofs.forms.claim_rest.Tie as tie
 
-list-requires : tie.Need-list-requires
-list-requires c κs = search needs
-
-enum-known-next : tie.Need-enum-known-next
-enum-known-next c = search needs
-
-enum-told : tie.Need-enum-told
-enum-told c = search needs
-
 returns : tie.Need-returns
 returns c = claim-nowhere (c .before .before .before .before .args .depth) (c .before .before .before .before .args .s .now) (c .before .before .before .before .args .from) (sym (c .enum-told .given .1) ∙ c .before .before .list .ensures)
-
-next-name-requires : tie.Need-next-name-requires
-next-name-requires c κs = search needs
-
-enum-known-actor-start : tie.Need-enum-known-actor-start
-enum-known-actor-start c = search needs
-
-enum-told-2 : tie.Need-enum-told-2
-enum-told-2 c = search needs
 
 returns-2 : tie.Need-returns-2
 unfolding claimRest claimActor
 returns-2 c = ap (claimActor (c .before .before .before .before .before .before .before .before .args .depth) (c .before .before .before .before .before .before .before .before .args .s .now)) (sym (c .enum-told2 .given .1) ∙ c .before .before .next-name .ensures .is)
-
-next-name-requires-2 : tie.Need-next-name-requires-2
-next-name-requires-2 c κs = search needs
-
-enum-known-node-start : tie.Need-enum-known-node-start
-enum-known-node-start c = search needs
-
-enum-told-3 : tie.Need-enum-told-3
-enum-told-3 c = search needs
 
 returns-3 : tie.Need-returns-3
 unfolding claimNode
@@ -59,17 +32,17 @@ pub claim-rest-spec : {M : Type 1} → statement M
 claim-rest-spec =
     tie.close
     (tie.spec
-    list-requires
-    enum-known-next
-    enum-told
+    (λ c κs. search needs)
+    (λ c. search needs)
+    (λ c. search needs)
     returns
-    next-name-requires
-    enum-known-actor-start
-    enum-told-2
+    (λ c κs. search needs)
+    (λ c. search needs)
+    (λ c. search needs)
     returns-2
-    next-name-requires-2
-    enum-known-node-start
-    enum-told-3
+    (λ c κs. search needs)
+    (λ c. search needs)
+    (λ c. search needs)
     returns-3
     only-closes-requires
     returns-4

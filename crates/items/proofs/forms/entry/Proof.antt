@@ -10,48 +10,12 @@ use borrow.Author.Needs.{needs}
 use Rattle.items.proofs.forms.entry.Statement.{statement}
 use Rattle.items.proofs.forms.entry.Tie as tie
 
-open-list-requires : tie.Need-open-list-requires
-open-list-requires c κs = search needs
-
-enum-known-i : tie.Need-enum-known-i
-enum-known-i c = search needs
-
-list-requires : tie.Need-list-requires
-list-requires c κs = search needs
-
-enum-known-next : tie.Need-enum-known-next
-enum-known-next c = search needs
-
-enum-told : tie.Need-enum-told
-enum-told c = search needs
-
 returns : tie.Need-returns
 returns c = told-entry (entry-nowhere (c .before .before .before .before .before .before .before .before .args .depth) (c .before .before .before .before .before .before .before .before .args .s .now) (c .before .before .before .before .before .before .before .before .args .from) (c .before .before .before .before .i .given .0 .0) (sym (c .before .before .before .before .i .given .1) ∙ c .before .before .before .before .before .before .open-list .ensures) (sym (c .enum-told .given .1) ∙ c .before .before .list .ensures))
-
-next-name-requires : tie.Need-next-name-requires
-next-name-requires c κs = search needs
-
-name-places-requires : tie.Need-name-places-requires
-name-places-requires c κs = search needs
-
-enum-known-start : tie.Need-enum-known-start
-enum-known-start c = search needs
-
-enum-told-2 : tie.Need-enum-told-2
-enum-told-2 c = search needs
 
 returns-2 : tie.Need-returns-2
 unfolding entryNamed
 returns-2 c = told-entry (at-entry (c .before .before .before .before .before .before .before .before .before .before .before .before .before .args .depth) (c .before .before .before .before .before .before .before .before .before .before .before .before .before .args .s .now) (c .before .before .before .before .before .before .before .before .before .before .before .before .before .args .from) (c .before .before .before .before .before .before .before .before .before .i .given .0 .0) (sym (c .before .before .before .before .before .before .before .before .before .i .given .1) ∙ c .before .before .before .before .before .before .before .before .before .before .before .open-list .ensures) _ (sym (c .enum-told2 .given .1) ∙ c .before .before .name-places .ensures ∙ ap namePlaces (c .before .before .before .next-name .ensures)))
-
-next-value-requires : tie.Need-next-value-requires
-next-value-requires c κs = search needs
-
-enum-known-value : tie.Need-enum-known-value
-enum-known-value c = search needs
-
-enum-told-3 : tie.Need-enum-told-3
-enum-told-3 c = search needs
 
 returns-3 : tie.Need-returns-3
 unfolding entryValued
@@ -62,12 +26,6 @@ only-closes-requires c κs = ends-shut (c .before .before .before .before .befor
 
 returns-4 : tie.Need-returns-4
 returns-4 c = told-entry (entry-there (c .before .before .before .before .before .before .before .before .before .before .before .before .before .before .before .before .before .before .before .before .args .depth) (c .before .before .before .before .before .before .before .before .before .before .before .before .before .before .before .before .before .before .before .before .args .s .now) (c .before .before .before .before .before .before .before .before .before .before .before .before .before .before .before .before .before .before .before .before .args .from) (c .before .before .before .before .before .before .before .before .before .before .before .before .before .before .before .before .i .given .0 .0) (sym (c .before .before .before .before .before .before .before .before .before .before .before .before .before .before .before .before .i .given .1) ∙ c .before .before .before .before .before .before .before .before .before .before .before .before .before .before .before .before .before .before .open-list .ensures) _ _ (sym (c .before .before .before .before .before .before .before .start .given .1) ∙ c .before .before .before .before .before .before .before .before .before .name-places .ensures ∙ ap namePlaces (c .before .before .before .before .before .before .before .before .before .before .next-name .ensures)) _ _ (sym (c .before .before .before .value .given .1) ∙ c .before .before .before .before .before .next-value .ensures) (c .before .before .before .before .before .before .before .before .before .before .before .before .next .given .0 .0) (sym (c .before .before .before .before .before .before .before .before .before .before .before .before .next .given .1) ∙ c .before .before .before .before .before .before .before .before .before .before .before .before .before .before .list .ensures) (sym (c .if1 .taken) ∙ c .before .only-closes .ensures))
-
-enum-known-e : tie.Need-enum-known-e
-enum-known-e c = search needs
-
-enum-told-4 : tie.Need-enum-told-4
-enum-told-4 c = search needs
 
 returns-5 : tie.Need-returns-5
 returns-5 c = told-entry (entry-past (c .before .before .before .before .before .before .before .before .before .before .before .before .before .before .before .before .before .before .before .before .args .depth) (c .before .before .before .before .before .before .before .before .before .before .before .before .before .before .before .before .before .before .before .before .args .s .now) (c .before .before .before .before .before .before .before .before .before .before .before .before .before .before .before .before .before .before .before .before .args .from) (c .before .before .before .before .before .before .before .before .before .before .before .before .before .before .before .before .i .given .0 .0) (sym (c .before .before .before .before .before .before .before .before .before .before .before .before .before .before .before .before .i .given .1) ∙ c .before .before .before .before .before .before .before .before .before .before .before .before .before .before .before .before .before .before .open-list .ensures) _ _ (sym (c .before .before .before .before .before .before .before .start .given .1) ∙ c .before .before .before .before .before .before .before .before .before .name-places .ensures ∙ ap namePlaces (c .before .before .before .before .before .before .before .before .before .before .next-name .ensures)) _ _ (sym (c .before .before .before .value .given .1) ∙ c .before .before .before .before .before .next-value .ensures) (c .before .before .before .before .before .before .before .before .before .before .before .before .next .given .0 .0) (sym (c .before .before .before .before .before .before .before .before .before .before .before .before .next .given .1) ∙ c .before .before .before .before .before .before .before .before .before .before .before .before .before .before .list .ensures) (sym (c .if1 .left) ∙ c .before .only-closes .ensures))
@@ -84,25 +42,25 @@ pub entry-spec : {M : Type 1} → statement M
 entry-spec =
     tie.close
     (tie.spec
-    open-list-requires
-    enum-known-i
-    list-requires
-    enum-known-next
-    enum-told
+    (λ c κs. search needs)
+    (λ c. search needs)
+    (λ c κs. search needs)
+    (λ c. search needs)
+    (λ c. search needs)
     returns
-    next-name-requires
-    name-places-requires
-    enum-known-start
-    enum-told-2
+    (λ c κs. search needs)
+    (λ c κs. search needs)
+    (λ c. search needs)
+    (λ c. search needs)
     returns-2
-    next-value-requires
-    enum-known-value
-    enum-told-3
+    (λ c κs. search needs)
+    (λ c. search needs)
+    (λ c. search needs)
     returns-3
     only-closes-requires
     returns-4
-    enum-known-e
-    enum-told-4
+    (λ c. search needs)
+    (λ c. search needs)
     returns-5
     returns-6
     returns-7)

@@ -5,21 +5,9 @@ use borrow.Author.Needs.{needs}
 use Rattle.items.proofs.forms.form_closes.Statement.{statement}
 use Rattle.items.proofs.forms.form_closes.Tie as tie
 
-close-list-requires : tie.Need-close-list-requires
-close-list-requires c κs = search needs
-
-enum-known-e : tie.Need-enum-known-e
-enum-known-e c = search needs
-
-enum-told : tie.Need-enum-told
-enum-told c = search needs
-
 returns : tie.Need-returns
 unfolding formCloses spacesBehind
 returns c = ap (spacesBehind (c .before .before .before .before .args .s .now)) (sym (c .enum-told .given .1) ∙ c .before .before .close-list .ensures)
-
-only-spaces-requires : tie.Need-only-spaces-requires
-only-spaces-requires c κs = search needs
 
 returns-2 : tie.Need-returns-2
 unfolding formCloses spacesBehind
@@ -28,4 +16,4 @@ returns-2 c = c .only-spaces .ensures ∙ ap (spacesBehind (c .before .before .b
 pub form-closes-spec : {M : Type 1} → statement M
 form-closes-spec =
     tie.close
-    (tie.spec close-list-requires enum-known-e enum-told returns only-spaces-requires returns-2)
+    (tie.spec (λ c κs. search needs) (λ c. search needs) (λ c. search needs) returns (λ c κs. search needs) returns-2)

@@ -7,11 +7,8 @@ use borrow.Author.Needs.{needs}
 use Rattle.items.proofs.forms.only_spaces.Statement.{statement}
 use Rattle.items.proofs.forms.only_spaces.Tie as tie
 
-spaces-end-requires : tie.Need-spaces-end-requires
-spaces-end-requires c κs = search needs
-
 returns : tie.Need-returns
 returns c = ap (leb (length (c .before .before .args .s .now))) (c .spaces-end .ensures) ∙ spaces-from (c .before .before .args .s .now) (c .before .before .args .from)
 
 pub only-spaces-spec : {M : Type 1} → statement M
-only-spaces-spec = tie.close (tie.spec spaces-end-requires returns)
+only-spaces-spec = tie.close (tie.spec (λ c κs. search needs) returns)

@@ -7,12 +7,6 @@ use borrow.Author.Needs.{needs}
 use Rattle.items.proofs.forms.open_form.Statement.{statement}
 use Rattle.items.proofs.forms.open_form.Tie as tie
 
-spaces-end-requires : tie.Need-spaces-end-requires
-spaces-end-requires c κs = search needs
-
-peek-requires : tie.Need-peek-requires
-peek-requires c κs = search needs
-
 add-t5 : tie.Need-add-t5
 add-t5 c = omega (arith, peek-in (c .before .before .before .before .args .s .now) (c .before .before .spaces-end .result) (omega (arith, c .before .peek .ensures, c .if1 .taken)))
 
@@ -23,4 +17,4 @@ returns-2 : tie.Need-returns-2
 returns-2 c = form-shut (c .before .before .before .before .args .s .now) (c .before .before .spaces-end .result) (c .before .before .spaces-end .ensures) (λ h. c .if1 .left (c .before .peek .ensures ∙ h))
 
 pub open-form-spec : {M : Type 1} → statement M
-open-form-spec = tie.close (tie.spec spaces-end-requires peek-requires add-t5 returns returns-2)
+open-form-spec = tie.close (tie.spec (λ c κs. search needs) (λ c κs. search needs) add-t5 returns returns-2)

@@ -5,15 +5,6 @@ use borrow.Author.Needs.{needs}
 use Rattle.items.proofs.pieces.name_places.Statement.{statement}
 use Rattle.items.proofs.pieces.name_places.Tie as tie
 
-enum-known-n : tie.Need-enum-known-n
-enum-known-n c = search needs
-
-enum-told : tie.Need-enum-told
-enum-told c = search needs
-
-enum-told-2 : tie.Need-enum-told-2
-enum-told-2 c = search needs
-
 returns : tie.Need-returns
 returns c = ap namePlaces (sym (c .before .n .given .1))
 
@@ -25,4 +16,4 @@ returns-3 c = ap namePlaces (sym (c .enum-told2 .given .1))
 
 pub name-places-spec : {M : Type 1} → statement M
 name-places-spec =
-    tie.close (tie.spec enum-known-n enum-told enum-told-2 returns returns-2 returns-3)
+    tie.close (tie.spec (λ c. search needs) (λ c. search needs) (λ c. search needs) returns returns-2 returns-3)

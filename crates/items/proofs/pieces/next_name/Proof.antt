@@ -8,21 +8,6 @@ use borrow.Author.Needs.{needs}
 use Rattle.items.proofs.pieces.next_name.Statement.{statement}
 use Rattle.items.proofs.pieces.next_name.Tie as tie
 
-next-requires : tie.Need-next-requires
-next-requires c κs = search needs
-
-enum-known-p : tie.Need-enum-known-p
-enum-known-p c = search needs
-
-word-at-requires : tie.Need-word-at-requires
-word-at-requires c κs = search needs
-
-enum-known-q : tie.Need-enum-known-q
-enum-known-q c = search needs
-
-enum-told : tie.Need-enum-told
-enum-told c = search needs
-
 returns : tie.Need-returns
 unfolding afterEnd namePiece
 returns c = at-name (c .before .before .before .before .before .before .before .before .args .depth) (c .before .before .before .before .before .before .before .before .args .free) (c .before .before .before .before .before .before .before .before .args .s .now) (c .before .before .before .before .before .before .before .before .args .from) (c .before .before .before .before .p .given .0 .0) (sym (c .before .before .before .before .p .given .1) ∙ c .before .before .before .before .before .before .next .ensures) _ (sym (c .enum-told .given .1) ∙ c .before .before .word-at .ensures ∙ word-of (c .before .before .before .before .before .before .before .before .args .s .now) (c .before .before .before .before .p .given .0 .0) (c .before .before .before .before .before .before .before .before .args .depth))
@@ -36,18 +21,9 @@ part-is-name-start c = omega (arith, word-within (c .before .before .before .bef
 part-is-name-end : tie.Need-part-is-name-end
 part-is-name-end c = omega (arith, word-within (c .before .before .before .before .before .before .before .before .before .args .depth) (c .before .before .before .before .before .before .before .before .before .args .s .now) (c .before .before .before .before .before .p .given .0 .0) (c .before .q .given .0 .0) (sym (c .before .q .given .1) ∙ c .before .before .before .word-at .ensures ∙ word-of (c .before .before .before .before .before .before .before .before .before .args .s .now) (c .before .before .before .before .before .p .given .0 .0) (c .before .before .before .before .before .before .before .before .before .args .depth)))
 
-is-name-requires : tie.Need-is-name-requires
-is-name-requires c κs = search needs
-
 returns-2 : tie.Need-returns-2
 unfolding afterEnd partOf
 returns-2 c = name-yes (c .before .before .before .before .before .before .before .before .before .before .before .before .args .s .now) (c .before .before .before .before .before .before .before .before .p .given .0 .0) (c .before .before .before .before .q .given .0 .0) (sym (c .before .is-name .ensures) ∙ c .if1 .taken) ∙ at-name (c .before .before .before .before .before .before .before .before .before .before .before .before .args .depth) (c .before .before .before .before .before .before .before .before .before .before .before .before .args .free) (c .before .before .before .before .before .before .before .before .before .before .before .before .args .s .now) (c .before .before .before .before .before .before .before .before .before .before .before .before .args .from) (c .before .before .before .before .before .before .before .before .p .given .0 .0) (sym (c .before .before .before .before .before .before .before .before .p .given .1) ∙ c .before .before .before .before .before .before .before .before .before .before .next .ensures) _ (sym (c .before .before .before .before .q .given .1) ∙ c .before .before .before .before .before .before .word-at .ensures ∙ word-of (c .before .before .before .before .before .before .before .before .before .before .before .before .args .s .now) (c .before .before .before .before .before .before .before .before .p .given .0 .0) (c .before .before .before .before .before .before .before .before .before .before .before .before .args .depth))
-
-enum-known-e : tie.Need-enum-known-e
-enum-known-e c = search needs
-
-enum-told-2 : tie.Need-enum-told-2
-enum-told-2 c = search needs
 
 returns-3 : tie.Need-returns-3
 unfolding afterEnd partOf
@@ -65,19 +41,19 @@ pub next-name-spec : {M : Type 1} → statement M
 next-name-spec =
     tie.close
     (tie.spec
-    next-requires
-    enum-known-p
-    word-at-requires
-    enum-known-q
-    enum-told
+    (λ c κs. search needs)
+    (λ c. search needs)
+    (λ c κs. search needs)
+    (λ c. search needs)
+    (λ c. search needs)
     returns
     sub-is-name
     part-is-name-start
     part-is-name-end
-    is-name-requires
+    (λ c κs. search needs)
     returns-2
-    enum-known-e
-    enum-told-2
+    (λ c. search needs)
+    (λ c. search needs)
     returns-3
     returns-4
     returns-5)

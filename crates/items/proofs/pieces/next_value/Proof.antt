@@ -6,23 +6,8 @@ use borrow.Author.Needs.{needs}
 use Rattle.items.proofs.pieces.next_value.Statement.{statement}
 use Rattle.items.proofs.pieces.next_value.Tie as tie
 
-next-requires : tie.Need-next-requires
-next-requires c κs = search needs
-
-item-place-requires : tie.Need-item-place-requires
-item-place-requires c κs = search needs
-
-enum-known-p : tie.Need-enum-known-p
-enum-known-p c = search needs
-
-enum-told : tie.Need-enum-told
-enum-told c = search needs
-
 returns : tie.Need-returns
 returns c = no-value (c .before .before .before .before .before .args .depth) (c .before .before .before .before .before .args .free) (c .before .before .before .before .before .args .s .now) (c .before .before .before .before .before .args .from) (sym (c .enum-told .given .1) ∙ c .before .before .item-place .ensures ∙ ap itemPlace (c .before .before .before .next .ensures))
-
-value-requires : tie.Need-value-requires
-value-requires c κs = search needs
 
 returns-2 : tie.Need-returns-2
 returns-2 c = c .value .ensures ∙ at-value (c .before .before .before .before .before .before .before .args .depth) (c .before .before .before .before .before .before .before .args .free) (c .before .before .before .before .before .before .before .args .s .now) (c .before .before .before .before .before .before .before .args .from) (c .before .before .p .given .0 .0) (sym (c .before .before .p .given .1) ∙ c .before .before .before .before .item-place .ensures ∙ ap itemPlace (c .before .before .before .before .before .next .ensures))
@@ -31,10 +16,10 @@ pub next-value-spec : {M : Type 1} → statement M
 next-value-spec =
     tie.close
     (tie.spec
-    next-requires
-    item-place-requires
-    enum-known-p
-    enum-told
+    (λ c κs. search needs)
+    (λ c κs. search needs)
+    (λ c. search needs)
+    (λ c. search needs)
     returns
-    value-requires
+    (λ c κs. search needs)
     returns-2)

@@ -6,14 +6,8 @@ use borrow.Author.Needs.{needs}
 use Rattle.items.proofs.pieces.only_closes.Statement.{statement}
 use Rattle.items.proofs.pieces.only_closes.Tie as tie
 
-spaces-end-requires : tie.Need-spaces-end-requires
-spaces-end-requires c κs = search needs
-
-sub-result : tie.Need-sub-result
-sub-result c = search needs
-
 returns : tie.Need-returns
 returns c = ap (λ (x : ℕ). eqb x (c .before .before .args .end - 1)) (c .spaces-end .ensures)
 
 pub only-closes-spec : {M : Type 1} → statement M
-only-closes-spec = tie.close (tie.spec spaces-end-requires sub-result returns)
+only-closes-spec = tie.close (tie.spec (λ c κs. search needs) (λ c. search needs) returns)

@@ -8,27 +8,12 @@ use borrow.Author.Needs.{needs}
 use Rattle.items.proofs.pieces.open_list.Statement.{statement}
 use Rattle.items.proofs.pieces.open_list.Tie as tie
 
-next-requires : tie.Need-next-requires
-next-requires c κs = search needs
-
-enum-known-p : tie.Need-enum-known-p
-enum-known-p c = search needs
-
-peek-requires : tie.Need-peek-requires
-peek-requires c κs = search needs
-
 add-t9 : tie.Need-add-t9
 add-t9 c = omega (arith, peek-in (c .before .before .before .before .before .before .before .args .s .now) (c .before .before .before .p .given .0 .0) (omega (arith, c .before .peek .ensures, c .if1 .taken)))
 
 returns : tie.Need-returns
 unfolding openNext
 returns c = open-yes (c .before .before .before .before .before .before .before .args .s .now) (c .before .before .before .p .given .0 .0) (sym (c .before .peek .ensures) ∙ c .if1 .taken) ∙ ap (openAfter (c .before .before .before .before .before .before .before .args .s .now)) (sym (c .before .before .before .p .given .1) ∙ c .before .before .before .before .before .next .ensures)
-
-enum-known-e : tie.Need-enum-known-e
-enum-known-e c = search needs
-
-enum-told : tie.Need-enum-told
-enum-told c = search needs
 
 returns-2 : tie.Need-returns-2
 unfolding openNext
@@ -46,13 +31,13 @@ pub open-list-spec : {M : Type 1} → statement M
 open-list-spec =
     tie.close
     (tie.spec
-    next-requires
-    enum-known-p
-    peek-requires
+    (λ c κs. search needs)
+    (λ c. search needs)
+    (λ c κs. search needs)
     add-t9
     returns
-    enum-known-e
-    enum-told
+    (λ c. search needs)
+    (λ c. search needs)
     returns-2
     returns-3
     returns-4)

@@ -9,12 +9,6 @@ use borrow.Author.Needs.{needs}
 use Rattle.items.proofs.pieces.value.Statement.{statement}
 use Rattle.items.proofs.pieces.value.Tie as tie
 
-item-requires : tie.Need-item-requires
-item-requires c κs = search needs
-
-enum-known-q : tie.Need-enum-known-q
-enum-known-q c = search needs
-
 sub-same-bytes : tie.Need-sub-same-bytes
 sub-same-bytes c = omega (arith, read-within (c .before .before .before .before .before .args .depth) (c .before .before .before .before .before .args .s .now) (c .before .before .before .before .before .args .at) (c .before .q .given .0 .0) _ (sym (c .before .q .given .1) ∙ c .before .before .before .item .ensures) refl)
 
@@ -23,12 +17,6 @@ part-same-bytes-start c = omega (arith, read-within (c .before .before .before .
 
 part-same-bytes-end : tie.Need-part-same-bytes-end
 part-same-bytes-end c = omega (arith, read-within (c .before .before .before .before .before .args .depth) (c .before .before .before .before .before .args .s .now) (c .before .before .before .before .before .args .at) (c .before .q .given .0 .0) _ (sym (c .before .q .given .1) ∙ c .before .before .before .item .ensures) refl)
-
-slice-aggregate-same-bytes : tie.Need-slice-aggregate-same-bytes
-slice-aggregate-same-bytes c = search needs
-
-same-bytes-requires : tie.Need-same-bytes-requires
-same-bytes-requires c κs = search needs
 
 returns : tie.Need-returns
 unfolding valuePiece partOf
@@ -43,21 +31,9 @@ part-same-bytes-start-2 c = omega (arith, read-within (c .before .before .before
 part-same-bytes-end-2 : tie.Need-part-same-bytes-end-2
 part-same-bytes-end-2 c = omega (arith, read-within (c .before .before .before .before .before .before .before .before .before .args .depth) (c .before .before .before .before .before .before .before .before .before .args .s .now) (c .before .before .before .before .before .before .before .before .before .args .at) (c .before .before .before .before .before .q .given .0 .0) _ (sym (c .before .before .before .before .before .q .given .1) ∙ c .before .before .before .before .before .before .before .item .ensures) refl)
 
-slice-aggregate-same-bytes-2 : tie.Need-slice-aggregate-same-bytes-2
-slice-aggregate-same-bytes-2 c = search needs
-
-same-bytes-requires-2 : tie.Need-same-bytes-requires-2
-same-bytes-requires-2 c κs = search needs
-
 returns-2 : tie.Need-returns-2
 unfolding valuePiece partOf
 returns-2 c = truth-false (c .before .before .before .before .before .before .before .before .before .before .before .before .before .args .s .now) (c .before .before .before .before .before .before .before .before .before .before .before .before .before .args .at) (c .before .before .before .before .before .before .before .before .before .q .given .0 .0) (sym (c .before .before .before .before .before .same-bytes .ensures) ∙ c .before .before .before .before .if1 .left) (sym (c .before .same-bytes2 .ensures) ∙ c .if2 .taken) ∙ ap (valuePiece (c .before .before .before .before .before .before .before .before .before .before .before .before .before .args .s .now) (c .before .before .before .before .before .before .before .before .before .before .before .before .before .args .at)) (sym (c .before .before .before .before .before .before .before .before .before .q .given .1) ∙ c .before .before .before .before .before .before .before .before .before .before .before .item .ensures)
-
-enum-known-n : tie.Need-enum-known-n
-enum-known-n c = search needs
-
-enum-known-q-2 : tie.Need-enum-known-q-2
-enum-known-q-2 c = search needs
 
 add-t28 : tie.Need-add-t28
 add-t28 c = omega (arith, text-within (c .before .before .before .before .before .args .depth) (c .before .before .before .before .before .args .s .now) (c .before .before .before .before .before .args .at) (c .before .q2 .given .0 .0) (sym (c .before .q2 .given .1) ∙ c .before .before .before .item .ensures))
@@ -67,15 +43,6 @@ sub-t29 c = omega (arith, text-within (c .before .before .before .before .before
 
 sub-t30 : tie.Need-sub-t30
 sub-t30 c = omega (arith, text-within (c .before .before .before .before .before .args .depth) (c .before .before .before .before .before .args .s .now) (c .before .before .before .before .before .args .at) (c .before .q2 .given .0 .0) (sym (c .before .q2 .given .1) ∙ c .before .before .before .item .ensures))
-
-enum-told : tie.Need-enum-told
-enum-told c = search needs
-
-enum-told-2 : tie.Need-enum-told-2
-enum-told-2 c = search needs
-
-enum-told-3 : tie.Need-enum-told-3
-enum-told-3 c = search needs
 
 returns-3 : tie.Need-returns-3
 unfolding valuePiece partOf
@@ -105,28 +72,28 @@ pub value-spec : {M : Type 1} → statement M
 value-spec =
     tie.close
     (tie.spec
-    item-requires
-    enum-known-q
+    (λ c κs. search needs)
+    (λ c. search needs)
     sub-same-bytes
     part-same-bytes-start
     part-same-bytes-end
-    slice-aggregate-same-bytes
-    same-bytes-requires
+    (λ c. search needs)
+    (λ c κs. search needs)
     returns
     sub-same-bytes-2
     part-same-bytes-start-2
     part-same-bytes-end-2
-    slice-aggregate-same-bytes-2
-    same-bytes-requires-2
+    (λ c. search needs)
+    (λ c κs. search needs)
     returns-2
-    enum-known-n
-    enum-known-q-2
+    (λ c. search needs)
+    (λ c. search needs)
     add-t28
     sub-t29
     sub-t30
-    enum-told
-    enum-told-2
-    enum-told-3
+    (λ c. search needs)
+    (λ c. search needs)
+    (λ c. search needs)
     returns-3
     returns-4
     returns-5

@@ -6,14 +6,8 @@ use Rattle.items.proofs.PlacedLaws.{told-name}
 use Rattle.items.proofs.places.next_name.Statement.{statement}
 use Rattle.items.proofs.places.next_name.Tie as tie
 
-next-name-requires : tie.Need-next-name-requires
-next-name-requires c κs = search needs
-
-name-places-requires : tie.Need-name-places-requires
-name-places-requires c κs = search needs
-
 returns : tie.Need-returns
 returns c = told-name (c .name-places .ensures ∙ ap namePlaces (c .before .next-name .ensures))
 
 pub next-name-spec : {M : Type 1} → statement M
-next-name-spec = tie.close (tie.spec next-name-requires name-places-requires returns)
+next-name-spec = tie.close (tie.spec (λ c κs. search needs) (λ c κs. search needs) returns)

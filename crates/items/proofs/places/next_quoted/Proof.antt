@@ -9,32 +9,8 @@ use borrow.Author.Needs.{needs}
 use Rattle.items.proofs.places.next_quoted.Statement.{statement}
 use Rattle.items.proofs.places.next_quoted.Tie as tie
 
-next-requires : tie.Need-next-requires
-next-requires c κs = search needs
-
-item-place-requires : tie.Need-item-place-requires
-item-place-requires c κs = search needs
-
-enum-known-p : tie.Need-enum-known-p
-enum-known-p c = search needs
-
-enum-told : tie.Need-enum-told
-enum-told c = search needs
-
 returns : tie.Need-returns
 returns c = told-quoted (no-quoted (c .before .before .before .before .before .args .depth) false (c .before .before .before .before .before .args .s .now) (c .before .before .before .before .before .args .from) (sym (c .enum-told .given .1) ∙ c .before .before .item-place .ensures ∙ ap itemPlace (c .before .before .before .next .ensures)))
-
-item-requires : tie.Need-item-requires
-item-requires c κs = search needs
-
-quoted-end-requires : tie.Need-quoted-end-requires
-quoted-end-requires c κs = search needs
-
-enum-known-q : tie.Need-enum-known-q
-enum-known-q c = search needs
-
-enum-told-2 : tie.Need-enum-told-2
-enum-told-2 c = search needs
 
 returns-2 : tie.Need-returns-2
 unfolding afterEnd
@@ -54,15 +30,15 @@ pub next-quoted-spec : {M : Type 1} → statement M
 next-quoted-spec =
     tie.close
     (tie.spec
-    next-requires
-    item-place-requires
-    enum-known-p
-    enum-told
+    (λ c κs. search needs)
+    (λ c κs. search needs)
+    (λ c. search needs)
+    (λ c. search needs)
     returns
-    item-requires
-    quoted-end-requires
-    enum-known-q
-    enum-told-2
+    (λ c κs. search needs)
+    (λ c κs. search needs)
+    (λ c. search needs)
+    (λ c. search needs)
     returns-2
     add-t10
     sub-t11

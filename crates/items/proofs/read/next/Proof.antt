@@ -10,12 +10,6 @@ use borrow.Author.Needs.{needs}
 use Rattle.items.proofs.read.next.Statement.{statement}
 use Rattle.items.proofs.read.next.Tie as tie
 
-spaces-end-requires : tie.Need-spaces-end-requires
-spaces-end-requires c κs = search needs
-
-peek-requires : tie.Need-peek-requires
-peek-requires c κs = search needs
-
 add-t7 : tie.Need-add-t7
 add-t7 c = omega (arith, peek-in (c .before .before .before .before .args .s .now) (c .before .before .spaces-end .result) (omega (arith, c .before .peek .ensures, c .if1 .taken)))
 
@@ -24,9 +18,6 @@ returns c = next-close (c .before .before .before .before .args .free) (c .befor
 
 returns-2 : tie.Need-returns-2
 returns-2 c = next-gap (c .before .before .before .before .before .args .free) (c .before .before .before .before .before .args .s .now) (c .before .before .before .before .before .args .from) (c .before .before .before .spaces-end .result) (c .before .before .before .spaces-end .ensures) (λ h. c .before .if1 .left (c .before .before .peek .ensures ∙ h)) (c .if2 .taken)
-
-may-begin-requires : tie.Need-may-begin-requires
-may-begin-requires c κs = search needs
 
 returns-3 : tie.Need-returns-3
 returns-3 c = next-item (c .before .before .before .before .before .before .before .args .free) (c .before .before .before .before .before .before .before .args .s .now) (c .before .before .before .before .before .before .before .args .from) (c .before .before .before .before .before .spaces-end .result) (c .before .before .before .before .before .spaces-end .ensures) (λ h. c .before .before .before .if1 .left (c .before .before .before .before .peek .ensures ∙ h)) (c .before .before .if2 .left) (ap (λ (b : ℕ). c .before .before .before .before .before .before .before .args .free || eqb b 40) (sym (c .before .before .before .before .peek .ensures)) ∙ sym (c .before .may-begin .ensures) ∙ c .if3 .taken)
@@ -38,11 +29,11 @@ pub next-spec : {M : Type 1} → statement M
 next-spec =
     tie.close
     (tie.spec
-    spaces-end-requires
-    peek-requires
+    (λ c κs. search needs)
+    (λ c κs. search needs)
     add-t7
     returns
     returns-2
-    may-begin-requires
+    (λ c κs. search needs)
     returns-3
     returns-4)

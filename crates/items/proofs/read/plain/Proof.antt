@@ -11,47 +11,14 @@ use borrow.Author.Needs.{needs}
 use Rattle.items.proofs.read.plain.Statement.{statement}
 use Rattle.items.proofs.read.plain.Tie as tie
 
-peek-requires : tie.Need-peek-requires
-peek-requires c κs = search needs
-
-is-letter-requires : tie.Need-is-letter-requires
-is-letter-requires c κs = search needs
-
-word-requires : tie.Need-word-requires
-word-requires c κs = search needs
-
-word-read-requires : tie.Need-word-read-requires
-word-read-requires c κs = search needs
-
 returns : tie.Need-returns
 returns c = c .word-read .ensures ∙ ap (onEnd Word) (c .before .word .ensures) ∙ read-word (c .before .before .before .before .before .before .args .s .now) (c .before .before .before .before .before .before .args .at) (ap isLetter (sym (c .before .before .before .before .peek .ensures)) ∙ sym (c .before .before .before .is-letter .ensures) ∙ c .before .before .if1 .taken)
-
-starts-number-requires : tie.Need-starts-number-requires
-starts-number-requires c κs = search needs
-
-whole-requires : tie.Need-whole-requires
-whole-requires c κs = search needs
-
-number-read-requires : tie.Need-number-read-requires
-number-read-requires c κs = search needs
 
 returns-2 : tie.Need-returns-2
 returns-2 c = c .number-read .ensures ∙ ap onNumber (c .before .whole .ensures) ∙ read-whole (c .before .before .before .before .before .before .before .before .args .s .now) (c .before .before .before .before .before .before .before .before .args .at) (ap isLetter (sym (c .before .before .before .before .before .before .peek .ensures)) ∙ sym (c .before .before .before .before .before .is-letter .ensures) ∙ c .before .before .before .before .if1 .left) (ap (λ (b : ℕ). isDigit b || eqb b 45) (sym (c .before .before .before .before .before .before .peek .ensures)) ∙ sym (c .before .before .before .starts-number .ensures) ∙ c .before .before .if2 .taken)
 
-text-value-requires : tie.Need-text-value-requires
-text-value-requires c κs = search needs
-
-text-read-requires : tie.Need-text-read-requires
-text-read-requires c κs = search needs
-
 returns-3 : tie.Need-returns-3
 returns-3 c = c .text-read .ensures ∙ ap (onEnd Text) (c .before .text-value .ensures) ∙ read-text (c .before .before .before .before .before .before .before .before .before .args .s .now) (c .before .before .before .before .before .before .before .before .before .args .at) (ap isLetter (sym (c .before .before .before .before .before .before .before .peek .ensures)) ∙ sym (c .before .before .before .before .before .before .is-letter .ensures) ∙ c .before .before .before .before .before .if1 .left) (ap (λ (b : ℕ). isDigit b || eqb b 45) (sym (c .before .before .before .before .before .before .before .peek .ensures)) ∙ sym (c .before .before .before .before .starts-number .ensures) ∙ c .before .before .before .if2 .left) (sym (c .before .before .before .before .before .before .before .peek .ensures) ∙ c .before .before .if3 .taken)
-
-quoted-requires : tie.Need-quoted-requires
-quoted-requires c κs = search needs
-
-quoted-read-requires : tie.Need-quoted-read-requires
-quoted-read-requires c κs = search needs
 
 returns-4 : tie.Need-returns-4
 returns-4 c = c .quoted-read .ensures ∙ ap (onEnd Quoted) (c .before .quoted .ensures) ∙ read-quoted (c .before .before .before .before .before .before .before .before .before .before .args .s .now) (c .before .before .before .before .before .before .before .before .before .before .args .at) (ap isLetter (sym (c .before .before .before .before .before .before .before .before .peek .ensures)) ∙ sym (c .before .before .before .before .before .before .before .is-letter .ensures) ∙ c .before .before .before .before .before .before .if1 .left) (ap (λ (b : ℕ). isDigit b || eqb b 45) (sym (c .before .before .before .before .before .before .before .before .peek .ensures)) ∙ sym (c .before .before .before .before .before .starts-number .ensures) ∙ c .before .before .before .before .if2 .left) (sym (c .before .before .before .before .before .before .before .before .peek .ensures) ∙ c .before .before .if4 .taken)
@@ -63,19 +30,19 @@ pub plain-spec : {M : Type 1} → statement M
 plain-spec =
     tie.close
     (tie.spec
-    peek-requires
-    is-letter-requires
-    word-requires
-    word-read-requires
+    (λ c κs. search needs)
+    (λ c κs. search needs)
+    (λ c κs. search needs)
+    (λ c κs. search needs)
     returns
-    starts-number-requires
-    whole-requires
-    number-read-requires
+    (λ c κs. search needs)
+    (λ c κs. search needs)
+    (λ c κs. search needs)
     returns-2
-    text-value-requires
-    text-read-requires
+    (λ c κs. search needs)
+    (λ c κs. search needs)
     returns-3
-    quoted-requires
-    quoted-read-requires
+    (λ c κs. search needs)
+    (λ c κs. search needs)
     returns-4
     returns-5)

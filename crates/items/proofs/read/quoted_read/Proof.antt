@@ -6,12 +6,6 @@ use borrow.Author.Needs.{needs}
 use Rattle.items.proofs.read.quoted_read.Statement.{statement}
 use Rattle.items.proofs.read.quoted_read.Tie as tie
 
-enum-known-e : tie.Need-enum-known-e
-enum-known-e c = search needs
-
-enum-told : tie.Need-enum-told
-enum-told c = search needs
-
 returns : tie.Need-returns
 returns c = ap (onEnd Quoted) (sym (c .before .e .given .1))
 
@@ -19,4 +13,4 @@ returns-2 : tie.Need-returns-2
 returns-2 c = ap (onEnd Quoted) (sym (c .enum-told .given .1))
 
 pub quoted-read-spec : {M : Type 1} → statement M
-quoted-read-spec = tie.close (tie.spec enum-known-e enum-told returns returns-2)
+quoted-read-spec = tie.close (tie.spec (λ c. search needs) (λ c. search needs) returns returns-2)

@@ -5,9 +5,6 @@ use borrow.Author.Needs.{needs}
 use Rattle.prepare.proofs.needed.query.Statement.{statement}
 use Rattle.prepare.proofs.needed.query.Tie as tie
 
-read-requires : tie.Need-read-requires
-read-requires c κs = search needs
-
 returns : tie.Need-returns
 returns c =
     let a = c .before .before .before .before .before .args in
@@ -17,4 +14,4 @@ returns-2 : tie.Need-returns-2
 returns-2 c = query-not-needed _ _ (c .before .before .before .before .args .text .now) (c .if1 .left)
 
 pub query-spec : {M : Type 1} → statement M
-query-spec = tie.close (tie.spec read-requires returns returns-2)
+query-spec = tie.close (tie.spec (λ c κs. search needs) returns returns-2)

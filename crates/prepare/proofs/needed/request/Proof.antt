@@ -4,16 +4,10 @@ use borrow.Author.Needs.{needs}
 use Rattle.prepare.proofs.needed.request.Statement.{statement}
 use Rattle.prepare.proofs.needed.request.Tie as tie
 
-read-requires : tie.Need-read-requires
-read-requires c κs = search needs
-
 returns : tie.Need-returns
 returns c =
     let a = c .before .before .before .before .before .before .before .args in
     request-needed _ (a .book .now) (a .words .now) (a .counts) (a .rules .now) (a .table .now) (a .sizes) (a .text .now) _ (c .before .if1 .taken) (c .read .ensures)
-
-no-request-requires : tie.Need-no-request-requires
-no-request-requires c κs = search needs
 
 returns-2 : tie.Need-returns-2
 returns-2 c =
@@ -22,4 +16,4 @@ returns-2 c =
     (c .before .if1 .left) (c .no-request .ensures)
 
 pub request-spec : {M : Type 1} → statement M
-request-spec = tie.close (tie.spec read-requires returns no-request-requires returns-2)
+request-spec = tie.close (tie.spec (λ c κs. search needs) returns (λ c κs. search needs) returns-2)

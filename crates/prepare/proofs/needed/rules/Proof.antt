@@ -5,12 +5,6 @@ use borrow.Author.Needs.{needs}
 use Rattle.prepare.proofs.needed.rules.Statement.{statement}
 use Rattle.prepare.proofs.needed.rules.Tie as tie
 
-load-requires : tie.Need-load-requires
-load-requires c κs = search needs
-
-same-length : tie.Need-same-length
-same-length c = search needs
-
 returns : tie.Need-returns
 returns c =
     let a = c .before .before .before .before .before .before .before .before .before .args in
@@ -24,4 +18,4 @@ returns-2 c =
     rules-not-needed _ _ (s .args .text .now) (c .if1 .left) (s .args .table .now) (s .pre .1)
 
 pub rules-spec : {M : Type 1} → statement M
-rules-spec = tie.close (tie.spec load-requires same-length returns returns-2)
+rules-spec = tie.close (tie.spec (λ c κs. search needs) (λ c. search needs) returns returns-2)

@@ -10,29 +10,8 @@ Inv-loop request count identities i₀ i = i ≤ count
 abbrev μ-loop : tie.MeasureT-loop
 μ-loop request count identities i₀ i = count - i
 
-loop-holds : tie.Need-loop-holds Inv-loop μ-loop
-loop-holds c = search needs
-
-mul-identity : tie.Need-mul-identity Inv-loop μ-loop
-mul-identity c = search needs
-
-array-copy-out-identity : tie.Need-array-copy-out-identity Inv-loop μ-loop
-array-copy-out-identity c = search needs
-
 print-identity-requires : tie.Need-print-identity-requires Inv-loop μ-loop
 print-identity-requires c κs = c .before .before .before .before .pre .actors (c .before .before .loop .i)
-
-add-i : tie.Need-add-i Inv-loop μ-loop
-add-i c = search needs
-
-loop-less : tie.Need-loop-less Inv-loop μ-loop
-loop-less c = search needs
-
-loop-again : tie.Need-loop-again Inv-loop μ-loop
-loop-again c = search needs
-
-returns : tie.Need-returns Inv-loop μ-loop
-returns c = search needs
 
 pub print-identities-spec : {M : Type 1} → statement M
 print-identities-spec =
@@ -40,11 +19,11 @@ print-identities-spec =
     (tie.spec
     Inv-loop
     μ-loop
-    loop-holds
-    mul-identity
-    array-copy-out-identity
+    (λ c. search needs)
+    (λ c. search needs)
+    (λ c. search needs)
     print-identity-requires
-    add-i
-    loop-less
-    loop-again
-    returns)
+    (λ c. search needs)
+    (λ c. search needs)
+    (λ c. search needs)
+    (λ c. search needs))

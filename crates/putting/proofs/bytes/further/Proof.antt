@@ -5,9 +5,6 @@ use borrow.Author.Needs.{needs}
 use Rattle.putting.proofs.bytes.further.Statement.{statement}
 use Rattle.putting.proofs.bytes.further.Tie as tie
 
-add-result : tie.Need-add-result
-add-result c = search needs
-
 returns : tie.Need-returns
 returns c = sym (further-on _ (c .if1 .taken))
 
@@ -15,4 +12,4 @@ returns-2 : tie.Need-returns-2
 returns-2 c = sym (further-past _ (c .if1 .left))
 
 pub further-spec : {M : Type 1} → statement M
-further-spec = tie.close (tie.spec add-result returns returns-2)
+further-spec = tie.close (tie.spec (λ c. search needs) returns returns-2)

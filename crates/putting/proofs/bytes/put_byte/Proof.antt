@@ -8,20 +8,8 @@ use borrow.Author.Needs.{needs}
 use Rattle.putting.proofs.bytes.put_byte.Statement.{statement}
 use Rattle.putting.proofs.bytes.put_byte.Tie as tie
 
-slice-write-out : tie.Need-slice-write-out
-slice-write-out c = search needs
-
-further-requires : tie.Need-further-requires
-further-requires c κs = search needs
-
-same-length : tie.Need-same-length
-same-length c = search needs
-
 returns : tie.Need-returns
 returns c = let a = c .before .before .before .args in subst (λ n. Puts (a .out .now) (a .at) (a .byte ∷ []) (set (a .out .now) (a .at) (a .byte)) n) (sym (c .further .ensures)) (puts-byte (a .out .now) (a .at) (a .byte))
-
-further-requires-2 : tie.Need-further-requires-2
-further-requires-2 c κs = search needs
 
 returns-2 : tie.Need-returns-2
 returns-2 c = let a = c .before .before .before .args in subst (λ n. Puts (a .out .now) (a .at) (a .byte ∷ []) (a .out .now) n) (sym (c .further2 .ensures)) (puts-no-room (a .out .now) (a .at) (a .byte) (c .before .if1 .left))
@@ -29,4 +17,4 @@ returns-2 c = let a = c .before .before .before .args in subst (λ n. Puts (a .o
 pub put-byte-spec : {M : Type 1} → statement M
 put-byte-spec =
     tie.close
-    (tie.spec slice-write-out further-requires same-length returns further-requires-2 returns-2)
+    (tie.spec (λ c. search needs) (λ c κs. search needs) (λ c. search needs) returns (λ c κs. search needs) returns-2)

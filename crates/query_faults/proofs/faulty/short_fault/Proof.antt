@@ -5,27 +5,15 @@ use borrow.Author.Needs.{needs}
 use Rattle.query_faults.proofs.faulty.short_fault.Statement.{statement}
 use Rattle.query_faults.proofs.faulty.short_fault.Tie as tie
 
-slice-aggregate-fault-with : tie.Need-slice-aggregate-fault-with
-slice-aggregate-fault-with c = search needs
-
-slice-aggregate-fault-with-2 : tie.Need-slice-aggregate-fault-with-2
-slice-aggregate-fault-with-2 c = search needs
-
-slice-aggregate-fault-with-3 : tie.Need-slice-aggregate-fault-with-3
-slice-aggregate-fault-with-3 c = search needs
-
 fault-with-requires : tie.Need-fault-with-requires
 fault-with-requires c κs = (search needs, holds-none _ 384 (omega arith), holds-none _ 384 (omega arith), holds-none _ 384 (omega arith))
-
-returns : tie.Need-returns
-returns c = search needs
 
 pub short-fault-spec : {M : Type 1} → statement M
 short-fault-spec =
     tie.close
     (tie.spec
-    slice-aggregate-fault-with
-    slice-aggregate-fault-with-2
-    slice-aggregate-fault-with-3
+    (λ c. search needs)
+    (λ c. search needs)
+    (λ c. search needs)
     fault-with-requires
-    returns)
+    (λ c. search needs))

@@ -17,22 +17,10 @@ Inv-loop book words counts s vertices₀ edges₀ returned₀ place₀ i₀ t₀
 abbrev μ-loop : tie.MeasureT-loop
 μ-loop book words counts s vertices₀ edges₀ returned₀ place₀ i₀ t₀ vertices edges returned place i t = length (foundAt s place)
 
-text-start-requires : tie.Need-text-start-requires Inv-loop μ-loop
-text-start-requires c κs = search needs
-
-nothing-seen-requires : tie.Need-nothing-seen-requires Inv-loop μ-loop
-nothing-seen-requires c κs = search needs
-
 loop-holds : tie.Need-loop-holds Inv-loop μ-loop
 loop-holds c =
     let start = c .before .before .before .before .before .before .before .before in
     (rw (c .before .text-start .ensures, c .nothing-seen .ensures) (walked-start _ _ _ _ _ _ (start .pre .1) (start .pre .2) (start .pre .3)), refl, refl, refl)
-
-next-piece-requires : tie.Need-next-piece-requires Inv-loop μ-loop
-next-piece-requires c κs = search needs
-
-enum-known-x : tie.Need-enum-known-x Inv-loop μ-loop
-enum-known-x c = search needs
 
 piece-passed-requires : tie.Need-piece-passed-requires Inv-loop μ-loop
 piece-passed-requires c κs =
@@ -42,12 +30,6 @@ piece-passed-requires c κs =
       record { vertex-names = at-loop .loop .inv .0 .vertex-names; edge-names = at-loop .loop .inv .0 .edge-names },
       at-loop .loop .inv .0 .return-names,
     )
-
-is-whole-from-requires : tie.Need-is-whole-from-requires Inv-loop μ-loop
-is-whole-from-requires c κs = search needs
-
-fault-at-end-requires : tie.Need-fault-at-end-requires Inv-loop μ-loop
-fault-at-end-requires c κs = search needs
 
 same-length : tie.Need-same-length Inv-loop μ-loop
 same-length c =
@@ -108,12 +90,6 @@ loop-again c =
       omega (arith, c .before .before .returned .given, at-loop .loop .inv .3),
     )
 
-enum-known-w : tie.Need-enum-known-w Inv-loop μ-loop
-enum-known-w c = search needs
-
-fault-at-end-requires-2 : tie.Need-fault-at-end-requires-2 Inv-loop μ-loop
-fault-at-end-requires-2 c κs = search needs
-
 same-length-4 : tie.Need-same-length-4 Inv-loop μ-loop
 same-length-4 c = c .before .before .before .before .before .loop .inv .1
 
@@ -135,14 +111,14 @@ fault-with-spec =
     (tie.spec
     Inv-loop
     μ-loop
-    text-start-requires
-    nothing-seen-requires
+    (λ c κs. search needs)
+    (λ c κs. search needs)
     loop-holds
-    next-piece-requires
-    enum-known-x
+    (λ c κs. search needs)
+    (λ c. search needs)
     piece-passed-requires
-    is-whole-from-requires
-    fault-at-end-requires
+    (λ c κs. search needs)
+    (λ c κs. search needs)
     same-length
     same-length-2
     same-length-3
@@ -150,8 +126,8 @@ fault-with-spec =
     add-i
     loop-less
     loop-again
-    enum-known-w
-    fault-at-end-requires-2
+    (λ c. search needs)
+    (λ c κs. search needs)
     same-length-4
     same-length-5
     same-length-6

@@ -8,9 +8,6 @@ use borrow.Author.Needs.{needs}
 use Rattle.query_writer.proofs.conditions.put_condition.Statement.{statement}
 use Rattle.query_writer.proofs.conditions.put_condition.Tie as tie
 
-enum-known-condition : tie.Need-enum-known-condition
-enum-known-condition c = search needs
-
 mul-put-exclusion : tie.Need-mul-put-exclusion
 mul-put-exclusion c = let f = subst (ConditionFits arrayLimits) (c .before .condition .given .1) (c .before .before .before .before .before .before .before .pre .0) in omega (arith, f .0)
 
@@ -23,12 +20,6 @@ mul-put-exclusion-2 c = let f = subst (ConditionFits arrayLimits) (c .before .be
 array-copy-out-put-exclusion-2 : tie.Need-array-copy-out-put-exclusion-2
 array-copy-out-put-exclusion-2 c = let f = subst (ConditionFits arrayLimits) (c .before .before .condition .given .1) (c .before .before .before .before .before .before .before .before .pre .0) in omega (arith, f .1)
 
-put-exclusion-requires : tie.Need-put-exclusion-requires
-put-exclusion-requires c κs = search needs
-
-enum-known-condition-2 : tie.Need-enum-known-condition-2
-enum-known-condition-2 c = search needs
-
 mul-put-requirement : tie.Need-mul-put-requirement
 mul-put-requirement c = let f = subst (ConditionFits arrayLimits) (c .before .condition2 .given .1) (c .before .before .before .before .before .before .before .pre .0) in omega (arith, f .0)
 
@@ -37,9 +28,6 @@ array-copy-out-put-requirement c = let f = subst (ConditionFits arrayLimits) (c 
 
 put-requirement-requires : tie.Need-put-requirement-requires
 put-requirement-requires c κs = let f = subst (ConditionFits arrayLimits) (c .before .before .before .condition2 .given .1) (c .before .before .before .before .before .before .before .before .before .pre .0) in omega (arith, f .1, c .before .before .before .before .before .before .before .before .before .pre .1)
-
-enum-known-condition-3 : tie.Need-enum-known-condition-3
-enum-known-condition-3 c = search needs
 
 mul-edge : tie.Need-mul-edge
 mul-edge c = let f = subst (ConditionFits arrayLimits) (c .before .condition3 .given .1) (c .before .before .before .before .before .before .before .pre .0) in omega (arith, f .0)
@@ -50,22 +38,13 @@ array-copy-out-edge c = let f = subst (ConditionFits arrayLimits) (c .before .co
 put-requirement-requires-2 : tie.Need-put-requirement-requires-2
 put-requirement-requires-2 c κs = let f = subst (ConditionFits arrayLimits) (c .before .before .before .before .condition3 .given .1) (c .before .before .before .before .before .before .before .before .before .before .pre .0) in omega (arith, f .1, c .before .before .before .before .before .before .before .before .before .before .pre .1)
 
-same-length : tie.Need-same-length
-same-length c = search needs
-
 returns : tie.Need-returns
 unfolding vertexAt edgeAt conditionPiece
 returns c = let a = c .before .before .before .before .before .before .before .before .before .before .before .before .before .args in puts-same (sym (ap (λ x. conditionPiece (a .book .now) (a .words .now) (a .query .now) (a .t4) (a .t5) x) (c .before .before .before .before .before .before .before .condition .given .1))) (c .before .before .put-exclusion .ensures)
 
-same-length-2 : tie.Need-same-length-2
-same-length-2 c = search needs
-
 returns-2 : tie.Need-returns-2
 unfolding vertexAt edgeAt conditionPiece
 returns-2 c = let a = c .before .before .before .before .before .before .before .before .before .before .before .before .args in puts-same (sym (ap (λ x. conditionPiece (a .book .now) (a .words .now) (a .query .now) (a .t4) (a .t5) x) (c .before .before .before .before .before .before .condition2 .given .1))) (c .before .before .put-requirement .ensures)
-
-same-length-3 : tie.Need-same-length-3
-same-length-3 c = search needs
 
 returns-3 : tie.Need-returns-3
 unfolding vertexAt edgeAt conditionPiece
@@ -75,23 +54,23 @@ pub put-condition-spec : {M : Type 1} → statement M
 put-condition-spec =
     tie.close
     (tie.spec
-    enum-known-condition
+    (λ c. search needs)
     mul-put-exclusion
     array-copy-out-put-exclusion
     mul-put-exclusion-2
     array-copy-out-put-exclusion-2
-    put-exclusion-requires
-    enum-known-condition-2
+    (λ c κs. search needs)
+    (λ c. search needs)
     mul-put-requirement
     array-copy-out-put-requirement
     put-requirement-requires
-    enum-known-condition-3
+    (λ c. search needs)
     mul-edge
     array-copy-out-edge
     put-requirement-requires-2
-    same-length
+    (λ c. search needs)
     returns
-    same-length-2
+    (λ c. search needs)
     returns-2
-    same-length-3
+    (λ c. search needs)
     returns-3)

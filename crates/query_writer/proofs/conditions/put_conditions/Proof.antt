@@ -23,23 +23,8 @@ loop-holds : tie.Need-loop-holds Inv-loop μ-loop
 unfolding conditionsText
 loop-holds c = let a = c .before .before .before .before .args in (omega arith, puts-none (bytesOf " Where ") (bytesOf " AND ") (a .out .now) (a .at))
 
-mul-clause : tie.Need-mul-clause Inv-loop μ-loop
-mul-clause c = search needs
-
-array-copy-out-clause : tie.Need-array-copy-out-clause Inv-loop μ-loop
-array-copy-out-clause c = search needs
-
-put-where-requires : tie.Need-put-where-requires Inv-loop μ-loop
-put-where-requires c κs = search needs
-
 put-condition-requires : tie.Need-put-condition-requires Inv-loop μ-loop
 put-condition-requires c κs = (c .before .before .before .before .before .before .before .before .before .before .before .before .pre .0 .each (c .before .before .before .before .before .before .before .loop .i) (omega arith), c .before .before .before .before .before .before .before .before .before .before .before .before .pre .1)
-
-add-i : tie.Need-add-i Inv-loop μ-loop
-add-i c = search needs
-
-loop-less : tie.Need-loop-less Inv-loop μ-loop
-loop-less c = search needs
 
 loop-again : tie.Need-loop-again Inv-loop μ-loop
 unfolding conditionsText
@@ -60,12 +45,12 @@ put-conditions-spec =
     Inv-loop
     μ-loop
     loop-holds
-    mul-clause
-    array-copy-out-clause
-    put-where-requires
+    (λ c. search needs)
+    (λ c. search needs)
+    (λ c κs. search needs)
     put-condition-requires
-    add-i
-    loop-less
+    (λ c. search needs)
+    (λ c. search needs)
     loop-again
     same-length
     returns)

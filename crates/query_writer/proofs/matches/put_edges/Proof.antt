@@ -24,20 +24,8 @@ loop-holds : tie.Need-loop-holds Inv-loop μ-loop
 unfolding edgesText
 loop-holds c = let a = c .before .before .before .before .args in (omega arith, puts-none (bytesOf " ") (bytesOf " ") (a .out .now) (a .at))
 
-mul-edge : tie.Need-mul-edge Inv-loop μ-loop
-mul-edge c = search needs
-
-array-copy-out-edge : tie.Need-array-copy-out-edge Inv-loop μ-loop
-array-copy-out-edge c = search needs
-
 put-edge-requires : tie.Need-put-edge-requires Inv-loop μ-loop
 put-edge-requires c κs = (c .before .before .before .before .before .before .before .before .pre .0 .each (c .before .before .before .loop .i) (omega arith), c .before .before .before .before .before .before .before .before .pre .1)
-
-add-i : tie.Need-add-i Inv-loop μ-loop
-add-i c = search needs
-
-loop-less : tie.Need-loop-less Inv-loop μ-loop
-loop-less c = search needs
 
 loop-again : tie.Need-loop-again Inv-loop μ-loop
 unfolding edgesText
@@ -58,11 +46,11 @@ put-edges-spec =
     Inv-loop
     μ-loop
     loop-holds
-    mul-edge
-    array-copy-out-edge
+    (λ c. search needs)
+    (λ c. search needs)
     put-edge-requires
-    add-i
-    loop-less
+    (λ c. search needs)
+    (λ c. search needs)
     loop-again
     same-length
     returns)

@@ -24,21 +24,6 @@ loop-holds : tie.Need-loop-holds Inv-loop μ-loop
 unfolding verticesText
 loop-holds c = let a = c .before .before .args in (omega arith, puts-none [] (bytesOf " ") (a .out .now) (a .at))
 
-mul-name : tie.Need-mul-name Inv-loop μ-loop
-mul-name c = search needs
-
-array-copy-out-name : tie.Need-array-copy-out-name Inv-loop μ-loop
-array-copy-out-name c = search needs
-
-put-vertex-requires : tie.Need-put-vertex-requires Inv-loop μ-loop
-put-vertex-requires c κs = search needs
-
-add-i : tie.Need-add-i Inv-loop μ-loop
-add-i c = search needs
-
-loop-less : tie.Need-loop-less Inv-loop μ-loop
-loop-less c = search needs
-
 loop-again : tie.Need-loop-again Inv-loop μ-loop
 unfolding verticesText
 loop-again c = let a = c .before .before .before .before .before .before .before .before .before .args in
@@ -58,11 +43,11 @@ put-vertices-spec =
     Inv-loop
     μ-loop
     loop-holds
-    mul-name
-    array-copy-out-name
-    put-vertex-requires
-    add-i
-    loop-less
+    (λ c. search needs)
+    (λ c. search needs)
+    (λ c κs. search needs)
+    (λ c. search needs)
+    (λ c. search needs)
     loop-again
     same-length
     returns)

@@ -23,26 +23,11 @@ loop-holds : tie.Need-loop-holds Inv-loop μ-loop
 unfolding vertexAt returnsText
 loop-holds c = let a = c .before .before .args in (omega arith, puts-none [] (bytesOf ", ") (a .out .now) (a .at))
 
-mul-v : tie.Need-mul-v Inv-loop μ-loop
-mul-v c = search needs
-
-array-read-v : tie.Need-array-read-v Inv-loop μ-loop
-array-read-v c = search needs
-
 mul-name : tie.Need-mul-name Inv-loop μ-loop
 mul-name c = omega (arith, c .before .before .before .before .pre .each (c .before .loop .i) (omega arith))
 
 array-copy-out-name : tie.Need-array-copy-out-name Inv-loop μ-loop
 array-copy-out-name c = omega (arith, c .before .before .before .before .pre .each (c .before .loop .i) (omega arith))
-
-put-return-requires : tie.Need-put-return-requires Inv-loop μ-loop
-put-return-requires c κs = search needs
-
-add-i : tie.Need-add-i Inv-loop μ-loop
-add-i c = search needs
-
-loop-less : tie.Need-loop-less Inv-loop μ-loop
-loop-less c = search needs
 
 loop-again : tie.Need-loop-again Inv-loop μ-loop
 unfolding vertexAt returnsText
@@ -63,13 +48,13 @@ put-returns-spec =
     Inv-loop
     μ-loop
     loop-holds
-    mul-v
-    array-read-v
+    (λ c. search needs)
+    (λ c. search needs)
     mul-name
     array-copy-out-name
-    put-return-requires
-    add-i
-    loop-less
+    (λ c κs. search needs)
+    (λ c. search needs)
+    (λ c. search needs)
     loop-again
     same-length
     returns)

@@ -4,14 +4,8 @@ use borrow.Author.Needs.{needs}
 use Rattle.service.proofs.listing.refuse.Statement.{statement}
 use Rattle.service.proofs.listing.refuse.Tie as tie
 
-fill-requires : tie.Need-fill-requires
-fill-requires c κs = search needs
-
-same-length : tie.Need-same-length
-same-length c = search needs
-
 returns : tie.Need-returns
 returns c = lists-nothing _ (c .before .before .before .before .before .args .rows .now) _ (c .before .before .fill .ensures)
 
 pub refuse-spec : {M : Type 1} → statement M
-refuse-spec = tie.close (tie.spec fill-requires same-length returns)
+refuse-spec = tie.close (tie.spec (λ c κs. search needs) (λ c. search needs) returns)

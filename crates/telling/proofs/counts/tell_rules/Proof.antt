@@ -4,20 +4,8 @@ use borrow.Author.Needs.{needs}
 use Rattle.telling.proofs.counts.tell_rules.Statement.{statement}
 use Rattle.telling.proofs.counts.tell_rules.Tie as tie
 
-enum-known-read : tie.Need-enum-known-read
-enum-known-read c = search needs
-
-tell-requires : tie.Need-tell-requires
-tell-requires c κs = search needs
-
 returns : tie.Need-returns
 returns c = rules-accepted _ (c .before .before .before .before .before .read .given .1) (c .tell .ensures)
-
-enum-known-read-2 : tie.Need-enum-known-read-2
-enum-known-read-2 c = search needs
-
-tell-requires-2 : tie.Need-tell-requires-2
-tell-requires-2 c κs = search needs
 
 returns-2 : tie.Need-returns-2
 returns-2 c = rules-refused _ (c .before .before .before .before .before .read2 .given .1) (c .tell2 .ensures)
@@ -25,4 +13,4 @@ returns-2 c = rules-refused _ (c .before .before .before .before .before .read2 
 pub tell-rules-spec : {M : Type 1} → statement M
 tell-rules-spec =
     tie.close
-    (tie.spec enum-known-read tell-requires returns enum-known-read-2 tell-requires-2 returns-2)
+    (tie.spec (λ c. search needs) (λ c κs. search needs) returns (λ c. search needs) (λ c κs. search needs) returns-2)

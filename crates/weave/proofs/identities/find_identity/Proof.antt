@@ -23,18 +23,6 @@ abbrev μ-loop : tie.MeasureT-loop
 loop-holds : tie.Need-loop-holds Inv-loop μ-loop
 loop-holds c = (omega arith, λ j h. absurd (omega arith))
 
-mul-identity : tie.Need-mul-identity Inv-loop μ-loop
-mul-identity c = search needs
-
-array-copy-out-identity : tie.Need-array-copy-out-identity Inv-loop μ-loop
-array-copy-out-identity c = search needs
-
-part-requires : tie.Need-part-requires Inv-loop μ-loop
-part-requires c κs = search needs
-
-says-requires : tie.Need-says-requires Inv-loop μ-loop
-says-requires c κs = search needs
-
 cast-result : tie.Need-cast-result Inv-loop μ-loop
 cast-result c = let f = c .before .before .before .before .before .before .before .before .before .before .before .before .pre .nodes (c .before .before .before .before .before .before .before .loop .i) (omega arith) in omega arith
 
@@ -45,12 +33,6 @@ returns c =
     let few = c .before .before .before .before .before .before .before .before .before .before .before .before .pre .few in
     node-said _ (c .before .before .before .before .before .before .before .before .before .before .before .before .pre .nodes (c .before .before .before .before .before .before .before .loop .i) (omega arith)) ∙ sym (found-in (a .request .now) (a .t4) (a .count) (omega arith) (vertexOfWord (a .query .now) (a .rules .now) (a .word)) (c .before .before .before .before .before .before .before .loop .i) (c .before .before .before .before .before .before .loop-test .taken) (c .before .before .before .before .before .before .before .loop .inv .1)
     (compared (a .query .now) (a .rules .now) (a .request .now) (a .word) (getD (a .t4) (c .before .before .before .before .before .before .before .loop .i) noIdentity) (c .before .before .before .part .result .now) (c .before .before .says .result) (c .before .before .before .before .before .before .before .before .if1 .taken) (c .before .before .before .part .ensures) (c .before .before .says .ensures) ∙ c .before .if2 .taken))
-
-add-i : tie.Need-add-i Inv-loop μ-loop
-add-i c = search needs
-
-loop-less : tie.Need-loop-less Inv-loop μ-loop
-loop-less c = search needs
 
 loop-again : tie.Need-loop-again Inv-loop μ-loop
 loop-again c =
@@ -86,14 +68,14 @@ find-identity-spec =
     Inv-loop
     μ-loop
     loop-holds
-    mul-identity
-    array-copy-out-identity
-    part-requires
-    says-requires
+    (λ c. search needs)
+    (λ c. search needs)
+    (λ c κs. search needs)
+    (λ c κs. search needs)
     cast-result
     returns
-    add-i
-    loop-less
+    (λ c. search needs)
+    (λ c. search needs)
     loop-again
     returns-2
     returns-3)

@@ -17,32 +17,11 @@ abbrev μ-loop : tie.MeasureT-loop
 loop-holds : tie.Need-loop-holds Inv-loop μ-loop
 loop-holds c = (omega arith, given-start (c .before .before .before .before .args .query .now) (c .before .before .before .before .args .rules .now) _ (c .before .before .before .before .args .words .now))
 
-mul-find-identity : tie.Need-mul-find-identity Inv-loop μ-loop
-mul-find-identity c = search needs
-
 slice-read-find-identity : tie.Need-slice-read-find-identity Inv-loop μ-loop
 slice-read-find-identity c = omega (arith, c .before .before .loop .inv .1 .size, c .before .before .before .before .before .before .before .pre .1, c .before .before .before .before .before .before .before .pre .2)
 
-find-identity-requires : tie.Need-find-identity-requires Inv-loop μ-loop
-find-identity-requires c κs = search needs
-
-add-words : tie.Need-add-words Inv-loop μ-loop
-add-words c = search needs
-
-mul-words : tie.Need-mul-words Inv-loop μ-loop
-mul-words c = search needs
-
 slice-write-words : tie.Need-slice-write-words Inv-loop μ-loop
 slice-write-words c = omega (arith, c .before .before .before .loop .inv .1 .size, c .before .before .before .before .before .before .before .before .pre .1, c .before .before .before .before .before .before .before .before .pre .2)
-
-mark-if-requires : tie.Need-mark-if-requires Inv-loop μ-loop
-mark-if-requires c κs = search needs
-
-add-v : tie.Need-add-v Inv-loop μ-loop
-add-v c = search needs
-
-loop-less : tie.Need-loop-less Inv-loop μ-loop
-loop-less c = search needs
 
 loop-again : tie.Need-loop-again Inv-loop μ-loop
 loop-again c =
@@ -68,15 +47,15 @@ give-identities-spec =
     Inv-loop
     μ-loop
     loop-holds
-    mul-find-identity
+    (λ c. search needs)
     slice-read-find-identity
-    find-identity-requires
-    add-words
-    mul-words
+    (λ c κs. search needs)
+    (λ c. search needs)
+    (λ c. search needs)
     slice-write-words
-    mark-if-requires
-    add-v
-    loop-less
+    (λ c κs. search needs)
+    (λ c. search needs)
+    (λ c. search needs)
     loop-again
     same-length
     returns)

@@ -19,15 +19,6 @@ abbrev μ-loop : tie.MeasureT-loop
 loop-holds : tie.Need-loop-holds Inv-loop μ-loop
 loop-holds c = (omega arith, λ i h. absurd (omega arith))
 
-has-requires : tie.Need-has-requires Inv-loop μ-loop
-has-requires c κs = search needs
-
-add-v : tie.Need-add-v Inv-loop μ-loop
-add-v c = search needs
-
-loop-less : tie.Need-loop-less Inv-loop μ-loop
-loop-less c = search needs
-
 loop-again : tie.Need-loop-again Inv-loop μ-loop
 loop-again c = (omega arith, λ i h. either (equal-or-not i (c .before .before .before .loop .v)) (λ e. subst (λ z. bit (c .before .before .before .before .args .marks) z ≡ true) (sym e) (sym (c .before .has .ensures) ∙ c .if1 .taken)) (λ e. let d = e .1 in c .before .before .before .loop .inv .1 i (omega arith)))
 
@@ -40,4 +31,4 @@ returns-2 c = sym (all-marks (c .before .before .args .marks) (c .before .before
 pub all-marked-spec : {M : Type 1} → statement M
 all-marked-spec =
     tie.close
-    (tie.spec Inv-loop μ-loop loop-holds has-requires add-v loop-less loop-again returns returns-2)
+    (tie.spec Inv-loop μ-loop loop-holds (λ c κs. search needs) (λ c. search needs) (λ c. search needs) loop-again returns returns-2)

@@ -6,9 +6,6 @@ use borrow.Author.Needs.{needs}
 use Rattle.weave.proofs.marks.mark_if.Statement.{statement}
 use Rattle.weave.proofs.marks.mark_if.Tie as tie
 
-with-requires : tie.Need-with-requires
-with-requires c κs = search needs
-
 returns : tie.Need-returns
 returns c = c .with .ensures ∙ ap (λ t. pick t (with (c .before .before .args .marks) (c .before .before .args .v)) (c .before .before .args .marks)) (sym (c .before .if1 .taken))
 
@@ -16,4 +13,4 @@ returns-2 : tie.Need-returns-2
 returns-2 c = ap (λ t. pick t (with (c .before .args .marks) (c .before .args .v)) (c .before .args .marks)) (sym (c .if1 .left))
 
 pub mark-if-spec : {M : Type 1} → statement M
-mark-if-spec = tie.close (tie.spec with-requires returns returns-2)
+mark-if-spec = tie.close (tie.spec (λ c κs. search needs) returns returns-2)

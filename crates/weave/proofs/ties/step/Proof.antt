@@ -20,15 +20,6 @@ abbrev μ-loop : tie.MeasureT-loop
 loop-holds : tie.Need-loop-holds Inv-loop μ-loop
 loop-holds c = (omega arith, stepped-none (c .before .args .words .now) (c .before .args .mask))
 
-add-word : tie.Need-add-word Inv-loop μ-loop
-add-word c = search needs
-
-mul-word : tie.Need-mul-word Inv-loop μ-loop
-mul-word c = search needs
-
-shared-slice-read-word : tie.Need-shared-slice-read-word Inv-loop μ-loop
-shared-slice-read-word c = search needs
-
 cast-word : tie.Need-cast-word Inv-loop μ-loop
 cast-word c = omega (arith, c .shared-slice-known2 .given (24 + c .before .before .loop .i))
 
@@ -43,12 +34,6 @@ has-requires-2 c κs = let l = c .before .before .before .before .before .before
 
 mark-if-requires-2 : tie.Need-mark-if-requires-2 Inv-loop μ-loop
 mark-if-requires-2 c κs = let l = c .before .before .before .before .before .before .before .pre .2 (c .before .before .before .before .before .loop .i) (omega arith) in omega (arith, l .1)
-
-add-i : tie.Need-add-i Inv-loop μ-loop
-add-i c = search needs
-
-loop-less : tie.Need-loop-less Inv-loop μ-loop
-loop-less c = search needs
 
 loop-again : tie.Need-loop-again Inv-loop μ-loop
 loop-again c =
@@ -72,15 +57,15 @@ step-spec =
     Inv-loop
     μ-loop
     loop-holds
-    add-word
-    mul-word
-    shared-slice-read-word
+    (λ c. search needs)
+    (λ c. search needs)
+    (λ c. search needs)
     cast-word
     has-requires
     mark-if-requires
     has-requires-2
     mark-if-requires-2
-    add-i
-    loop-less
+    (λ c. search needs)
+    (λ c. search needs)
     loop-again
     returns)

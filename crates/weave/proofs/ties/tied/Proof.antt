@@ -21,12 +21,6 @@ step-requires c κs = (c .before .before .before .pre .1, c .before .before .bef
 returns : tie.Need-returns Inv-loop μ-loop
 returns c = tied-unchanged (c .before .before .before .before .before .args .words .now) (c .before .before .before .before .before .args .vertices) (c .before .before .before .before .before .args .edges) (c .before .before .before .before .before .args .mask) (c .before .before .before .before .before .pre .3) (c .before .before .before .loop .marked) (c .before .step .result) (c .before .before .before .loop .round) (c .if1 .taken) (c .before .step .ensures) (c .before .before .before .loop .inv .1)
 
-add-round : tie.Need-add-round Inv-loop μ-loop
-add-round c = search needs
-
-loop-less : tie.Need-loop-less Inv-loop μ-loop
-loop-less c = search needs
-
 loop-again : tie.Need-loop-again Inv-loop μ-loop
 loop-again c = (omega arith, tied-more (c .before .before .before .before .before .args .words .now) (c .before .before .before .before .before .args .vertices) (c .before .before .before .before .before .args .edges) (c .before .before .before .before .before .args .mask) (c .before .before .before .before .before .pre .3) (c .before .before .before .loop .marked) (c .before .step .result) (c .before .before .before .loop .round) (c .before .before .loop-test .taken) (c .before .step .ensures) (c .before .before .before .loop .inv .1))
 
@@ -42,7 +36,7 @@ tied-spec =
     loop-holds
     step-requires
     returns
-    add-round
-    loop-less
+    (λ c. search needs)
+    (λ c. search needs)
     loop-again
     returns-2)

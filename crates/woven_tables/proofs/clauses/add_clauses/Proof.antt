@@ -18,53 +18,17 @@ abbrev μ-loop : tie.MeasureT-loop
 loop-holds : tie.Need-loop-holds Inv-loop μ-loop
 loop-holds c = (omega arith, clauses-start (c .before .args .base) (c .before .args .k) (c .before .args .t3) (c .before .args .numbers) (c .before .args .before) (c .before .args .words .now) (c .before .args .woven))
 
-mul-c : tie.Need-mul-c Inv-loop μ-loop
-mul-c c = search needs
-
-array-copy-out-c : tie.Need-array-copy-out-c Inv-loop μ-loop
-array-copy-out-c c = search needs
-
 clause-words-requires : tie.Need-clause-words-requires Inv-loop μ-loop
 clause-words-requires c κs = (c .before .before .before .before .pre .0 .few-texts, c .before .before .before .before .pre .0 .fit (c .before .before .loop .i) (omega arith))
-
-add-at : tie.Need-add-at Inv-loop μ-loop
-add-at c = search needs
-
-mul-at : tie.Need-mul-at Inv-loop μ-loop
-mul-at c = search needs
-
-add-at-2 : tie.Need-add-at-2 Inv-loop μ-loop
-add-at-2 c = search needs
-
-mul-words : tie.Need-mul-words Inv-loop μ-loop
-mul-words c = search needs
 
 slice-write-words : tie.Need-slice-write-words Inv-loop μ-loop
 slice-write-words c = omega (arith, c .before .before .before .loop .inv .1 .size, c .before .before .before .before .before .pre .0 .room, c .before .before .before .before .before .pre .1)
 
-add-words : tie.Need-add-words Inv-loop μ-loop
-add-words c = search needs
-
-mul-words-2 : tie.Need-mul-words-2 Inv-loop μ-loop
-mul-words-2 c = search needs
-
 slice-write-words-2 : tie.Need-slice-write-words-2 Inv-loop μ-loop
 slice-write-words-2 c = simp length-set (omega (arith, c .before .before .before .loop .inv .1 .size, c .before .before .before .before .before .pre .0 .room, c .before .before .before .before .before .pre .1))
 
-add-words-2 : tie.Need-add-words-2 Inv-loop μ-loop
-add-words-2 c = search needs
-
-mul-words-3 : tie.Need-mul-words-3 Inv-loop μ-loop
-mul-words-3 c = search needs
-
 slice-write-words-3 : tie.Need-slice-write-words-3 Inv-loop μ-loop
 slice-write-words-3 c = simp length-set (omega (arith, c .before .before .before .loop .inv .1 .size, c .before .before .before .before .before .pre .0 .room, c .before .before .before .before .before .pre .1))
-
-add-i : tie.Need-add-i Inv-loop μ-loop
-add-i c = search needs
-
-loop-less : tie.Need-loop-less Inv-loop μ-loop
-loop-less c = search needs
 
 loop-again : tie.Need-loop-again Inv-loop μ-loop
 loop-again c =
@@ -91,22 +55,22 @@ add-clauses-spec =
     Inv-loop
     μ-loop
     loop-holds
-    mul-c
-    array-copy-out-c
+    (λ c. search needs)
+    (λ c. search needs)
     clause-words-requires
-    add-at
-    mul-at
-    add-at-2
-    mul-words
+    (λ c. search needs)
+    (λ c. search needs)
+    (λ c. search needs)
+    (λ c. search needs)
     slice-write-words
-    add-words
-    mul-words-2
+    (λ c. search needs)
+    (λ c. search needs)
     slice-write-words-2
-    add-words-2
-    mul-words-3
+    (λ c. search needs)
+    (λ c. search needs)
     slice-write-words-3
-    add-i
-    loop-less
+    (λ c. search needs)
+    (λ c. search needs)
     loop-again
     same-length
     returns)

@@ -7,9 +7,6 @@ use borrow.Author.Needs.{needs}
 use Rattle.woven_tables.proofs.clauses.clause_words.Statement.{statement}
 use Rattle.woven_tables.proofs.clauses.clause_words.Tie as tie
 
-enum-known-condition : tie.Need-enum-known-condition
-enum-known-condition c = search needs
-
 mul-t14 : tie.Need-mul-t14
 mul-t14 c = let f = subst (ConditionReady (c .before .before .before .args .base) (c .before .before .before .args .t4) (c .before .before .before .args .before)) (c .before .condition .given .1) (c .before .before .before .pre .1) in omega arith
 
@@ -28,9 +25,6 @@ array-read-t22 c = let f = subst (ConditionReady (c .before .before .before .arg
 cast-t23 : tie.Need-cast-t23
 cast-t23 c = let f = subst (ConditionReady (c .before .before .before .args .base) (c .before .before .before .args .t4) (c .before .before .before .args .before)) (c .before .condition .given .1) (c .before .before .before .pre .1) in omega arith
 
-enum-known-condition-2 : tie.Need-enum-known-condition-2
-enum-known-condition-2 c = search needs
-
 mul-requirement-words : tie.Need-mul-requirement-words
 mul-requirement-words c = let f = subst (ConditionReady (c .before .before .before .args .base) (c .before .before .before .args .t4) (c .before .before .before .args .before)) (c .before .condition2 .given .1) (c .before .before .before .pre .1) in omega arith
 
@@ -39,9 +33,6 @@ array-read-requirement-words c = let f = subst (ConditionReady (c .before .befor
 
 requirement-words-requires : tie.Need-requirement-words-requires
 requirement-words-requires c κs = let f = subst (ConditionReady (c .before .before .before .args .base) (c .before .before .before .args .t4) (c .before .before .before .args .before)) (c .before .condition2 .given .1) (c .before .before .before .pre .1) in (c .before .before .before .pre .0, omega arith, omega (arith, f .1), f .2)
-
-enum-known-condition-3 : tie.Need-enum-known-condition-3
-enum-known-condition-3 c = search needs
 
 add-requirement-words : tie.Need-add-requirement-words
 add-requirement-words c = let f = subst (ConditionReady (c .before .before .before .args .base) (c .before .before .before .args .t4) (c .before .before .before .args .before)) (c .before .condition3 .given .1) (c .before .before .before .pre .1) in omega arith
@@ -62,18 +53,18 @@ pub clause-words-spec : {M : Type 1} → statement M
 clause-words-spec =
     tie.close
     (tie.spec
-    enum-known-condition
+    (λ c. search needs)
     mul-t14
     array-read-t17
     cast-t18
     mul-t19
     array-read-t22
     cast-t23
-    enum-known-condition-2
+    (λ c. search needs)
     mul-requirement-words
     array-read-requirement-words
     requirement-words-requires
-    enum-known-condition-3
+    (λ c. search needs)
     add-requirement-words
     requirement-words-requires-2
     returns

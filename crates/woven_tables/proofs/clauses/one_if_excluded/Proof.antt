@@ -5,15 +5,6 @@ use borrow.Author.Needs.{needs}
 use Rattle.woven_tables.proofs.clauses.one_if_excluded.Statement.{statement}
 use Rattle.woven_tables.proofs.clauses.one_if_excluded.Tie as tie
 
-enum-told : tie.Need-enum-told
-enum-told c = search needs
-
-enum-told-2 : tie.Need-enum-told-2
-enum-told-2 c = search needs
-
-enum-told-3 : tie.Need-enum-told-3
-enum-told-3 c = search needs
-
 returns : tie.Need-returns
 unfolding oneIfExcluded
 returns c = ap oneIfExcluded (sym (c .enum-told .given .1))
@@ -28,4 +19,4 @@ returns-3 c = ap oneIfExcluded (sym (c .enum-told3 .given .1))
 
 pub one-if-excluded-spec : {M : Type 1} → statement M
 one-if-excluded-spec =
-    tie.close (tie.spec enum-told enum-told-2 enum-told-3 returns returns-2 returns-3)
+    tie.close (tie.spec (λ c. search needs) (λ c. search needs) (λ c. search needs) returns returns-2 returns-3)

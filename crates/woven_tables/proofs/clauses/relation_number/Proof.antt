@@ -8,24 +8,6 @@ use borrow.Author.Needs.{needs}
 use Rattle.woven_tables.proofs.clauses.relation_number.Statement.{statement}
 use Rattle.woven_tables.proofs.clauses.relation_number.Tie as tie
 
-enum-told : tie.Need-enum-told
-enum-told c = search needs
-
-enum-told-2 : tie.Need-enum-told-2
-enum-told-2 c = search needs
-
-enum-told-3 : tie.Need-enum-told-3
-enum-told-3 c = search needs
-
-enum-told-4 : tie.Need-enum-told-4
-enum-told-4 c = search needs
-
-enum-told-5 : tie.Need-enum-told-5
-enum-told-5 c = search needs
-
-enum-told-6 : tie.Need-enum-told-6
-enum-told-6 c = search needs
-
 returns : tie.Need-returns
 unfolding relationAt relationOf
 returns c = (omega arith, relation-said (c .before .before .args .relation) _ 0 (c .enum-told .given .1) refl)
@@ -54,12 +36,12 @@ pub relation-number-spec : {M : Type 1} → statement M
 relation-number-spec =
     tie.close
     (tie.spec
-    enum-told
-    enum-told-2
-    enum-told-3
-    enum-told-4
-    enum-told-5
-    enum-told-6
+    (λ c. search needs)
+    (λ c. search needs)
+    (λ c. search needs)
+    (λ c. search needs)
+    (λ c. search needs)
+    (λ c. search needs)
     returns
     returns-2
     returns-3

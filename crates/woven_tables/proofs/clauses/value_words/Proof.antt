@@ -7,18 +7,6 @@ use borrow.Author.Needs.{needs}
 use Rattle.woven_tables.proofs.clauses.value_words.Statement.{statement}
 use Rattle.woven_tables.proofs.clauses.value_words.Tie as tie
 
-enum-known-value : tie.Need-enum-known-value
-enum-known-value c = search needs
-
-cast-t10 : tie.Need-cast-t10
-cast-t10 c = search needs
-
-cast-t13 : tie.Need-cast-t13
-cast-t13 c = search needs
-
-enum-known-value-2 : tie.Need-enum-known-value-2
-enum-known-value-2 c = search needs
-
 add-t16 : tie.Need-add-t16
 add-t16 c = let f = subst (ValueFits (c .before .before .before .args .base)) (c .before .value2 .given .1) (c .before .before .before .pre) in omega arith
 
@@ -27,9 +15,6 @@ cast-t17 c = let f = subst (ValueFits (c .before .before .before .args .base)) (
 
 cast-t19 : tie.Need-cast-t19
 cast-t19 c = let f = subst (ValueFits (c .before .before .before .args .base)) (c .before .value2 .given .1) (c .before .before .before .pre) in omega arith
-
-enum-known-value-3 : tie.Need-enum-known-value-3
-enum-known-value-3 c = search needs
 
 returns : tie.Need-returns
 returns c = number-said (c .before .before .before .args .base) (c .before .before .before .args .value) _ (c .before .value .given .1)
@@ -47,14 +32,14 @@ pub value-words-spec : {M : Type 1} → statement M
 value-words-spec =
     tie.close
     (tie.spec
-    enum-known-value
-    cast-t10
-    cast-t13
-    enum-known-value-2
+    (λ c. search needs)
+    (λ c. search needs)
+    (λ c. search needs)
+    (λ c. search needs)
     add-t16
     cast-t17
     cast-t19
-    enum-known-value-3
+    (λ c. search needs)
     returns
     returns-2
     returns-3

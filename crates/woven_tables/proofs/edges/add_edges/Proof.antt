@@ -18,15 +18,6 @@ abbrev μ-loop : tie.MeasureT-loop
 loop-holds : tie.Need-loop-holds Inv-loop μ-loop
 loop-holds c = (omega arith, edges-start (c .before .args .base) (c .before .args .k) (c .before .args .t3) (c .before .args .t5) (c .before .args .words .now) (c .before .args .woven))
 
-mul-e : tie.Need-mul-e Inv-loop μ-loop
-mul-e c = search needs
-
-array-copy-out-e : tie.Need-array-copy-out-e Inv-loop μ-loop
-array-copy-out-e c = search needs
-
-add-at : tie.Need-add-at Inv-loop μ-loop
-add-at c = search needs
-
 mul-edge-word : tie.Need-mul-edge-word Inv-loop μ-loop
 mul-edge-word c = let f = c .before .before .before .before .before .pre .0 .fit (c .before .before .before .loop .i) (omega arith) in omega (arith, f .from)
 
@@ -42,12 +33,6 @@ array-read-edge-word-2 c = let f = c .before .before .before .before .before .pr
 edge-word-requires : tie.Need-edge-word-requires Inv-loop μ-loop
 edge-word-requires c κs = let f = c .before .before .before .before .before .pre .0 .fit (c .before .before .before .loop .i) (omega arith) in omega (arith, f .label, f .woven-from, f .woven-to)
 
-add-words : tie.Need-add-words Inv-loop μ-loop
-add-words c = search needs
-
-mul-words : tie.Need-mul-words Inv-loop μ-loop
-mul-words c = search needs
-
 slice-write-words : tie.Need-slice-write-words Inv-loop μ-loop
 slice-write-words c = omega (arith, c .before .before .before .before .loop .inv .1 .size, c .before .before .before .before .before .before .pre .0 .room, c .before .before .before .before .before .before .pre .1)
 
@@ -57,20 +42,8 @@ add-name-word c = let f = c .before .before .before .before .before .before .bef
 name-word-requires : tie.Need-name-word-requires Inv-loop μ-loop
 name-word-requires c κs = let f = c .before .before .before .before .before .before .before .pre .0 .fit (c .before .before .before .before .before .loop .i) (omega arith) in (c .before .before .before .before .before .before .before .pre .0 .few-texts, f .name .0, f .name .1)
 
-add-words-2 : tie.Need-add-words-2 Inv-loop μ-loop
-add-words-2 c = search needs
-
-mul-words-2 : tie.Need-mul-words-2 Inv-loop μ-loop
-mul-words-2 c = search needs
-
 slice-write-words-2 : tie.Need-slice-write-words-2 Inv-loop μ-loop
 slice-write-words-2 c = simp length-set (omega (arith, c .before .before .before .before .before .before .loop .inv .1 .size, c .before .before .before .before .before .before .before .before .pre .0 .room, c .before .before .before .before .before .before .before .before .pre .1))
-
-add-i : tie.Need-add-i Inv-loop μ-loop
-add-i c = search needs
-
-loop-less : tie.Need-loop-less Inv-loop μ-loop
-loop-less c = search needs
 
 loop-again : tie.Need-loop-again Inv-loop μ-loop
 loop-again c =
@@ -97,24 +70,24 @@ add-edges-spec =
     Inv-loop
     μ-loop
     loop-holds
-    mul-e
-    array-copy-out-e
-    add-at
+    (λ c. search needs)
+    (λ c. search needs)
+    (λ c. search needs)
     mul-edge-word
     array-read-edge-word
     mul-edge-word-2
     array-read-edge-word-2
     edge-word-requires
-    add-words
-    mul-words
+    (λ c. search needs)
+    (λ c. search needs)
     slice-write-words
     add-name-word
     name-word-requires
-    add-words-2
-    mul-words-2
+    (λ c. search needs)
+    (λ c. search needs)
     slice-write-words-2
-    add-i
-    loop-less
+    (λ c. search needs)
+    (λ c. search needs)
     loop-again
     same-length
     returns)

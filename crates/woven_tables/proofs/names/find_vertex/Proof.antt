@@ -22,24 +22,9 @@ abbrev μ-loop : tie.MeasureT-loop
 loop-holds : tie.Need-loop-holds Inv-loop μ-loop
 loop-holds c = (omega arith, scan-none _ (λ j. vertexOfWord (c .before .before .before .args .query .now) (c .before .before .before .args .rules .now) (getD (c .before .before .before .args .words .now) j 0)))
 
-mul-same-vertex : tie.Need-mul-same-vertex Inv-loop μ-loop
-mul-same-vertex c = search needs
-
-shared-slice-read-same-vertex : tie.Need-shared-slice-read-same-vertex Inv-loop μ-loop
-shared-slice-read-same-vertex c = search needs
-
-same-vertex-requires : tie.Need-same-vertex-requires Inv-loop μ-loop
-same-vertex-requires c κs = search needs
-
 returns : tie.Need-returns Inv-loop μ-loop
 unfolding placeVertex verticesAt
 returns c = sym (scan-place (sameVertex (vertexOfWord (c .before .before .before .before .before .before .before .before .args .query .now) (c .before .before .before .before .before .before .before .before .args .rules .now) (c .before .before .before .before .before .before .before .before .args .word))) (λ j. vertexOfWord (c .before .before .before .before .before .before .before .before .args .query .now) (c .before .before .before .before .before .before .before .before .args .rules .now) (getD (c .before .before .before .before .before .before .before .before .args .words .now) j 0)) (c .before .before .before .before .before .before .before .before .args .count) (c .before .before .before .before .loop .i) (c .before .before .before .loop-test .taken) (c .before .before .before .before .loop .inv .1) (sym (c .before .same-vertex .ensures) ∙ c .if1 .taken))
-
-add-i : tie.Need-add-i Inv-loop μ-loop
-add-i c = search needs
-
-loop-less : tie.Need-loop-less Inv-loop μ-loop
-loop-less c = search needs
 
 loop-again : tie.Need-loop-again Inv-loop μ-loop
 loop-again c = (omega arith, scan-on (sameVertex (vertexOfWord (c .before .before .before .before .before .before .before .before .args .query .now) (c .before .before .before .before .before .before .before .before .args .rules .now) (c .before .before .before .before .before .before .before .before .args .word))) (λ j. vertexOfWord (c .before .before .before .before .before .before .before .before .args .query .now) (c .before .before .before .before .before .before .before .before .args .rules .now) (getD (c .before .before .before .before .before .before .before .before .args .words .now) j 0)) (c .before .before .before .before .loop .i) (c .before .before .before .before .loop .inv .1) (sym (c .before .same-vertex .ensures) ∙ c .if1 .left))
@@ -55,11 +40,11 @@ find-vertex-spec =
     Inv-loop
     μ-loop
     loop-holds
-    mul-same-vertex
-    shared-slice-read-same-vertex
-    same-vertex-requires
+    (λ c. search needs)
+    (λ c. search needs)
+    (λ c κs. search needs)
     returns
-    add-i
-    loop-less
+    (λ c. search needs)
+    (λ c. search needs)
     loop-again
     returns-2)

@@ -24,30 +24,12 @@ abbrev μ-loop : tie.MeasureT-loop
 loop-holds : tie.Need-loop-holds Inv-loop μ-loop
 loop-holds c = (omega arith, scan-none (same (nameOf (c .before .before .before .args .query .now) (c .before .before .before .args .rules .now) (c .before .before .before .args .word))) (λ j. nameIn (c .before .before .before .args .rules .now) (getD (c .before .before .before .args .actors .now) j 0)))
 
-mul-w : tie.Need-mul-w Inv-loop μ-loop
-mul-w c = search needs
-
-shared-slice-read-w : tie.Need-shared-slice-read-w Inv-loop μ-loop
-shared-slice-read-w c = search needs
-
 cast-w : tie.Need-cast-w Inv-loop μ-loop
 cast-w c = omega (arith, c .shared-slice-known4 .given (c .before .before .loop .i))
-
-part-requires : tie.Need-part-requires Inv-loop μ-loop
-part-requires c κs = search needs
-
-says-requires : tie.Need-says-requires Inv-loop μ-loop
-says-requires c κs = search needs
 
 returns : tie.Need-returns Inv-loop μ-loop
 unfolding mem actorsAt nameIn
 returns c = sym (scan-found (same (nameOf (c .before .before .before .before .before .before .before .before .before .args .query .now) (c .before .before .before .before .before .before .before .before .before .args .rules .now) (c .before .before .before .before .before .before .before .before .before .args .word))) (λ j. nameIn (c .before .before .before .before .before .before .before .before .before .args .rules .now) (getD (c .before .before .before .before .before .before .before .before .before .args .actors .now) j 0)) (c .before .before .before .before .before .before .before .before .before .args .count) (c .before .before .before .before .before .loop .i) (c .before .before .before .before .loop-test .taken) (ap (same (nameOf (c .before .before .before .before .before .before .before .before .before .args .query .now) (c .before .before .before .before .before .before .before .before .before .args .rules .now) (c .before .before .before .before .before .before .before .before .before .args .word))) (sym (c .before .before .part .ensures)) ∙ sym (c .before .says .ensures) ∙ c .if1 .taken))
-
-add-i : tie.Need-add-i Inv-loop μ-loop
-add-i c = search needs
-
-loop-less : tie.Need-loop-less Inv-loop μ-loop
-loop-less c = search needs
 
 loop-again : tie.Need-loop-again Inv-loop μ-loop
 unfolding nameIn
@@ -64,13 +46,13 @@ is-actor-spec =
     Inv-loop
     μ-loop
     loop-holds
-    mul-w
-    shared-slice-read-w
+    (λ c. search needs)
+    (λ c. search needs)
     cast-w
-    part-requires
-    says-requires
+    (λ c κs. search needs)
+    (λ c κs. search needs)
     returns
-    add-i
-    loop-less
+    (λ c. search needs)
+    (λ c. search needs)
     loop-again
     returns-2)

@@ -5,9 +5,6 @@ use borrow.Author.Needs.{needs}
 use Rattle.woven_tables.proofs.names.same_vertex.Statement.{statement}
 use Rattle.woven_tables.proofs.names.same_vertex.Tie as tie
 
-say-the-same-requires : tie.Need-say-the-same-requires
-say-the-same-requires c κs = search needs
-
 returns : tie.Need-returns
 returns c = c .say-the-same .ensures ∙ sym (actor-and-actor (c .before .before .before .before .before .args .query .now) (c .before .before .before .before .before .args .rules .now) (c .before .before .before .before .before .args .a) (c .before .before .before .before .before .args .b) (c .before .before .if1 .taken) (c .before .if2 .taken))
 
@@ -16,9 +13,6 @@ returns-2 c = sym (actor-and-own (c .before .before .before .before .args .query
 
 returns-3 : tie.Need-returns-3
 returns-3 c = sym (own-and-actor (c .before .before .before .before .args .query .now) (c .before .before .before .before .args .rules .now) (c .before .before .before .before .args .a) (c .before .before .before .before .args .b) (c .before .if1 .left) (c .if3 .taken))
-
-say-the-same-requires-2 : tie.Need-say-the-same-requires-2
-say-the-same-requires-2 c κs = search needs
 
 returns-4 : tie.Need-returns-4
 returns-4 c = c .say-the-same2 .ensures ∙ sym (own-of-one-text (c .before .before .before .before .before .before .args .query .now) (c .before .before .before .before .before .before .args .rules .now) (c .before .before .before .before .before .before .args .a) (c .before .before .before .before .before .before .args .b) (c .before .before .before .if1 .left) (c .before .before .if3 .left) (c .before .if4 .taken))
@@ -30,10 +24,10 @@ pub same-vertex-spec : {M : Type 1} → statement M
 same-vertex-spec =
     tie.close
     (tie.spec
-    say-the-same-requires
+    (λ c κs. search needs)
     returns
     returns-2
     returns-3
-    say-the-same-requires-2
+    (λ c κs. search needs)
     returns-4
     returns-5)

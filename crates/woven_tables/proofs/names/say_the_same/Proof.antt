@@ -7,20 +7,8 @@ use borrow.Author.Needs.{needs}
 use Rattle.woven_tables.proofs.names.say_the_same.Statement.{statement}
 use Rattle.woven_tables.proofs.names.say_the_same.Tie as tie
 
-part-requires : tie.Need-part-requires
-part-requires c κs = search needs
-
-says-requires : tie.Need-says-requires
-says-requires c κs = search needs
-
 returns : tie.Need-returns
 returns c = c .says .ensures ∙ ap (same (nameOf (c .before .before .before .before .before .args .query .now) (c .before .before .before .before .before .args .rules .now) (c .before .before .before .before .before .args .a))) (c .before .part .ensures ∙ sym (in-query (c .before .before .before .before .before .args .query .now) (c .before .before .before .before .before .args .rules .now) (c .before .before .before .before .before .args .b) (c .before .before .if1 .taken)))
-
-part-requires-2 : tie.Need-part-requires-2
-part-requires-2 c κs = search needs
-
-says-requires-2 : tie.Need-says-requires-2
-says-requires-2 c κs = search needs
 
 returns-2 : tie.Need-returns-2
 returns-2 c = c .says2 .ensures ∙ ap (same (nameOf (c .before .before .before .before .before .args .query .now) (c .before .before .before .before .before .args .rules .now) (c .before .before .before .before .before .args .a))) (c .before .part2 .ensures ∙ sym (in-rules (c .before .before .before .before .before .args .query .now) (c .before .before .before .before .before .args .rules .now) (c .before .before .before .before .before .args .b) (c .before .before .if1 .left)))
@@ -28,4 +16,4 @@ returns-2 c = c .says2 .ensures ∙ ap (same (nameOf (c .before .before .before 
 pub say-the-same-spec : {M : Type 1} → statement M
 say-the-same-spec =
     tie.close
-    (tie.spec part-requires says-requires returns part-requires-2 says-requires-2 returns-2)
+    (tie.spec (λ c κs. search needs) (λ c κs. search needs) returns (λ c κs. search needs) (λ c κs. search needs) returns-2)

@@ -6,20 +6,8 @@ use borrow.Author.Needs.{needs}
 use Rattle.woven_tables.proofs.names.says.Statement.{statement}
 use Rattle.woven_tables.proofs.names.says.Tie as tie
 
-part-requires : tie.Need-part-requires
-part-requires c κs = search needs
-
-same-bytes-requires : tie.Need-same-bytes-requires
-same-bytes-requires c κs = search needs
-
 returns : tie.Need-returns
 returns c = c .same-bytes .ensures ∙ ap (λ x. same x (c .before .before .before .before .before .before .args .name .now)) (c .before .part .ensures ∙ sym (in-query (c .before .before .before .before .before .before .args .query .now) (c .before .before .before .before .before .before .args .rules .now) (c .before .before .before .before .before .before .args .word) (c .before .before .if1 .taken)))
-
-part-requires-2 : tie.Need-part-requires-2
-part-requires-2 c κs = search needs
-
-same-bytes-requires-2 : tie.Need-same-bytes-requires-2
-same-bytes-requires-2 c κs = search needs
 
 returns-2 : tie.Need-returns-2
 returns-2 c = c .same-bytes2 .ensures ∙ ap (λ x. same x (c .before .before .before .before .before .before .args .name .now)) (c .before .part2 .ensures ∙ sym (in-rules (c .before .before .before .before .before .before .args .query .now) (c .before .before .before .before .before .before .args .rules .now) (c .before .before .before .before .before .before .args .word) (c .before .before .if1 .left)))
@@ -28,9 +16,9 @@ pub says-spec : {M : Type 1} → statement M
 says-spec =
     tie.close
     (tie.spec
-    part-requires
-    same-bytes-requires
+    (λ c κs. search needs)
+    (λ c κs. search needs)
     returns
-    part-requires-2
-    same-bytes-requires-2
+    (λ c κs. search needs)
+    (λ c κs. search needs)
     returns-2)

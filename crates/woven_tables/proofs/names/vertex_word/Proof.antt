@@ -7,15 +7,6 @@ use borrow.Author.Needs.{needs}
 use Rattle.woven_tables.proofs.names.vertex_word.Statement.{statement}
 use Rattle.woven_tables.proofs.names.vertex_word.Tie as tie
 
-mul-result : tie.Need-mul-result
-mul-result c = search needs
-
-add-result : tie.Need-add-result
-add-result c = search needs
-
-mul-result-2 : tie.Need-mul-result-2
-mul-result-2 c = search needs
-
 returns : tie.Need-returns
 returns c = ap (λ t. c .before .args .name * 2 + pick t 1 0) (sym (c .if1 .taken))
 
@@ -23,4 +14,4 @@ returns-2 : tie.Need-returns-2
 returns-2 c = let e : c .before .args .name * 2 ≡ c .before .args .name * 2 + 0 = omega arith in e ∙ ap (λ t. c .before .args .name * 2 + pick t 1 0) (sym (c .if1 .left))
 
 pub vertex-word-spec : {M : Type 1} → statement M
-vertex-word-spec = tie.close (tie.spec mul-result add-result mul-result-2 returns returns-2)
+vertex-word-spec = tie.close (tie.spec (λ c. search needs) (λ c. search needs) (λ c. search needs) returns returns-2)

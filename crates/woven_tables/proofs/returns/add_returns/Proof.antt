@@ -33,20 +33,8 @@ array-read-words c = let f = c .before .before .pre .0 .fit (c .before .loop .i)
 cast-words : tie.Need-cast-words Inv-loop μ-loop
 cast-words c = let f = c .before .before .pre .0 .fit (c .before .loop .i) (omega arith) in omega (arith, f .1)
 
-add-words : tie.Need-add-words Inv-loop μ-loop
-add-words c = search needs
-
-mul-words-2 : tie.Need-mul-words-2 Inv-loop μ-loop
-mul-words-2 c = search needs
-
 slice-write-words : tie.Need-slice-write-words Inv-loop μ-loop
 slice-write-words c = omega (arith, c .before .loop .inv .1 .size, c .before .before .pre .0 .few, c .before .before .pre .1)
-
-add-i : tie.Need-add-i Inv-loop μ-loop
-add-i c = search needs
-
-loop-less : tie.Need-loop-less Inv-loop μ-loop
-loop-less c = search needs
 
 loop-again : tie.Need-loop-again Inv-loop μ-loop
 loop-again c =
@@ -75,11 +63,11 @@ add-returns-spec =
     mul-words
     array-read-words
     cast-words
-    add-words
-    mul-words-2
+    (λ c. search needs)
+    (λ c. search needs)
     slice-write-words
-    add-i
-    loop-less
+    (λ c. search needs)
+    (λ c. search needs)
     loop-again
     same-length
     returns)

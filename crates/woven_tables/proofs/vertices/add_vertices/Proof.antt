@@ -20,12 +20,6 @@ abbrev μ-loop : tie.MeasureT-loop
 loop-holds : tie.Need-loop-holds Inv-loop μ-loop
 loop-holds c = (omega arith, vertices-start (c .before .before .before .before .args .query .now) (c .before .before .before .before .args .rules .now) _ (c .before .before .before .before .args .words .now) (c .before .before .before .before .args .woven) _ (omega arith) refl)
 
-mul-p : tie.Need-mul-p Inv-loop μ-loop
-mul-p c = search needs
-
-array-copy-out-p : tie.Need-array-copy-out-p Inv-loop μ-loop
-array-copy-out-p c = search needs
-
 add-vertex-of : tie.Need-add-vertex-of Inv-loop μ-loop
 add-vertex-of c = omega (arith, c .before .before .before .before .before .before .before .before .pre .0 .fit (c .before .before .before .loop .i) (omega arith))
 
@@ -48,18 +42,6 @@ returns c =
     let all = length-names (drop (a .base) text) (a .k) actors (a .t7) (a .count) few in
     vertices-passed (a .query .now) (a .rules .now) (textVertices (drop (a .base) text) (a .k) actors (a .t7) (a .count)) (a .words .now) (c .before .before .before .before .before .before .before .before .before .loop .words) (a .woven) (c .before .before .before .before .before .before .before .before .before .loop .n) (c .before .before .before .before .before .before .before .before .before .loop .i) (c .before .before .before .before .before .before .before .before .before .loop .numbers) (c .before .before .before .before .before .before .before .before .before .loop .inv .1) (omega arith)
     (c .before .before .before .place-vertex .last .1 .1 .0) (c .before .before .before .before .before .vertex-of .result) (c .before .before .before .place-vertex .result) (c .before .before .before .place-vertex .ensures) (c .before .before .before .before .before .vertex-of .ensures ∙ own-says text (a .base) (a .k) actors (a .t7) (a .count) few (c .before .before .before .before .before .before .before .before .before .loop .i) (c .before .before .before .before .before .before .before .before .loop-test .taken)) (a .count) all (c .if1 .taken)
-
-mul-numbers : tie.Need-mul-numbers Inv-loop μ-loop
-mul-numbers c = search needs
-
-array-write-numbers : tie.Need-array-write-numbers Inv-loop μ-loop
-array-write-numbers c = search needs
-
-add-i : tie.Need-add-i Inv-loop μ-loop
-add-i c = search needs
-
-loop-less : tie.Need-loop-less Inv-loop μ-loop
-loop-less c = search needs
 
 loop-again : tie.Need-loop-again Inv-loop μ-loop
 loop-again c =
@@ -95,17 +77,17 @@ add-vertices-spec =
     Inv-loop
     μ-loop
     loop-holds
-    mul-p
-    array-copy-out-p
+    (λ c. search needs)
+    (λ c. search needs)
     add-vertex-of
     vertex-of-requires
     place-vertex-requires
     same-length
     returns
-    mul-numbers
-    array-write-numbers
-    add-i
-    loop-less
+    (λ c. search needs)
+    (λ c. search needs)
+    (λ c. search needs)
+    (λ c. search needs)
     loop-again
     same-length-2
     returns-2)
