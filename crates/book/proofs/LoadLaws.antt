@@ -61,7 +61,8 @@ empty-fits text words room = record {
   of-rels = λ i l. absurd (omega arith);
   counted = ap entryCount (empty-is text (withoutChains words));
   node-chains =
-      chained-kept (cleared words nodeHeads keys) (withoutChains words) nodeHeads nodeLinks keys (nodeSlot text (withoutChains words)) (nodeSlot text (withoutChains words)) 0
+      chained-kept (cleared words nodeHeads keys) (withoutChains words) nodeHeads nodeLinks keys (nodeSlot text (withoutChains words))
+      (nodeSlot text (withoutChains words)) 0
       (cleared-chained words nodeHeads nodeLinks keys (nodeSlot text (withoutChains words)) (omega arith))
       (λ k l. cleared-before (cleared words nodeHeads keys) fromHeads keys (nodeHeads + k) (omega arith))
       (λ i l. absurd (omega arith))
@@ -94,10 +95,12 @@ unfolding bookStepBy lineAt formOf
 line-closed rule text from to b h = rw (lt-ltb to (length text) h)
 
 -- what reading its form asks
-pub line-asked : (text : Bytes) (words : List ℕ) (c : BookCounts) (from to : ℕ) → LineAsked text words c from to → FormAsked text (take (to - from) (drop from text)) words c from
+pub line-asked : (text : Bytes) (words : List ℕ) (c : BookCounts) (from to : ℕ) → LineAsked text words c from to
+    → FormAsked text (take (to - from) (drop from text)) words c from
 unfolding partOf
 line-asked text words c from to a =
-    let n : length (take (to - from) (drop from text)) ≡ to - from = length-take-le (to - from) (drop from text) (omega (arith, length-drop from text, a .inside)) in
+    let n : length (take (to - from) (drop from text)) ≡ to - from = length-take-le (to - from) (drop from text)
+    (omega (arith, length-drop from text, a .inside)) in
     record {
       fits = a .fits;
       limit = a .limit;

@@ -98,7 +98,8 @@ fn line_step(
     rule: NameRule,
 ) -> LineStep
     requires { ⌜ LineAsked (now text) (now words) counts from to ⌝ }
-    ensures { λ r. ⌜ Stepped (now (text .entry)) (now (words .exit)) r (bookStepBy rule (bookAt (now (text .entry)) (now (words .entry)) counts) (lineAt (now (text .entry)) from to)) ⌝ }
+    ensures { λ r. ⌜ Stepped (now (text .entry)) (now (words .exit)) r
+        (bookStepBy rule (bookAt (now (text .entry)) (now (words .entry)) counts) (lineAt (now (text .entry)) from to)) ⌝ }
 {
     if text.len() <= to {
         return LineStep::Fault(BROKEN);

@@ -42,7 +42,8 @@ module _ (text : Bytes) (words : List ℕ) (c : BookCounts) (offset declared : �
     counted = refl;
     after = λ es h. record {
       count = omega (arith, length-append es (entry ∷ []), h .count);
-      fault = sym (fault-undeclared (attrsAt text words offset declared) es entry (ap (mem (nameAt text name)) (attr-names text words offset declared) ∙ undeclared-mem l));
+      fault = sym (fault-undeclared (attrsAt text words offset declared) es entry
+          (ap (mem (nameAt text name)) (attr-names text words offset declared) ∙ undeclared-mem l));
       seen = seen-same text words offset declared (asked .table .names) entry (undeclared-mem l) (known .seen) es (h .seen);
       stored = λ z room. absurd (omega arith);
     };
@@ -66,14 +67,17 @@ module _ (text : Bytes) (words : List ℕ) (c : BookCounts) (offset declared : �
     after-fault : (es : List Entry) → EntriesKnown text words c offset declared es known
         → lower (known .fault) (entryFault true seen suited) ≡ entriesFault (attrsAt text words′ offset declared) (es ++ (entry ∷ []))
     after-fault es h =
-        let seen-mem : seen ≡ mem (nameAt text name) (map (λ (x : Entry). x .attr) es) = is-seen ∙ h .seen a l ∙ ap (λ (w : Bytes). mem w (map (λ (x : Entry). x .attr) es)) named in
-        let suited-is : suited ≡ suits (attrsAt text words offset declared) entry = is-suited ∙ sym (suits-kind text words offset declared (asked .table .names) a l entry named) in
+        let seen-mem : seen ≡ mem (nameAt text name) (map (λ (x : Entry). x .attr) es) = is-seen ∙ h .seen a l
+        ∙ ap (λ (w : Bytes). mem w (map (λ (x : Entry). x .attr) es)) named in
+        let suited-is : suited ≡ suits (attrsAt text words offset declared) entry = is-suited
+        ∙ sym (suits-kind text words offset declared (asked .table .names) a l entry named) in
         rw (attrs-same, fault-more (attrsAt text words offset declared) es entry, is-declared, ← seen-mem, ← suited-is, ← h .fault)
 
     pub entry-declared : EntryAdded text words words′ c offset declared name value known
         (record { fault = lower (known .fault) (entryFault true seen suited); seen = with (known .seen) a; count = known .count + 1 })
     entry-declared = record {
-      agrees = agree-counted c (known .count) words words′ (put-agrees words words′ (c .entries + known .count) a value put c (asked .fits .within) (known .count) (omega arith));
+      agrees = agree-counted c (known .count) words words′
+          (put-agrees words words′ (c .entries + known .count) a value put c (asked .fits .within) (known .count) (omega arith));
       counted = refl;
       after = λ es h. record {
         count = omega (arith, length-append es (entry ∷ []), h .count);
@@ -83,8 +87,10 @@ module _ (text : Bytes) (words : List ℕ) (c : BookCounts) (offset declared : �
         stored = λ z room.
             let n = length-append es (entry ∷ []) in
             let q = h .count in
-            put-stored words words′ (c .entries + known .count) a value put text offset declared (asked .table .low) (asked .fits .room) (omega arith) l (asked .table .few)
-            (asked .value-inside) entry named refl c (asked .fits .within) es (omega arith) (h .stored (lower-none (known .fault) (entryFault true seen suited) z) (omega arith));
+            put-stored words words′ (c .entries + known .count) a value put text offset declared (asked .table .low) (asked .fits .room) (omega arith) l
+            (asked .table .few)
+            (asked .value-inside) entry named refl c (asked .fits .within) es (omega arith)
+            (h .stored (lower-none (known .fault) (entryFault true seen suited) z) (omega arith));
       };
     }
 

@@ -48,7 +48,8 @@ fault-more ds es e =
       twice-end (map (λ (x : Entry). x .attr) es) (e .attr),
       all-end (suits ds) es e,
     )
-    (cases (undeclared ds es) (twice (map (λ (x : Entry). x .attr) es)) (all (suits ds) es) (mem (e .attr) (attrNames ds)) (mem (e .attr) (map (λ (x : Entry). x .attr) es)) (suits ds e))
+    (cases (undeclared ds es) (twice (map (λ (x : Entry). x .attr) es)) (all (suits ds) es) (mem (e .attr) (attrNames ds))
+    (mem (e .attr) (map (λ (x : Entry). x .attr) es)) (suits ds e))
 
 -- an attribute that is not declared
 pub fault-undeclared : (ds : List Attr) (es : List Entry) (e : Entry) → mem (e .attr) (attrNames ds) ≡ false → entriesFault ds (es ++ (e ∷ [])) ≡ 4

@@ -34,7 +34,8 @@ module _ (words : List ℕ) (k x y z : ℕ) where
   abbrev two : List ℕ
   two = set one (entries + 3 * k + 1) y
 
-  with-agrees : (c : BookCounts) → Free c (entries + 3 * k) → Free c (entries + 3 * k + 1) → Free c (entries + 3 * k + 2) → Agree c words (withEntry words k x y z)
+  with-agrees : (c : BookCounts) → Free c (entries + 3 * k) → Free c (entries + 3 * k + 1) → Free c (entries + 3 * k + 2)
+      → Agree c words (withEntry words k x y z)
   unfolding withEntry
   with-agrees c f g h =
       agree-trans c words two (set two (entries + 3 * k + 2) z)
@@ -89,7 +90,8 @@ module _ (words words′ : List ℕ) (k attribute : ℕ) (value : Value) (put : 
       (agree-same (pending c n) words)
 
   pub put-low : (q : ℕ) → q < entries → wordAt words′ q ≡ wordAt words q
-  put-low q l = by-room (λ (x : List ℕ). wordAt x q ≡ wordAt words q) (λ r. with-low words k (attribute * 4 + put .said .kind) (put .said .first) (put .said .second) q l) refl
+  put-low q l = by-room (λ (x : List ℕ). wordAt x q ≡ wordAt words q)
+      (λ r. with-low words k (attribute * 4 + put .said .kind) (put .said .first) (put .said .second) q l) refl
 
   put-there : k < 2048 → words′ ≡ stored-words
   put-there l = put .put ∙ rw (lt-ltb k 2048 l)

@@ -72,7 +72,14 @@ module _ (text : Bytes) (words : List ℕ) (offset declared : ℕ) (f : NamesFit
         → (b : ℕ) → b < declared → bit (with seen a) b ≡ mem (nameOf text words offset b) (map (λ x. x .attr) (es ++ (e ∷ [])))
     seen-more seen es h b m =
         bit-with seen a b
-        ∙ rw (h b m, map-end (λ (x : Entry). x .attr) es e, mem-end (nameOf text words offset b) (map (λ (x : Entry). x .attr) es) (e .attr), ← named, same-numbers b a m l)
+        ∙ rw (
+          h b m,
+          map-end (λ (x : Entry). x .attr) es e,
+          mem-end (nameOf text words offset b) (map (λ (x : Entry). x .attr) es)
+              (e .attr),
+          ← named,
+          same-numbers b a m l,
+        )
 
   -- an attribute that is not declared is no bit
   pub seen-same : (e : Entry) → mem (e .attr) (namesAt text words offset declared) ≡ false → (seen : ℕ) (es : List Entry)
@@ -81,7 +88,8 @@ module _ (text : Bytes) (words : List ℕ) (offset declared : ℕ) (f : NamesFit
   seen-same e none seen es h b m =
       h b m ∙ sym (ap (mem (nameOf text words offset b)) (map-end (λ (x : Entry). x .attr) es e)
       ∙ mem-end (nameOf text words offset b) (map (λ (x : Entry). x .attr) es) (e .attr)
-      ∙ ap (λ (t : Bool). mem (nameOf text words offset b) (map (λ (x : Entry). x .attr) es) || t) (differ-same _ _ (λ q. absurd (clash (name-mem text words offset declared (e .attr) b m q))))
+      ∙ ap (λ (t : Bool). mem (nameOf text words offset b) (map (λ (x : Entry). x .attr) es) || t)
+      (differ-same _ _ (λ q. absurd (clash (name-mem text words offset declared (e .attr) b m q))))
       ∙ or-false (mem (nameOf text words offset b) (map (λ (x : Entry). x .attr) es)))
     where
       clash : mem (e .attr) (namesAt text words offset declared) ≡ true → ⊥

@@ -45,7 +45,8 @@ abbrev pub entryRead : Bytes → Part → Value → Entry
 entryRead text name value = record { attr = nameAt text name; value = valueOf text value }
 
 -- what adding an entry gives
-pub record EntryAdded (text : Bytes) (words words′ : List ℕ) (c : BookCounts) (offset declared : ℕ) (name : Part) (value : Value) (known known′ : EntriesRead) : Type 0 where
+pub record EntryAdded (text : Bytes) (words words′ : List ℕ) (c : BookCounts) (offset declared : ℕ) (name : Part) (value : Value)
+    (known known′ : EntriesRead) : Type 0 where
   pub agrees : Agree c words words′
   pub counted : known′ .count ≡ known .count + 1
   pub after : (es : List Entry) → EntriesKnown text words c offset declared es known

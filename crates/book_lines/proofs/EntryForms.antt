@@ -88,7 +88,8 @@ module _ (text line : Bytes) (words : List ℕ) (c : BookCounts) (offset declare
   module _ (words′ : List ℕ) (at : ℕ) (known : EntriesRead) (reading : Reading text line words words′ c offset declared from at known)
       (r : EntryRead) (e : NextEntry 2 line at r) where
     -- with one entry more
-    pub reading-on : (base : ℕ) → FormAsked text line words c base → (words″ : List ℕ) (known′ : EntriesRead) (a b : ℕ) (v : Value) (q : ℕ) → r ≡ entry.Entry a b v q
+    pub reading-on : (base : ℕ) → FormAsked text line words c base → (words″ : List ℕ) (known′ : EntriesRead) (a b : ℕ) (v : Value) (q : ℕ)
+        → r ≡ entry.Entry a b v q
         → EntryAdded text words′ words″ c offset declared (record { start = base + a; length = b - a }) (shift base v) known known′
         → Reading text line words words″ c offset declared from q known′
     unfolding nameAt
@@ -96,7 +97,8 @@ module _ (text line : Bytes) (words : List ℕ) (c : BookCounts) (offset declare
         let s = entry-stands line at r e a b v q h in
         let x : Entry = entryRead text (record { start = base + a; length = b - a }) (shift base v) in
         let y : Entry = record { attr = partOf line a (b - a); value = valueOf line v } in
-        let named : nameAt text (record { start = base + a; length = b - a }) ≡ partOf line a (b - a) = part-moved text line base (f .is) (f .inside) a (b - a) (omega (arith, s .inside, s .name)) in
+        let named : nameAt text (record { start = base + a; length = b - a })
+        ≡ partOf line a (b - a) = part-moved text line base (f .is) (f .inside) a (b - a) (omega (arith, s .inside, s .name)) in
         let same : x ≡ y = λ t. record { attr = named t; value = value-moved text line base (f .is) (f .inside) v (s .ends) t } in
         record {
           got = reading .got ++ (x ∷ []);
@@ -111,7 +113,8 @@ module _ (text line : Bytes) (words : List ℕ) (c : BookCounts) (offset declare
         }
 
     -- at the closing bracket
-    pub reading-ends : length line ≤ 65536 → (z : ℕ) → r ≡ entry.Close z → (t : Bool) → t ≡ spacesFrom line z → t ≡ true → EntriesGot text line words′ c offset declared from known
+    pub reading-ends : length line ≤ 65536 → (z : ℕ) → r ≡ entry.Close z → (t : Bool) → t ≡ spacesFrom line z → t ≡ true
+        → EntriesGot text line words′ c offset declared from known
     reading-ends l z h t te th = record {
       got = reading .got;
       form = λ k. reading .form k ∙ entry-close line at r e (λ es. k (reading .got ++ es)) z h ∙ rw (sym te ∙ th) (ap k (append-nil (reading .got)));
@@ -119,7 +122,8 @@ module _ (text line : Bytes) (words : List ℕ) (c : BookCounts) (offset declare
       few = omega (arith, reading .few, reading .inside);
     }
 
-    pub reading-spoilt : (z : ℕ) → r ≡ entry.Close z → (t : Bool) → t ≡ spacesFrom line z → t ≡ false → (k : List Entry → Maybe BookLine) → entriesForm line from k ≡ nothing
+    pub reading-spoilt : (z : ℕ) → r ≡ entry.Close z → (t : Bool) → t ≡ spacesFrom line z → t ≡ false → (k : List Entry → Maybe BookLine)
+        → entriesForm line from k ≡ nothing
     reading-spoilt z h t te th k = reading .form k ∙ entry-close line at r e (λ es. k (reading .got ++ es)) z h ∙ rw (sym te ∙ th)
 
     pub reading-broken : r ≡ entry.None → (k : List Entry → Maybe BookLine) → entriesForm line from k ≡ nothing

@@ -91,15 +91,18 @@ first-then g (i ∷ is) k = go (asWord i)
 
 -- a type, and the rest behind it
 kind-form : {B : Type 0} (line : Bytes) (i : ℕ) (k : Kind → List Item → Maybe B)
-    → formAt false i line (λ is. first (λ x. andThen (asWord x) kindOf) is k) ≡ onKind (kindPiece line (wordNext 3 false line i)) (λ t q. formAt false q line (k t))
+    → formAt false i line (λ is. first (λ x. andThen (asWord x) kindOf) is k)
+    ≡ onKind (kindPiece line (wordNext 3 false line i)) (λ t q. formAt false q line (k t))
 unfolding onPiece kindPiece onKind
 kind-form line i k =
     ap (λ (f : List Item → Maybe _). formAt false i line f) (fun-ext (λ is. first-then kindOf is k))
     ∙ form-word false i line (λ w is. andThen (kindOf w) (λ t. k t is))
     ∙ go (wordNext 3 false line i)
   where
-    go : (r : ItemAt) → onPiece r (λ p q. formAt false q line (λ is. andThen (kindOf (partOf line p (q - p))) (λ t. k t is))) ≡ onKind (kindPiece line r) (λ t q. formAt false q line (k t))
-    go (piece.At p q) = form-then false q line (kindOf (partOf line p (q - p))) k ∙ kind-word line i (partOf line p (q - p)) q (λ t q. formAt false q line (k t))
+    go : (r : ItemAt) → onPiece r (λ p q. formAt false q line (λ is. andThen (kindOf (partOf line p (q - p))) (λ t. k t is)))
+        ≡ onKind (kindPiece line r) (λ t q. formAt false q line (k t))
+    go (piece.At p q) = form-then false q line (kindOf (partOf line p (q - p))) k
+        ∙ kind-word line i (partOf line p (q - p)) q (λ t q. formAt false q line (k t))
     go piece.None = refl
 
 -- NAME TYPE
@@ -113,7 +116,8 @@ module _ (line : Bytes) (from : ℕ) (make : Bytes → Kind → BookLine) (r : I
     unfolding attrLine onPiece
     attr-typed =
         let named : formAt false from line (attrLine make)
-        ≡ formAt false q line (λ is. first (λ x. andThen (asWord x) kindOf) is (λ k is. atEnd is (make (partOf line p (q - p)) k))) = name-form line from _ ∙ rw (sym (e .is) ∙ h) in
+        ≡ formAt false q line (λ is. first (λ x. andThen (asWord x) kindOf) is (λ k is. atEnd is (make (partOf line p (q - p)) k))) = name-form line from _
+        ∙ rw (sym (e .is) ∙ h) in
         named ∙ kind-form line q (λ k is. atEnd is (make (partOf line p (q - p)) k))
         ∙ ap (λ (x : KindRead). onKind x (λ k z. formAt false z line (λ is. atEnd is (make (partOf line p (q - p)) k)))) (sym te)
 
@@ -125,12 +129,15 @@ module _ (line : Bytes) (from : ℕ) (make : Bytes → Kind → BookLine) (r : I
         → formAt false from line (attrLine make) ≡ pick c (just (make (partOf line p (q - p)) (kindIn k))) nothing
     unfolding onKind
     attr-ends k z th c ce =
-        let typed : formAt false from line (attrLine make) ≡ formAt false z line (λ is. atEnd is (make (partOf line p (q - p)) (kindIn k))) = attr-typed ∙ rw th in
-        typed ∙ form-end false z line (make (partOf line p (q - p)) (kindIn k)) ∙ ap (λ (x : Bool). pick {A = Maybe BookLine} x (just (make (partOf line p (q - p)) (kindIn k))) nothing) (sym ce)
+        let typed : formAt false from line (attrLine make) ≡ formAt false z line (λ is. atEnd is (make (partOf line p (q - p)) (kindIn k))) = attr-typed
+        ∙ rw th in
+        typed ∙ form-end false z line (make (partOf line p (q - p)) (kindIn k))
+        ∙ ap (λ (x : Bool). pick {A = Maybe BookLine} x (just (make (partOf line p (q - p)) (kindIn k))) nothing) (sym ce)
 
 -- what was read of an attribute's line
 module _ (line : Bytes) (from : ℕ) (r : AttrRead)
-    (form : (make : Bytes → Kind → BookLine) → formAt false from line (attrLine make) ≡ onAttr line r (λ n k. just (make n k))) (make : Bytes → Kind → BookLine) where
+    (form : (make : Bytes → Kind → BookLine) → formAt false from line (attrLine make) ≡ onAttr line r (λ n k. just (make n k)))
+    (make : Bytes → Kind → BookLine) where
   pub attr-got : (p q k : ℕ) → r ≡ attr.Attr p q k → formAt false from line (attrLine make) ≡ just (make (partOf line p (q - p)) (kindIn k))
   unfolding onAttr
   attr-got p q k e = form make ∙ rw e
@@ -145,11 +152,14 @@ module _ (line : Bytes) (from : ℕ) (r : ItemAt) (e : NextName 3 line from r) w
   unfolding labelLine onPiece
   label-nameless h = name-form line from _ ∙ rw (sym (e .is) ∙ h)
 
-  pub label-ends : (p q : ℕ) → r ≡ piece.At p q → (c : Bool) → c ≡ formCloses line q → formAt false from line labelLine ≡ pick c (just (label (partOf line p (q - p)))) nothing
+  pub label-ends : (p q : ℕ) → r ≡ piece.At p q → (c : Bool) → c ≡ formCloses line q
+      → formAt false from line labelLine ≡ pick c (just (label (partOf line p (q - p)))) nothing
   unfolding labelLine onPiece
   label-ends p q h c ce =
-      let named : formAt false from line labelLine ≡ formAt false q line (λ is. atEnd is (label (partOf line p (q - p)))) = name-form line from _ ∙ rw (sym (e .is) ∙ h) in
-      named ∙ form-end false q line (label (partOf line p (q - p))) ∙ ap (λ (x : Bool). pick {A = Maybe BookLine} x (just (label (partOf line p (q - p)))) nothing) (sym ce)
+      let named : formAt false from line labelLine ≡ formAt false q line (λ is. atEnd is (label (partOf line p (q - p)))) = name-form line from _
+      ∙ rw (sym (e .is) ∙ h) in
+      named ∙ form-end false q line (label (partOf line p (q - p)))
+      ∙ ap (λ (x : Bool). pick {A = Maybe BookLine} x (just (label (partOf line p (q - p)))) nothing) (sym ce)
 
 -- a first word that is none of the five
 pub form-other : (line : Bytes) (i : ℕ) (h : Head) → h ≡ head.Other → formAt false i line (lineOf h) ≡ nothing

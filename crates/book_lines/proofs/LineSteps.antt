@@ -56,7 +56,8 @@ module _ (rule : NameRule) (text line : Bytes) (words : List ℕ) (c : BookCount
   module _ (r : AttrRead) (form : (make : Bytes → Kind → BookLine) → formAt false from line (attrLine make) ≡ onAttr line r (λ n k. just (make n k)))
       (fits : AttrFits line from r) (make : Bytes → Kind → BookLine) where
     pub attr-step : (p q k : ℕ) → r ≡ attr.Attr p q k
-        → formStepOf rule book (formAt false from line (attrLine make)) ≡ stepOf rule book (make (nameAt text (record { start = base + p; length = q - p })) (kindIn k))
+        → formStepOf rule book (formAt false from line (attrLine make))
+        ≡ stepOf rule book (make (nameAt text (record { start = base + p; length = q - p })) (kindIn k))
     attr-step p q k e =
         step-form rule book _ _ (attr-got line from r form make p q k e)
         ∙ ap (λ (n : Bytes). stepOf rule book (make n (kindIn k))) (sym (piece-named text line words c base from p q f (attr-stands line from r p q k fits e)))
@@ -69,7 +70,8 @@ module _ (rule : NameRule) (text line : Bytes) (words : List ℕ) (c : BookCount
     pub label-broken : r ≡ piece.None → formStepOf rule book (formAt false from line labelLine) ≡ fault 3
     label-broken h = step-broken rule book _ (label-nameless line from r e h)
 
-    pub label-open : (p q : ℕ) → r ≡ piece.At p q → (t : Bool) → t ≡ formCloses line q → t ≡ false → formStepOf rule book (formAt false from line labelLine) ≡ fault 3
+    pub label-open : (p q : ℕ) → r ≡ piece.At p q → (t : Bool) → t ≡ formCloses line q → t ≡ false
+        → formStepOf rule book (formAt false from line labelLine) ≡ fault 3
     label-open p q h t te th = step-broken rule book _ (label-ends line from r e p q h t te ∙ rw th)
 
     pub label-step : (p q : ℕ) → r ≡ piece.At p q → (t : Bool) → t ≡ formCloses line q → t ≡ true
@@ -96,11 +98,13 @@ module _ (rule : NameRule) (text line : Bytes) (words : List ℕ) (c : BookCount
           step-broken rule book _ (node-named ∙ told (λ es. just (node (partOf line p (q - p)) es)))
 
       pub node-step : (known : EntriesRead) → a ≡ answer.Read known → (got : EntriesGot text line words′ c offset declared q known)
-          → formStepOf rule book (formAt false from line nodeLine) ≡ stepOf rule (bookAt text words′ c) (node (nameAt text (record { start = base + p; length = q - p })) (got .got))
+          → formStepOf rule book (formAt false from line nodeLine)
+          ≡ stepOf rule (bookAt text words′ c) (node (nameAt text (record { start = base + p; length = q - p })) (got .got))
       node-step known n got =
           step-form rule book _ _ (node-named ∙ got .form (λ es. just (node (partOf line p (q - p)) es)))
           ∙ ap (λ (x : Bytes). stepOf rule book (node x (got .got))) (sym (piece-named text line words c base from p q f (placed-at line from r h (e .placed))))
-          ∙ ap (λ (b : Book). stepOf rule b (node (nameAt text (record { start = base + p; length = q - p })) (got .got))) (sym (book-kept text words words′ c (done .agrees .tables) (f .fits)))
+          ∙ ap (λ (b : Book). stepOf rule b (node (nameAt text (record { start = base + p; length = q - p })) (got .got)))
+          (sym (book-kept text words words′ c (done .agrees .tables) (f .fits)))
 
   -- (rel LABEL FROM TO (ATTR VALUE)...)
   module _ (r : RelNames) (told : NamesTold line from r) where
@@ -124,13 +128,15 @@ module _ (rule : NameRule) (text line : Bytes) (words : List ℕ) (c : BookCount
 
         pub rel-step : (known : EntriesRead) → a ≡ answer.Read known → (got : EntriesGot text line words′ c offset declared q known)
             → formStepOf rule book (formAt false from line relLine)
-            ≡ stepOf rule (bookAt text words′ c) (rel (nameAt text (movedPart base l)) (nameAt text (movedPart base x)) (nameAt text (movedPart base y)) (got .got))
+            ≡ stepOf rule (bookAt text words′ c) (rel (nameAt text (movedPart base l)) (nameAt text (movedPart base x)) (nameAt text (movedPart base y))
+            (got .got))
         rel-step known n got =
             step-form rule book _ _ (rel-named ∙ got .form (λ es. just (rel (nameAt line l) (nameAt line x) (nameAt line y) es)))
             ∙ (λ t. stepOf rule book (rel (sym (name-moved text line base (f .is) (f .inside) l (rel-got .label .inside)) t)
             (sym (name-moved text line base (f .is) (f .inside) x (rel-got .start .inside)) t)
             (sym (name-moved text line base (f .is) (f .inside) y (rel-got .end .inside)) t) (got .got)))
-            ∙ ap (λ (b : Book). stepOf rule b (rel (nameAt text (movedPart base l)) (nameAt text (movedPart base x)) (nameAt text (movedPart base y)) (got .got)))
+            ∙ ap (λ (b : Book). stepOf rule b (rel (nameAt text (movedPart base l)) (nameAt text (movedPart base x)) (nameAt text (movedPart base y))
+            (got .got)))
             (sym (book-kept text words words′ c (done .agrees .tables) (f .fits)))
 
 -- the entries that were read
@@ -139,7 +145,8 @@ pub entries-got : (text line : Bytes) (words words′ : List ℕ) (c : BookCount
 entries-got text line words words′ c offset declared from a known done e = subst (EntriesTold text line words′ c offset declared from) e (done .told)
 
 -- what was asked before the entries, after them
-pub moved-asked : (text line : Bytes) (words : List ℕ) (c : BookCounts) (base : ℕ) (p : Part) → FormAsked text line words c base → PartFits line p → NameAsked text (movedPart base p)
+pub moved-asked : (text line : Bytes) (words : List ℕ) (c : BookCounts) (base : ℕ) (p : Part) → FormAsked text line words c base → PartFits line p
+    → NameAsked text (movedPart base p)
 moved-asked text line words c base p f s = record { inside = omega (arith, f .inside, s .inside); short = s .short; limit = f .limit }
 
 -- LABEL FROM TO
@@ -156,7 +163,8 @@ module _ (line : Bytes) (from : ℕ) (r : ItemAt) (e : NextName 3 line from r) w
     module _ (c d : ℕ) (h₂ : r₂ ≡ piece.At c d) (r₃ : ItemAt) (e₃ : NextName 3 line d r₃) where
       pub names-third : r₃ ≡ piece.None → NamesTold line from names.None
       unfolding onPiece
-      names-third h₃ k = name-form line from _ ∙ rw (sym (e .is) ∙ h) (name-form line b _ ∙ rw (sym (e₂ .is) ∙ h₂) (name-form line d _ ∙ rw (sym (e₃ .is) ∙ h₃)))
+      names-third h₃ k = name-form line from _
+          ∙ rw (sym (e .is) ∙ h) (name-form line b _ ∙ rw (sym (e₂ .is) ∙ h₂) (name-form line d _ ∙ rw (sym (e₃ .is) ∙ h₃)))
 
       pub names-all : (x y : ℕ) → r₃ ≡ piece.At x y
           → NamesGot line from (record { start = a; length = b - a }) (record { start = c; length = d - c }) (record { start = x; length = y - x }) y
@@ -166,7 +174,8 @@ module _ (line : Bytes) (from : ℕ) (r : ItemAt) (e : NextName 3 line from r) w
           let t = placed-at line b r₂ h₂ (e₂ .placed) in
           let u = placed-at line d r₃ h₃ (e₃ .placed) in
           record {
-            form = λ k. name-form line from _ ∙ rw (sym (e .is) ∙ h) (name-form line b _ ∙ rw (sym (e₂ .is) ∙ h₂) (name-form line d _ ∙ rw (sym (e₃ .is) ∙ h₃)));
+            form = λ k. name-form line from _ ∙ rw (sym (e .is) ∙ h)
+                (name-form line b _ ∙ rw (sym (e₂ .is) ∙ h₂) (name-form line d _ ∙ rw (sym (e₃ .is) ∙ h₃)));
             label = record { inside = omega (arith, s .some, s .inside); short = omega (arith, s .short) };
             start = record { inside = omega (arith, t .some, t .inside); short = omega (arith, t .short) };
             end = record { inside = omega (arith, u .some, u .inside); short = omega (arith, u .short) };

@@ -123,8 +123,11 @@ module _ (text : Bytes) (words : List ℕ) (c : BookCounts) (fits : Fits text wo
     node-refused n e h = step-fault rule book (node (nameAt text name) es) n (node-fault ∙ rw (← e) (numbered-fault n h))
 
     pub node-fine : ownerFault (ltb a (c .nodes)) (read .fault) full ≡ 0
-        → (stepOf rule book (node (nameAt text name) es) ≡ known (bookAt text (withOwner words c Node (name .start * 32 + name .length) (slotIn text (name .start * 32 + name .length)) (read .count)) (moreOwners Node c (read .count))))
-        × Fits text (withOwner words c Node (name .start * 32 + name .length) (slotIn text (name .start * 32 + name .length)) (read .count)) (moreOwners Node c (read .count))
+        → (stepOf rule book (node (nameAt text name) es)
+        ≡ known (bookAt text (withOwner words c Node (name .start * 32 + name .length) (slotIn text (name .start * 32 + name .length)) (read .count))
+        (moreOwners Node c (read .count))))
+        × Fits text (withOwner words c Node (name .start * 32 + name .length) (slotIn text (name .start * 32 + name .length)) (read .count))
+        (moreOwners Node c (read .count))
     node-fine z =
         let ok = owner-fine (ltb a (c .nodes)) (read .fault) full z in
         let r = or-false (leb 256 (c .nodes)) (ltb 2048 (c .entries + read .count)) (ok .room) in
@@ -132,7 +135,8 @@ module _ (text : Bytes) (words : List ℕ) (c : BookCounts) (fits : Fits text wo
         let q = ltb-false 2048 (c .entries + read .count) (r .1) in
         let k = after .count in
         let h = node-added text words c book holds es (omega arith) (name .start * 32 + name .length) few
-        (word-new text name asked (nodeNames book) (taken-mem rule (nameAt text name) (nodeNames book) (alike-there rule text words c (nameAt text name) a found ∙ ok .new)))
+        (word-new text name asked (nodeNames book)
+        (taken-mem rule (nameAt text name) (nodeNames book) (alike-there rule text words c (nameAt text name) a found ∙ ok .new)))
         (after .stored (ok .none) (omega arith)) in (
           step-added rule book (node (nameAt text name) es) _ (node-fault ∙ rw z)
               (rw k (h .is ∙ ap (λ (n : Bytes). addLine book (node n es)) (word-name text name asked))),

@@ -42,7 +42,8 @@ module _ {B : Type 0} (line : Bytes) (i : ℕ) where
   unfolding onName onPiece
   name-form k = form-name false i line k ∙ go (nameNext 3 false line i)
     where
-      go : (r : NameItem) → onName line r (λ n q. formAt false q line (k n)) (λ e. nothing) ≡ onPiece (namePlaces r) (λ p q. formAt false q line (k (partOf line p (q - p))))
+      go : (r : NameItem) → onName line r (λ n q. formAt false q line (k n)) (λ e. nothing)
+          ≡ onPiece (namePlaces r) (λ p q. formAt false q line (k (partOf line p (q - p))))
       go (name.Name p q) = refl
       go (name.Close e) = refl
       go name.None = refl

@@ -61,14 +61,16 @@ module _ (rule : NameRule) (text : Bytes) (words : List ℕ) (c : BookCounts) (f
   label-missing l e h = rel-missing (rw (label-mem l e, le-ltb l (c .labels) h))
 
   pub from-missing : (x : ℕ) → x ≡ place from (nodeNames book) → c .nodes ≤ x → stepOf rule book (rel label from to es) ≡ fault 4
-  from-missing x e h = rel-missing (rw (node-mem text words c fits read es from x e, le-ltb x (c .nodes) h) (middle (mem label (book .labels)) (mem to (nodeNames book))))
+  from-missing x e h = rel-missing (rw (node-mem text words c fits read es from x e, le-ltb x (c .nodes) h)
+      (middle (mem label (book .labels)) (mem to (nodeNames book))))
     where
       middle : (a b : Bool) → (a && false && b) ≡ false
       middle true b = refl
       middle false b = refl
 
   pub to-missing : (y : ℕ) → y ≡ place to (nodeNames book) → c .nodes ≤ y → stepOf rule book (rel label from to es) ≡ fault 4
-  to-missing y e h = rel-missing (rw (node-mem text words c fits read es to y e, le-ltb y (c .nodes) h) (last (mem label (book .labels) && mem from (nodeNames book))))
+  to-missing y e h = rel-missing (rw (node-mem text words c fits read es to y e, le-ltb y (c .nodes) h)
+      (last (mem label (book .labels) && mem from (nodeNames book))))
     where
       last : (a : Bool) → (a && false) ≡ false
       last true = refl
@@ -80,7 +82,8 @@ module _ (rule : NameRule) (text : Bytes) (words : List ℕ) (c : BookCounts) (f
     unfolding bookAt
     labelled = rw el (place-named text words labelNames (c .labels) label (rw (← el) lin))
 
-    module _ (after : EntriesKnown text words c eattrNames (c .eattrs) es read) (there : Bool) (is-there : there ≡ related book (nameOf text words labelNames l) x y) where
+    module _ (after : EntriesKnown text words c eattrNames (c .eattrs) es read) (there : Bool)
+        (is-there : there ≡ related book (nameOf text words labelNames l) x y) where
       abbrev full : Bool
       full = leb 1024 (c .relationships) || ltb 2048 (c .entries + read .count)
 
@@ -109,7 +112,8 @@ module _ (rule : NameRule) (text : Bytes) (words : List ℕ) (c : BookCounts) (f
       rel-refused n e h = step-fault rule book (rel label from to es) n (rel-fault ∙ rw (← e) (numbered-fault n h))
 
       pub rel-fine : ownerFault there (read .fault) full ≡ 0
-          → (stepOf rule book (rel label from to es) ≡ known (bookAt text (withOwner words c Relationship (l * 65536 + x * 256 + y) x (read .count)) (moreOwners Relationship c (read .count))))
+          → (stepOf rule book (rel label from to es)
+          ≡ known (bookAt text (withOwner words c Relationship (l * 65536 + x * 256 + y) x (read .count)) (moreOwners Relationship c (read .count))))
           × Fits text (withOwner words c Relationship (l * 65536 + x * 256 + y) x (read .count)) (moreOwners Relationship c (read .count))
       rel-fine z =
           let ok = owner-fine there (read .fault) full z in

@@ -53,7 +53,8 @@ pub step-fault : (rule : NameRule) (b : Book) (line : BookLine) (n : ℕ) → fa
 unfolding stepOf faultOr
 step-fault rule b line n e = rw e
 
-pub step-added : (rule : NameRule) (b : Book) (line : BookLine) (b′ : Book) → faultBy rule b line ≡ nothing → b′ ≡ addLine b line → stepOf rule b line ≡ known b′
+pub step-added : (rule : NameRule) (b : Book) (line : BookLine) (b′ : Book) → faultBy rule b line ≡ nothing → b′ ≡ addLine b line
+    → stepOf rule b line ≡ known b′
 unfolding stepOf faultOr
 step-added rule b line b′ e q = rw (e, q)
 
@@ -111,13 +112,16 @@ module _ (rule : NameRule) (text : Bytes) (words : List ℕ) (c : BookCounts) (n
 
     pub label-full : c .labels ≤ a → 32 ≤ c .labels → stepOf rule book (label (nameAt text name)) ≡ fault 7
     unfolding faultBy lineFault
-    label-full l m = step-fault rule book (label (nameAt text name)) 7 (name-full (nameAt text name) (book .labels) (c .labels) labels-length (rw (← found) l) m)
+    label-full l m = step-fault rule book (label (nameAt text name)) 7
+        (name-full (nameAt text name) (book .labels) (c .labels) labels-length (rw (← found) l) m)
 
     pub label-fine : c .labels ≤ a → c .labels < 32
-        → (stepOf rule book (label (nameAt text name)) ≡ known (bookAt text (withLabel words c word) (moreLabels c))) × Fits text (withLabel words c word) (moreLabels c)
+        → (stepOf rule book (label (nameAt text name)) ≡ known (bookAt text (withLabel words c word) (moreLabels c)))
+        × Fits text (withLabel words c word) (moreLabels c)
     unfolding faultBy lineFault
     label-fine l m =
-        let h = label-added text words c book holds word m (word-new text name asked (book .labels) (name-new (nameAt text name) (book .labels) (c .labels) labels-length (rw (← found) l))) in (
+        let h = label-added text words c book holds word m
+        (word-new text name asked (book .labels) (name-new (nameAt text name) (book .labels) (c .labels) labels-length (rw (← found) l))) in (
           step-added rule book (label (nameAt text name)) _ (name-fine (nameAt text name) (book .labels) (c .labels) labels-length (rw (← found) l) m)
               (h .is ∙ ap (λ (n : Bytes). addLine book (label n)) (word-name text name asked)),
           h .fits,
@@ -134,10 +138,12 @@ module _ (rule : NameRule) (text : Bytes) (words : List ℕ) (c : BookCounts) (n
     size = owner-declared text words c o
 
     pub attr-twice : a < tablesOf o c .declared → stepOf rule book line ≡ fault 5
-    attr-twice l = step-fault rule book line 5 (declared-fault rule book o (nameAt text name) (kindIn kind) ∙ name-twice (nameAt text name) names (tablesOf o c .declared) size (rw (← found) l))
+    attr-twice l = step-fault rule book line 5
+        (declared-fault rule book o (nameAt text name) (kindIn kind) ∙ name-twice (nameAt text name) names (tablesOf o c .declared) size (rw (← found) l))
 
     pub attr-full : tablesOf o c .declared ≤ a → 32 ≤ tablesOf o c .declared → stepOf rule book line ≡ fault 7
-    attr-full l m = step-fault rule book line 7 (declared-fault rule book o (nameAt text name) (kindIn kind) ∙ name-full (nameAt text name) names (tablesOf o c .declared) size (rw (← found) l) m)
+    attr-full l m = step-fault rule book line 7
+        (declared-fault rule book o (nameAt text name) (kindIn kind) ∙ name-full (nameAt text name) names (tablesOf o c .declared) size (rw (← found) l) m)
 
     abbrev stored : List ℕ
     stored = withAttr words (tablesOf o c .attributes) (tablesOf o c .declared) word kind
@@ -145,8 +151,10 @@ module _ (rule : NameRule) (text : Bytes) (words : List ℕ) (c : BookCounts) (n
     pub attr-fine : tablesOf o c .declared ≤ a → tablesOf o c .declared < 32
         → (stepOf rule book line ≡ known (bookAt text stored (moreAttrs o c))) × Fits text stored (moreAttrs o c)
     attr-fine l m =
-        let h = attr-added text words c book holds o word kind m (word-new text name asked names (name-new (nameAt text name) names (tablesOf o c .declared) size (rw (← found) l))) in (
-          step-added rule book line _ (declared-fault rule book o (nameAt text name) (kindIn kind) ∙ name-fine (nameAt text name) names (tablesOf o c .declared) size (rw (← found) l) m)
+        let h = attr-added text words c book holds o word kind m
+        (word-new text name asked names (name-new (nameAt text name) names (tablesOf o c .declared) size (rw (← found) l))) in (
+          step-added rule book line _ (declared-fault rule book o (nameAt text name) (kindIn kind)
+              ∙ name-fine (nameAt text name) names (tablesOf o c .declared) size (rw (← found) l) m)
               (h .is ∙ ap (λ (n : Bytes). addLine book (declares o n (kindIn kind))) (word-name text name asked)),
           h .fits,
         )

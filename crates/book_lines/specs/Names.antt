@@ -39,7 +39,8 @@ namesForm line from k = formAt false from line (λ is. first asName is (λ l is.
 
 -- three names were read
 pub record NamesGot (line : Bytes) (from : ℕ) (l x y : Part) (q : ℕ) : Type 0 where
-  pub form : (k : Bytes → Bytes → Bytes → List Item → Maybe BookLine) → namesForm line from k ≡ formAt false q line (k (nameAt line l) (nameAt line x) (nameAt line y))
+  pub form : (k : Bytes → Bytes → Bytes → List Item → Maybe BookLine)
+      → namesForm line from k ≡ formAt false q line (k (nameAt line l) (nameAt line x) (nameAt line y))
   pub label : PartFits line l
   pub start : PartFits line x
   pub end : PartFits line y

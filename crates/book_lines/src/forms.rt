@@ -39,7 +39,8 @@ pub fn read_line(
     rule: NameRule,
 ) -> LineStep
     requires { ⌜ FormAsked (now text) (now line) (now words) counts base ⌝ }
-    ensures { λ r. ⌜ Stepped (now (text .entry)) (now (words .exit)) r (formStepOf rule (bookAt (now (text .entry)) (now (words .entry)) counts) (andThen (lineItems (now (line .entry))) bookLine)) ⌝ }
+    ensures { λ r. ⌜ Stepped (now (text .entry)) (now (words .exit)) r
+        (formStepOf rule (bookAt (now (text .entry)) (now (words .entry)) counts) (andThen (lineItems (now (line .entry))) bookLine)) ⌝ }
 {
     match items::forms::open_form(line) {
         End::At(from) => read_head(text, line, base, from, words, counts, rule),
@@ -58,7 +59,8 @@ fn read_head(
     rule: NameRule,
 ) -> LineStep
     requires { ⌜ FormAsked (now text) (now line) (now words) counts base ⌝ }
-    ensures { λ r. ⌜ Stepped (now (text .entry)) (now (words .exit)) r (formStepOf rule (bookAt (now (text .entry)) (now (words .entry)) counts) (formAt true from (now (line .entry)) bookLine)) ⌝ }
+    ensures { λ r. ⌜ Stepped (now (text .entry)) (now (words .exit)) r
+        (formStepOf rule (bookAt (now (text .entry)) (now (words .entry)) counts) (formAt true from (now (line .entry)) bookLine)) ⌝ }
 {
     match places::next_word(line, from, true, pieces::FORM_DEPTH) {
         ItemAt::At(p, q) => read_rest(
@@ -87,7 +89,8 @@ fn read_rest(
     rule: NameRule,
 ) -> LineStep
     requires { ⌜ FormAsked (now text) (now line) (now words) counts base ⌝ }
-    ensures { λ r. ⌜ Stepped (now (text .entry)) (now (words .exit)) r (formStepOf rule (bookAt (now (text .entry)) (now (words .entry)) counts) (formAt false from (now (line .entry)) (lineOf head))) ⌝ }
+    ensures { λ r. ⌜ Stepped (now (text .entry)) (now (words .exit)) r
+        (formStepOf rule (bookAt (now (text .entry)) (now (words .entry)) counts) (formAt false from (now (line .entry)) (lineOf head))) ⌝ }
 {
     match head {
         Head::Attr(owner) => attr_line(text, line, base, from, owner, words, counts),
@@ -100,7 +103,8 @@ fn read_rest(
 
 // NAME TYPE, and nothing more.
 fn read_attr(line: &[u8], from: usize) -> AttrRead
-    ensures form { λ r. ⌜ ((make : Bytes → Kind → BookLine) → formAt false from (now (line .entry)) (attrLine make) ≡ onAttr (now (line .entry)) r (λ n k. just (make n k))) ⌝ }
+    ensures form { λ r. ⌜ ((make : Bytes → Kind → BookLine)
+        → formAt false from (now (line .entry)) (attrLine make) ≡ onAttr (now (line .entry)) r (λ n k. just (make n k))) ⌝ }
     ensures fits { λ r. ⌜ AttrFits (now (line .entry)) from r ⌝ }
 {
     match places::next_name(line, from, pieces::FORM_DEPTH) {
@@ -128,7 +132,8 @@ fn attr_line(
     counts: BookCounts,
 ) -> LineStep
     requires { ⌜ FormAsked (now text) (now line) (now words) counts base ⌝ }
-    ensures { λ r. ⌜ ((rule : Rule) → Stepped (now (text .entry)) (now (words .exit)) r (formStepOf rule (bookAt (now (text .entry)) (now (words .entry)) counts) (formAt false from (now (line .entry)) (attrLine (declares owner))))) ⌝ }
+    ensures { λ r. ⌜ ((rule : Rule) → Stepped (now (text .entry)) (now (words .exit)) r
+        (formStepOf rule (bookAt (now (text .entry)) (now (words .entry)) counts) (formAt false from (now (line .entry)) (attrLine (declares owner))))) ⌝ }
 {
     match read_attr(line, from) {
         AttrRead::Attr(p, q, kind) => steps::add_attr(
@@ -156,7 +161,8 @@ fn label_line(
     counts: BookCounts,
 ) -> LineStep
     requires { ⌜ FormAsked (now text) (now line) (now words) counts base ⌝ }
-    ensures { λ r. ⌜ ((rule : Rule) → Stepped (now (text .entry)) (now (words .exit)) r (formStepOf rule (bookAt (now (text .entry)) (now (words .entry)) counts) (formAt false from (now (line .entry)) labelLine))) ⌝ }
+    ensures { λ r. ⌜ ((rule : Rule) → Stepped (now (text .entry)) (now (words .exit)) r
+        (formStepOf rule (bookAt (now (text .entry)) (now (words .entry)) counts) (formAt false from (now (line .entry)) labelLine))) ⌝ }
 {
     match places::next_name(line, from, pieces::FORM_DEPTH) {
         ItemAt::At(p, q) => {

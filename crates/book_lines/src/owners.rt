@@ -55,7 +55,8 @@ fn read_entries(
     owner: Owner,
 ) -> EntriesAnswer
     requires { ⌜ FormAsked (now text) (now line) (now words) counts base × (from ≤ length (now line)) ⌝ }
-    ensures { λ r. ⌜ EntriesDone (now (text .entry)) (now (line .entry)) (now (words .entry)) (now (words .exit)) counts (tablesOf owner counts .attributes) (tablesOf owner counts .declared) from r ⌝ }
+    ensures { λ r. ⌜ EntriesDone (now (text .entry)) (now (line .entry)) (now (words .entry)) (now (words .exit)) counts
+        (tablesOf owner counts .attributes) (tablesOf owner counts .declared) from r ⌝ }
 {
     let tables = book_tables::owners::tables(counts, owner);
     let offset = tables.attributes;
@@ -124,7 +125,8 @@ pub fn node_line(
     rule: NameRule,
 ) -> LineStep
     requires { ⌜ FormAsked (now text) (now line) (now words) counts base ⌝ }
-    ensures { λ r. ⌜ Stepped (now (text .entry)) (now (words .exit)) r (formStepOf rule (bookAt (now (text .entry)) (now (words .entry)) counts) (formAt false from (now (line .entry)) nodeLine)) ⌝ }
+    ensures { λ r. ⌜ Stepped (now (text .entry)) (now (words .exit)) r
+        (formStepOf rule (bookAt (now (text .entry)) (now (words .entry)) counts) (formAt false from (now (line .entry)) nodeLine)) ⌝ }
 {
     match places::next_name(line, from, FORM_DEPTH) {
         ItemAt::At(p, q) => {
@@ -187,7 +189,8 @@ pub fn rel_line(
     counts: BookCounts,
 ) -> LineStep
     requires { ⌜ FormAsked (now text) (now line) (now words) counts base ⌝ }
-    ensures { λ r. ⌜ ((rule : Rule) → Stepped (now (text .entry)) (now (words .exit)) r (formStepOf rule (bookAt (now (text .entry)) (now (words .entry)) counts) (formAt false from (now (line .entry)) relLine))) ⌝ }
+    ensures { λ r. ⌜ ((rule : Rule) → Stepped (now (text .entry)) (now (words .exit)) r
+        (formStepOf rule (bookAt (now (text .entry)) (now (words .entry)) counts) (formAt false from (now (line .entry)) relLine))) ⌝ }
 {
     match read_names(line, from) {
         RelNames::Read(label, x, y, q) => {

@@ -63,7 +63,8 @@ pub fn add_attr(
     kind: u32,
 ) -> LineStep
     requires { ⌜ NameAsked (now text) name × Fits (now text) (now words) counts ⌝ }
-    ensures { λ r. ⌜ ((rule : Rule) → Stepped (now (text .entry)) (now (words .exit)) r (stepOf rule (bookAt (now (text .entry)) (now (words .entry)) counts) (declares owner (nameAt (now (text .entry)) name) (kindIn kind)))) ⌝ }
+    ensures { λ r. ⌜ ((rule : Rule) → Stepped (now (text .entry)) (now (words .exit)) r
+        (stepOf rule (bookAt (now (text .entry)) (now (words .entry)) counts) (declares owner (nameAt (now (text .entry)) name) (kindIn kind)))) ⌝ }
 {
     let tables = owners::tables(counts, owner);
     let count = tables.declared;
@@ -79,7 +80,8 @@ pub fn add_attr(
 // (label NAME)
 pub fn add_label(text: &[u8], words: &mut [u32], counts: BookCounts, name: Part) -> LineStep
     requires { ⌜ NameAsked (now text) name × Fits (now text) (now words) counts ⌝ }
-    ensures { λ r. ⌜ ((rule : Rule) → Stepped (now (text .entry)) (now (words .exit)) r (stepOf rule (bookAt (now (text .entry)) (now (words .entry)) counts) (label (nameAt (now (text .entry)) name)))) ⌝ }
+    ensures { λ r. ⌜ ((rule : Rule) → Stepped (now (text .entry)) (now (words .exit)) r
+        (stepOf rule (bookAt (now (text .entry)) (now (words .entry)) counts) (label (nameAt (now (text .entry)) name)))) ⌝ }
 {
     let count = counts.labels;
     if names::find_label(text, words, counts, named(text, name)) < count {
@@ -132,7 +134,8 @@ pub fn add_node(
 ) -> LineStep
     requires { ⌜ NameAsked (now text) name × Fits (now text) (now words) counts × (read .count ≤ 65536) ⌝ }
     ensures { λ r. ⌜ ((es : List Entry) → EntriesKnown (now (text .entry)) (now (words .entry)) counts vattrNames (counts .vattrs) es read
-        → Stepped (now (text .entry)) (now (words .exit)) r (stepOf rule (bookAt (now (text .entry)) (now (words .entry)) counts) (node (nameAt (now (text .entry)) name) es))) ⌝ }
+        → Stepped (now (text .entry)) (now (words .exit)) r
+        (stepOf rule (bookAt (now (text .entry)) (now (words .entry)) counts) (node (nameAt (now (text .entry)) name) es))) ⌝ }
 {
     let count = counts.nodes;
     let there = names::find_alike(text, words, counts, rule, named(text, name)) < count;
@@ -156,9 +159,12 @@ pub fn add_relationship(
     to: Part,
     read: EntriesRead,
 ) -> LineStep
-    requires { ⌜ NameAsked (now text) label × NameAsked (now text) from × NameAsked (now text) to × Fits (now text) (now words) counts × (read .count ≤ 65536) ⌝ }
+    requires { ⌜ NameAsked (now text) label × NameAsked (now text) from × NameAsked (now text) to × Fits (now text) (now words) counts
+        × (read .count ≤ 65536) ⌝ }
     ensures { λ r. ⌜ ((rule : Rule) (es : List Entry) → EntriesKnown (now (text .entry)) (now (words .entry)) counts eattrNames (counts .eattrs) es read
-        → Stepped (now (text .entry)) (now (words .exit)) r (stepOf rule (bookAt (now (text .entry)) (now (words .entry)) counts) (rel (nameAt (now (text .entry)) label) (nameAt (now (text .entry)) from) (nameAt (now (text .entry)) to) es))) ⌝ }
+        → Stepped (now (text .entry)) (now (words .exit)) r
+        (stepOf rule (bookAt (now (text .entry)) (now (words .entry)) counts)
+        (rel (nameAt (now (text .entry)) label) (nameAt (now (text .entry)) from) (nameAt (now (text .entry)) to) es))) ⌝ }
 {
     let l = names::find_label(text, words, counts, named(text, label));
     if counts.labels <= l {

@@ -39,7 +39,8 @@ listed-front f zero = refl
 listed-front f (suc n) = ap (λ l. l ++ (f (suc n) ∷ [])) (listed-front f n)
 
 -- entries, the first apart
-entries-front : (text : Bytes) (words : List ℕ) (offset start n : ℕ) → entriesFrom text words offset start (suc n) ≡ entryOf text words offset start ∷ entriesFrom text words offset (start + 1) n
+entries-front : (text : Bytes) (words : List ℕ) (offset start n : ℕ)
+    → entriesFrom text words offset start (suc n) ≡ entryOf text words offset start ∷ entriesFrom text words offset (start + 1) n
 unfolding entriesFrom
 entries-front text words offset start n =
     let entry : ℕ → Entry = entryOf text words offset in
@@ -48,14 +49,16 @@ entries-front text words offset start n =
     ∙ ap (λ l. entry start ∷ l) (listed-same (λ i. entry (start + suc i)) (λ i. entry (start + 1 + i)) n (λ i l. ap entry (omega arith)))
 
 -- the value of what a test picks is picked by the test
-value-picked : (text : Bytes) (words : List ℕ) (k : ℕ) (m : Maybe ℕ) (t : Bool) → maybeValue text words (pick t (just k) m) ≡ pick t (just (entryValue text words k)) (maybeValue text words m)
+value-picked : (text : Bytes) (words : List ℕ) (k : ℕ) (m : Maybe ℕ) (t : Bool)
+    → maybeValue text words (pick t (just k) m) ≡ pick t (just (entryValue text words k)) (maybeValue text words m)
 unfolding maybeValue
 value-picked text words k m true = refl
 value-picked text words k m false = refl
 
 -- an attribute's value is the first entry's where that is of the attribute, or else among the others
 value-first : (text : Bytes) (words : List ℕ) (offset k : ℕ) (es : List Entry) (name : Bytes)
-    → valueIn (entryOf text words offset k ∷ es) name ≡ pick (same (nameOf text words offset (entryHead words k / 4)) name) (just (entryValue text words k)) (valueIn es name)
+    → valueIn (entryOf text words offset k ∷ es) name
+    ≡ pick (same (nameOf text words offset (entryHead words k / 4)) name) (just (entryValue text words k)) (valueIn es name)
 unfolding valueIn entryOf entryValue
 value-first text words offset k es name = refl
 
@@ -81,11 +84,14 @@ module _ (text : Bytes) (words : List ℕ) (offset declared : ℕ) (names : Name
         ∙ sym (
         ap (λ es. valueIn es (nameOf text words offset attribute)) (entries-front text words offset start n)
         ∙ value-first text words offset start (entriesFrom text words offset (start + 1) n) (nameOf text words offset attribute)
-        ∙ ap (λ t. pick t (just (entryValue text words start)) (valueIn (entriesFrom text words offset (start + 1) n) (nameOf text words offset attribute))) (same-name (entryHead words start / 4) attribute first counted))
+        ∙ ap (λ t. pick t (just (entryValue text words start))
+        (valueIn (entriesFrom text words offset (start + 1) n) (nameOf text words offset attribute)))
+        (same-name (entryHead words start / 4) attribute first counted))
 
     -- what is found among an owner's entries may be read, and is the value of the name
     owner-entered : (all w : ℕ) → EntriesFit text words declared all w → all ≤ 2048 → layout.bookWords ≤ length words
-        → (r : AttributeFound) → found r ≡ seek words attribute (startPart w) (countPart w) → Entered text words r (valueIn (entriesIn text words offset w) (nameOf text words offset attribute))
+        → (r : AttributeFound) → found r ≡ seek words attribute (startPart w) (countPart w)
+        → Entered text words r (valueIn (entriesIn text words offset w) (nameOf text words offset attribute))
     unfolding entriesIn valueAt found
     owner-entered all w fit limit room r e = record {
       ready = ready r e;
@@ -105,9 +111,11 @@ module _ (text : Bytes) (words : List ℕ) (offset declared : ℕ) (names : Name
 
 -- the entries of a node and of a relationship, and the names of attributes and nodes, by their numbers
 module _ (text : Bytes) (words : List ℕ) (c : BookCounts) where
-  owner-entries : (o : Owner) (i : ℕ) → i < tablesOf o c .count → entriesOf o (bookAt text words c) i ≡ entriesIn text words (tablesOf o c .attributes) (wordAt words (tablesOf o c .entries + i))
+  owner-entries : (o : Owner) (i : ℕ) → i < tablesOf o c .count
+      → entriesOf o (bookAt text words c) i ≡ entriesIn text words (tablesOf o c .attributes) (wordAt words (tablesOf o c .entries + i))
   unfolding graph.nodeEntries relEntries graph.relOf bookAt nodeOf relOf
-  owner-entries Node i l = ap (λ es. getD es i []) (map-listed (λ x. x .entries) (nodeOf text words) (c .nodes)) ∙ getD-listed (λ i. nodeOf text words i .entries) (c .nodes) i [] l
+  owner-entries Node i l = ap (λ es. getD es i []) (map-listed (λ x. x .entries) (nodeOf text words) (c .nodes))
+      ∙ getD-listed (λ i. nodeOf text words i .entries) (c .nodes) i [] l
   owner-entries Relationship i l = ap (λ r. r .entries) (getD-listed (relOf text words) (c .relationships) i _ l)
 
   attribute-name : (offset count i : ℕ) → i < count → getD (attrNames (attrsAt text words offset count)) i [] ≡ nameOf text words offset i
@@ -118,9 +126,11 @@ module _ (text : Bytes) (words : List ℕ) (c : BookCounts) where
   unfolding namesAt
   node-named i l = ap (λ ns. getD ns i []) (node-names text words c) ∙ getD-listed (nameOf text words layout.nodeNames) (c .nodes) i [] l
 
-  pub entered : (fits : Fits text words c) (attribute : ℕ) (r : AttributeFound) (o : Owner) (i : ℕ) → i < tablesOf o c .count → attribute < tablesOf o c .declared
+  pub entered : (fits : Fits text words c) (attribute : ℕ) (r : AttributeFound) (o : Owner) (i : ℕ) → i < tablesOf o c .count
+      → attribute < tablesOf o c .declared
       → found r ≡ seek words attribute (startPart (wordAt words (tablesOf o c .entries + i))) (countPart (wordAt words (tablesOf o c .entries + i)))
       → Entered text words r (ownerValue o (bookAt text words c) i attribute)
   entered fits attribute r o i l m e =
       rw (owner-entries o i l, owner-attrs text words c o, attribute-name (tablesOf o c .attributes) (tablesOf o c .declared) attribute m)
-      (owner-entered text words _ _ (attr-table text words c fits o .names) attribute m (c .entries) _ (owner-fits text words c fits o i l) (fits .within .entries) (fits .room) r e)
+      (owner-entered text words _ _ (attr-table text words c fits o .names) attribute m (c .entries) _ (owner-fits text words c fits o i l)
+      (fits .within .entries) (fits .room) r e)

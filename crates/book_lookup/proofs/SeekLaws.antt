@@ -10,7 +10,8 @@ use Rattle.book_tables.specs.View.{entryHead}
 use Rattle.book_lookup.specs.Entries.{seek}
 
 -- one entry, then the rest
-pub seek-step : (words : List ℕ) (attribute k n : ℕ) → seek words attribute k (suc n) ≡ pick (eqb (entryHead words k / 4) attribute) (just k) (seek words attribute (k + 1) n)
+pub seek-step : (words : List ℕ) (attribute k n : ℕ)
+    → seek words attribute k (suc n) ≡ pick (eqb (entryHead words k / 4) attribute) (just k) (seek words attribute (k + 1) n)
 unfolding seek
 seek-step words attribute k n = refl
 
@@ -23,7 +24,8 @@ module _ (words : List ℕ) (attribute start count i : ℕ) (below : i < count) 
   at-least-one = omega arith
 
   -- an entry of another attribute is passed over
-  pub seek-passes : eqb (entryHead words (start + i) / 4) attribute ≡ false → seek words attribute (start + i) (count - i) ≡ seek words attribute (start + (i + 1)) (count - (i + 1))
+  pub seek-passes : eqb (entryHead words (start + i) / 4) attribute ≡ false
+      → seek words attribute (start + i) (count - i) ≡ seek words attribute (start + (i + 1)) (count - (i + 1))
   seek-passes e =
       let next : start + i + 1 ≡ start + (i + 1) = omega arith in
       ap (seek words attribute (start + i)) at-least-one ∙ seek-step words attribute (start + i) (count - (i + 1))

@@ -60,7 +60,8 @@ kind-bools t l = rw (ne-eqb t 0 (λ e. omega arith), ne-eqb t 1 (λ e. omega ari
 module _ (book : Bytes) (words : List ℕ) (k : ℕ) where
   pub number-value : kindIn (kindAt words k) ≡ ints → entryValue book words k ≡ int (firstAt words k * 2 ^ 32 + secondAt words k)
   unfolding entryValue valueIn kindIn
-  number-value = go (int (firstAt words k * 2 ^ 32 + secondAt words k)) (str (partOf book (firstAt words k) (secondAt words k))) (bool (eqb (secondAt words k) 1)) (eqb (kindAt words k) 0) (eqb (kindAt words k) 1)
+  number-value = go (int (firstAt words k * 2 ^ 32 + secondAt words k)) (str (partOf book (firstAt words k) (secondAt words k)))
+      (bool (eqb (secondAt words k) 1)) (eqb (kindAt words k) 0) (eqb (kindAt words k) 1)
     where
       go : (x y z : Value) (a b : Bool) → pick a ints (pick b strs bools) ≡ ints → pick a x (pick b y z) ≡ x
       go x y z true b e = refl
@@ -69,7 +70,8 @@ module _ (book : Bytes) (words : List ℕ) (k : ℕ) where
 
   pub text-value : kindIn (kindAt words k) ≡ strs → (kindAt words k ≡ 1) × (entryValue book words k ≡ str (partOf book (firstAt words k) (secondAt words k)))
   unfolding entryValue valueIn kindIn
-  text-value e = either (equal-or-not (kindAt words k) 1) (λ o. (o, rw o)) (λ o. absurd (go (eqb (kindAt words k) 0) (rw (ne-eqb (kindAt words k) 1 (o .1)) at e)))
+  text-value e = either (equal-or-not (kindAt words k) 1) (λ o. (o, rw o))
+      (λ o. absurd (go (eqb (kindAt words k) 0) (rw (ne-eqb (kindAt words k) 1 (o .1)) at e)))
     where
       go : (a : Bool) → pick a ints bools ≡ strs → ⊥
       go true e = let o : _≡_ {A = ℕ} 0 1 = cc in omega arith
@@ -77,7 +79,8 @@ module _ (book : Bytes) (words : List ℕ) (k : ℕ) where
 
   pub truth-value : kindIn (kindAt words k) ≡ bools → entryValue book words k ≡ bool (eqb (secondAt words k) 1)
   unfolding entryValue valueIn kindIn
-  truth-value = go (int (firstAt words k * 2 ^ 32 + secondAt words k)) (str (partOf book (firstAt words k) (secondAt words k))) (bool (eqb (secondAt words k) 1)) (eqb (kindAt words k) 0) (eqb (kindAt words k) 1)
+  truth-value = go (int (firstAt words k * 2 ^ 32 + secondAt words k)) (str (partOf book (firstAt words k) (secondAt words k)))
+      (bool (eqb (secondAt words k) 1)) (eqb (kindAt words k) 0) (eqb (kindAt words k) 1)
     where
       go : (x y z : Value) (a b : Bool) → pick a ints (pick b strs bools) ≡ bools → pick a x (pick b y z) ≡ z
       go x y z true b e = let o : _≡_ {A = ℕ} 0 1 = cc in absurd (omega arith)
@@ -88,7 +91,8 @@ module _ (book : Bytes) (words : List ℕ) (k : ℕ) where
   module _ (r : Relation) where
     pub number-unmet : (n : ℕ) → (kindAt words k ≡ 0 → ⊥) → inRelation r (entryValue book words k) (int n) ≡ false
     unfolding entryValue valueIn inRelation
-    number-unmet n h = rw (ne-eqb (kindAt words k) 0 h) (go (partOf book (firstAt words k) (secondAt words k)) (eqb (secondAt words k) 1) (eqb (kindAt words k) 1))
+    number-unmet n h = rw (ne-eqb (kindAt words k) 0 h)
+        (go (partOf book (firstAt words k) (secondAt words k)) (eqb (secondAt words k) 1) (eqb (kindAt words k) 1))
       where
         go : (x : Bytes) (y : Bool) (a : Bool) → inRelation r (pick a (str x) (bool y)) (int n) ≡ false
         go x y true = refl

@@ -32,7 +32,8 @@ pub fn owner_entry(
     attribute: usize,
 ) -> AttributeFound
     requires { ⌜ SomeText (now words) counts number (tablesOf owner counts .count) attribute (tablesOf owner counts .declared) ⌝ }
-    ensures { λ r. ⌜ ((text : Bytes) → Fits text (now (words .entry)) counts → Entered text (now (words .entry)) r (ownerValue owner (bookAt text (now (words .entry)) counts) number attribute)) ⌝ }
+    ensures { λ r. ⌜ ((text : Bytes) → Fits text (now (words .entry)) counts
+        → Entered text (now (words .entry)) r (ownerValue owner (bookAt text (now (words .entry)) counts) number attribute)) ⌝ }
 {
     let tables = owners::tables(counts, owner);
     let entries = tables.entries;

@@ -34,7 +34,8 @@ pub fn node_meets(
     text: &[u8],
 ) -> bool
     requires { ⌜ Asked (now book) (now words) counts node (counts .nodes) attribute (counts .vattrs) × ValueInside (now text) value ⌝ }
-    ensures { λ r. ⌜ r ≡ meets (nodeValue (bookAt (now (book .entry)) (now (words .entry)) counts) node attribute) (relationOf relation) (valueOf (now (text .entry)) value) ⌝ }
+    ensures { λ r. ⌜ r ≡ meets (nodeValue (bookAt (now (book .entry)) (now (words .entry)) counts) node attribute) (relationOf relation)
+        (valueOf (now (text .entry)) value) ⌝ }
 {
     owner_meets(
         book,
@@ -61,7 +62,8 @@ pub fn relationship_meets(
     text: &[u8],
 ) -> bool
     requires { ⌜ Asked (now book) (now words) counts relationship (counts .relationships) attribute (counts .eattrs) × ValueInside (now text) value ⌝ }
-    ensures { λ r. ⌜ r ≡ meets (relationshipValue (bookAt (now (book .entry)) (now (words .entry)) counts) relationship attribute) (relationOf relation) (valueOf (now (text .entry)) value) ⌝ }
+    ensures { λ r. ⌜ r ≡ meets (relationshipValue (bookAt (now (book .entry)) (now (words .entry)) counts) relationship attribute) (relationOf relation)
+        (valueOf (now (text .entry)) value) ⌝ }
 {
     owner_meets(
         book,
@@ -88,8 +90,10 @@ fn owner_meets(
     value: Value,
     text: &[u8],
 ) -> bool
-    requires { ⌜ Asked (now book) (now words) counts number (tablesOf owner counts .count) attribute (tablesOf owner counts .declared) × ValueInside (now text) value ⌝ }
-    ensures { λ r. ⌜ r ≡ meets (ownerValue owner (bookAt (now (book .entry)) (now (words .entry)) counts) number attribute) (relationOf relation) (valueOf (now (text .entry)) value) ⌝ }
+    requires { ⌜ Asked (now book) (now words) counts number (tablesOf owner counts .count) attribute (tablesOf owner counts .declared)
+        × ValueInside (now text) value ⌝ }
+    ensures { λ r. ⌜ r ≡ meets (ownerValue owner (bookAt (now (book .entry)) (now (words .entry)) counts) number attribute) (relationOf relation)
+        (valueOf (now (text .entry)) value) ⌝ }
 {
     let found = owner_entry(words, counts, owner, number, attribute);
     found_meets(book, words, found, relation, value, text)

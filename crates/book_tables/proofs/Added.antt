@@ -85,11 +85,13 @@ module _ (text : Bytes) (words : List ℕ) (c : BookCounts) (b : Book) (holds : 
     label-added =
         let f = fits-kept text words (withLabel words c w) c label-agrees (holds .fits) in
         let l = holds .fits .within in
-        let named = names-fit-more text (withLabel words c w) labelNames (c .labels) (f .labels) (rw label-at (name .inside)) (rw (label-named, labels-before) (name .new)) in
+        let named = names-fit-more text (withLabel words c w) labelNames (c .labels) (f .labels) (rw label-at (name .inside))
+        (rw (label-named, labels-before) (name .new)) in
         record {
           fits = more-declared text _ c f (c .vattrs) (c .eattrs) (c .labels + 1) (omega arith) (omega arith)
               (f .vattrs) (f .eattrs) named;
-          is = rw (names-end text (withLabel words c w) labelNames (c .labels), label-named) (ap (λ (x : Book). addLine x (label (nameIn text w))) label-before);
+          is = rw (names-end text (withLabel words c w) labelNames (c .labels), label-named)
+              (ap (λ (x : Book). addLine x (label (nameIn text w))) label-before);
         }
 
   -- a declared attribute, of nodes or of relationships

@@ -11,8 +11,10 @@ use Rattle.chains.specs.Chains.{Chained}
 use Rattle.chains.specs.Slots.{slotOf}
 use Rattle.chains.proofs.ChainLaws.{chained-kept}
 use Rattle.book_tables.specs.declared.BookCounts.{BookCounts}
-use Rattle.book_tables.specs.Layout.{vattrNames, eattrNames, typesBehind, labelNames, nodeNames, nodeEntries, relationships, relationshipEntries, entries, nodeHeads, nodeLinks, fromHeads, fromLinks, keys, bookWords}
-use Rattle.book_tables.specs.View.{wordAt, startPart, countPart, nameOf, namesAt, attrOf, attrsAt, entryHead, entryOf, entriesFrom, entriesIn, nodeOf, labelPart, fromPart, relWord, nodeSlot, relFrom, relOf, bookAt}
+use Rattle.book_tables.specs.Layout.{vattrNames, eattrNames, typesBehind, labelNames, nodeNames, nodeEntries, relationships}
+use Rattle.book_tables.specs.Layout.{relationshipEntries, entries, nodeHeads, nodeLinks, fromHeads, fromLinks, keys, bookWords}
+use Rattle.book_tables.specs.View.{wordAt, startPart, countPart, nameOf, namesAt, attrOf, attrsAt, entryHead, entryOf, entriesFrom, entriesIn}
+use Rattle.book_tables.specs.View.{nodeOf, labelPart, fromPart, relWord, nodeSlot, relFrom, relOf, bookAt}
 use Rattle.book_tables.specs.Fits.{NamesFit, EntryFits, EntriesFit, RelFits, Within, Fits}
 use Rattle.book_tables.specs.Agree.{Free, At, TablesAgree, Agree}
 use Rattle.book_tables.proofs.ListedLaws.{listed-same}
@@ -52,7 +54,8 @@ set-agrees c words p v f = record {
 }
 
 -- words that are the same before the chains
-pub low-agrees : (c : BookCounts) (words words′ : List ℕ) → Within c → length words′ ≡ length words → ((p : ℕ) → p < nodeHeads → At words words′ p) → TablesAgree c words words′
+pub low-agrees : (c : BookCounts) (words words′ : List ℕ) → Within c → length words′ ≡ length words → ((p : ℕ) → p < nodeHeads → At words words′ p)
+    → TablesAgree c words words′
 low-agrees c words words′ w e low = record {
   size = e;
   vattrs = λ i l. low (vattrNames + i) (omega arith);
@@ -211,7 +214,8 @@ module _ (text : Bytes) (words words′ : List ℕ) (c : BookCounts) (a : Tables
     -- chains whose heads and links are the same
     pub node-chains-kept : ((k : ℕ) → k < keys → At words words′ (nodeHeads + k)) → ((i : ℕ) → i < c .nodes → At words words′ (nodeLinks + i))
         → Chained words′ nodeHeads nodeLinks keys (nodeSlot text words′) (c .nodes)
-    node-chains-kept g h = chained-kept words words′ nodeHeads nodeLinks keys (nodeSlot text words) (nodeSlot text words′) (c .nodes) (f .node-chains) g h slot-kept
+    node-chains-kept g h = chained-kept words words′ nodeHeads nodeLinks keys (nodeSlot text words) (nodeSlot text words′) (c .nodes)
+        (f .node-chains) g h slot-kept
 
     pub rel-chains-kept : ((k : ℕ) → k < keys → At words words′ (fromHeads + k)) → ((i : ℕ) → i < c .relationships → At words words′ (fromLinks + i))
         → Chained words′ fromHeads fromLinks keys (relFrom words′) (c .relationships)
@@ -232,6 +236,8 @@ fits-kept text words words′ c a f =
       rels = t .rels;
       of-rels = t .of-rels;
       counted = t .counted;
-      node-chains = node-chains-kept text words words′ c (a .tables) f (λ k l. a .chains (nodeHeads + k) (omega arith)) (λ i l. a .chains (nodeLinks + i) (omega arith));
-      rel-chains = rel-chains-kept text words words′ c (a .tables) f (λ k l. a .chains (fromHeads + k) (omega arith)) (λ i l. a .chains (fromLinks + i) (omega arith));
+      node-chains = node-chains-kept text words words′ c (a .tables) f (λ k l. a .chains (nodeHeads + k) (omega arith))
+          (λ i l. a .chains (nodeLinks + i) (omega arith));
+      rel-chains = rel-chains-kept text words words′ c (a .tables) f (λ k l. a .chains (fromHeads + k) (omega arith))
+          (λ i l. a .chains (fromLinks + i) (omega arith));
     }

@@ -53,7 +53,8 @@ none-in-slot rule text words c name h =
     ap (any (alike rule name)) (node-names text words c)
     ∙ scan-all (alike rule name) (nameOf text words layout.nodeNames) (c .nodes) (λ i l. go i l (alike rule name (nameOf text words layout.nodeNames i)) refl)
   where
-    go : (i : ℕ) → i < c .nodes → (b : Bool) → alike rule name (nameOf text words layout.nodeNames i) ≡ b → alike rule name (nameOf text words layout.nodeNames i) ≡ false
+    go : (i : ℕ) → i < c .nodes → (b : Bool) → alike rule name (nameOf text words layout.nodeNames i) ≡ b
+        → alike rule name (nameOf text words layout.nodeNames i) ≡ false
     go i l true e = h i l (sym (slot-alike rule name (nameOf text words layout.nodeNames i) e))
     go i l false e = e
 
@@ -73,7 +74,8 @@ pub alike-there : (rule : NameRule) (text : Bytes) (words : List ℕ) (c : BookC
     → taken rule name (nodeNames (bookAt text words c)) ≡ ltb r (c .nodes)
 unfolding taken namesAt
 alike-there rule text words c name r n = either (below-or-not r (c .nodes))
-    (λ l. ap (any (alike rule name)) (node-names text words c) ∙ scan-found (alike rule name) (nameOf text words layout.nodeNames) (c .nodes) r l (n .found l) ∙ sym (lt-ltb r _ l))
+    (λ l. ap (any (alike rule name)) (node-names text words c)
+    ∙ scan-found (alike rule name) (nameOf text words layout.nodeNames) (c .nodes) r l (n .found l) ∙ sym (lt-ltb r _ l))
     (λ l. n .absent l ∙ sym (le-ltb r _ l))
 
 -- a name that is not taken is none of the names

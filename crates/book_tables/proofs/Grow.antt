@@ -57,7 +57,8 @@ module _ (text : Bytes) (words : List ℕ) (offset declared : ℕ) (c : BookCoun
 
 -- one entry more
 module _ (text : Bytes) (words : List ℕ) (offset declared start : ℕ) (es : List Entry) (e : Entry) where
-  pub entries-end : entriesFrom text words offset start (length es + 1) ≡ entriesFrom text words offset start (length es) ++ (entryOf text words offset (start + length es) ∷ [])
+  pub entries-end : entriesFrom text words offset start (length es + 1)
+      ≡ entriesFrom text words offset start (length es) ++ (entryOf text words offset (start + length es) ∷ [])
   unfolding entriesFrom
   entries-end = listed-more (λ i. entryOf text words offset (start + i)) (length es)
 

@@ -72,7 +72,8 @@ module _ {A : Type 0} where
   place-end p [] x h t = rw t
   place-end p (y ∷ xs) x h t = go (p y) (λ e. place-end p xs x e t) h
     where
-      go : (b : Bool) → (any p xs ≡ false → placeWhere p (xs ++ (x ∷ [])) ≡ length xs) → pick b true (any p xs) ≡ false → pick b 0 (suc (placeWhere p (xs ++ (x ∷ [])))) ≡ suc (length xs)
+      go : (b : Bool) → (any p xs ≡ false → placeWhere p (xs ++ (x ∷ [])) ≡ length xs) → pick b true (any p xs) ≡ false
+          → pick b 0 (suc (placeWhere p (xs ++ (x ∷ [])))) ≡ suc (length xs)
       go true rest e = cc
       go false rest e = ap suc (rest e)
 
@@ -82,7 +83,8 @@ module _ {A : Type 0} where
   place-kept p [] x h = cc
   place-kept p (y ∷ xs) x h = go (p y) (place-kept p xs x) h
     where
-      go : (b : Bool) → (any p xs ≡ true → placeWhere p (xs ++ (x ∷ [])) ≡ placeWhere p xs) → pick b true (any p xs) ≡ true → pick b 0 (suc (placeWhere p (xs ++ (x ∷ [])))) ≡ pick b 0 (suc (placeWhere p xs))
+      go : (b : Bool) → (any p xs ≡ true → placeWhere p (xs ++ (x ∷ [])) ≡ placeWhere p xs) → pick b true (any p xs) ≡ true
+          → pick b 0 (suc (placeWhere p (xs ++ (x ∷ [])))) ≡ pick b 0 (suc (placeWhere p xs))
       go true rest e = refl
       go false rest e = ap suc (rest e)
 

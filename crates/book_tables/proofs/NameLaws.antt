@@ -19,7 +19,8 @@ use Rattle.book_tables.specs.declared.BookCounts.{BookCounts}
 use Rattle.book_tables.specs.Layout as layout
 use Rattle.book_tables.specs.View.{wordAt, nameIn, nameOf, namesAt, attrOf, attrsAt, nodeOf, bookAt}
 use Rattle.book_tables.specs.Fits.{Inside, NamesFit}
-use Rattle.book_tables.proofs.ListedLaws.{listed-more, length-listed, map-listed, getD-listed, scan-all, scan-found, scan-place, scan-absent, place-inside, place-none, place-passes}
+use Rattle.book_tables.proofs.ListedLaws.{listed-more, length-listed, map-listed, getD-listed, scan-all, scan-found, scan-place, scan-absent}
+use Rattle.book_tables.proofs.ListedLaws.{place-inside, place-none, place-passes}
 
 true→T : (b : Bool) → b ≡ true → T b
 true→T b e = subst T (sym e) tt
@@ -58,14 +59,17 @@ module _ (text : Bytes) (words : List ℕ) (offset count : ℕ) where
   pub place-named : (w : Bytes) → place w (namesAt text words offset count) < count → nameOf text words offset (place w (namesAt text words offset count)) ≡ w
   unfolding place namesAt
   place-named w l =
-      let m : placeWhere (same w) (listed (nameOf text words offset) count) < length (listed (nameOf text words offset) count) = omega (arith, length-listed (nameOf text words offset) count) in
-      sym (same-equal _ _ (ap (same w) (sym (getD-listed (nameOf text words offset) count _ [] l)) ∙ place-passes (same w) (listed (nameOf text words offset) count) [] m))
+      let m : placeWhere (same w) (listed (nameOf text words offset) count) < length (listed (nameOf text words offset) count) = omega
+      (arith, length-listed (nameOf text words offset) count) in
+      sym (same-equal _ _ (ap (same w) (sym (getD-listed (nameOf text words offset) count _ [] l))
+      ∙ place-passes (same w) (listed (nameOf text words offset) count) [] m))
 
   pub place-mem : (w : Bytes) → place w (namesAt text words offset count) < count → mem w (namesAt text words offset count) ≡ true
   place-mem w l = name-mem w (place w (namesAt text words offset count)) l (place-named w l)
 
   pub place-out : (w : Bytes) → count ≤ place w (namesAt text words offset count) → mem w (namesAt text words offset count) ≡ false
-  place-out w l = mem-place w (namesAt text words offset count) ∙ le-ltb (place w (namesAt text words offset count)) (length (namesAt text words offset count)) (rw length-names l)
+  place-out w l = mem-place w (namesAt text words offset count)
+      ∙ le-ltb (place w (namesAt text words offset count)) (length (namesAt text words offset count)) (rw length-names l)
 
   -- one name more, which is none of those before
   pub names-fit-more :
@@ -77,7 +81,8 @@ module _ (text : Bytes) (words : List ℕ) (offset count : ℕ) where
     inside = λ i l. either (equal-or-not i count) (λ e. rw e inside) (λ e. f .inside i (omega arith));
     differ = λ i j l m e. either (equal-or-not i count)
         (λ p. either (equal-or-not j count) (λ q. p ∙ sym q) (λ q. absurd (not-new j (omega arith) (sym e ∙ ap (nameOf text words offset) p))))
-        (λ p. either (equal-or-not j count) (λ q. absurd (not-new i (omega arith) (e ∙ ap (nameOf text words offset) q))) (λ q. f .differ i j (omega arith) (omega arith) e));
+        (λ p. either (equal-or-not j count) (λ q. absurd (not-new i (omega arith) (e ∙ ap (nameOf text words offset) q)))
+        (λ q. f .differ i j (omega arith) (omega arith) e));
   }
     where
       not-new : (i : ℕ) → i < count → nameOf text words offset i ≡ nameOf text words offset count → ⊥
@@ -106,7 +111,8 @@ module _ (name text : Bytes) (words : List ℕ) (offset count : ℕ) where
   found-none i e none = sym (scan-absent (same name) (nameOf text words offset) count (rw e at none))
 
   -- among names of which no two are the same, one that is the name is at its place
-  pub found-only : NamesFit text words offset count → (i : ℕ) → i < count → same name (nameOf text words offset i) ≡ true → i ≡ place name (namesAt text words offset count)
+  pub found-only : NamesFit text words offset count → (i : ℕ) → i < count → same name (nameOf text words offset i) ≡ true
+      → i ≡ place name (namesAt text words offset count)
   found-only f i l t =
       let e = same-equal name (nameOf text words offset i) t in
       let yes = name-mem text words offset count name i l (sym e) in
@@ -121,6 +127,7 @@ word-slice text w = let e : w / 32 + w % 32 - w / 32 ≡ w % 32 = omega arith in
 
 -- the part of the text that a name's word says
 pub name-slice : (text : Bytes) (words : List ℕ) (offset i : ℕ)
-    → take (wordAt words (offset + i) / 32 + wordAt words (offset + i) % 32 - wordAt words (offset + i) / 32) (drop (wordAt words (offset + i) / 32) text) ≡ nameOf text words offset i
+    → take (wordAt words (offset + i) / 32 + wordAt words (offset + i) % 32 - wordAt words (offset + i) / 32) (drop (wordAt words (offset + i) / 32) text)
+    ≡ nameOf text words offset i
 unfolding nameOf
 name-slice text words offset i = word-slice text (wordAt words (offset + i))

@@ -21,7 +21,8 @@ use Rattle.book_tables.specs.declared.BookCounts.{BookCounts}
 use Rattle.book_tables.specs.declared.Owner.{Owner}
 use Rattle.book_tables.specs.declared.Owner.the-variants.{Node, Relationship}
 use Rattle.book_tables.specs.declared.OwnerTables.{OwnerTables}
-use Rattle.book_tables.specs.Layout.{vattrNames, eattrNames, labelNames, nodeNames as nodesAt, nodeEntries, relationships, relationshipEntries, entries, nodeHeads, nodeLinks, fromHeads, fromLinks, keys}
+use Rattle.book_tables.specs.Layout.{vattrNames, eattrNames, labelNames, nodeNames as nodesAt, nodeEntries, relationships, relationshipEntries}
+use Rattle.book_tables.specs.Layout.{entries, nodeHeads, nodeLinks, fromHeads, fromLinks, keys}
 use Rattle.book_tables.specs.View.{wordAt, nameIn, slotIn, nameOf, entriesFrom, nodeOf, labelPart, fromPart, toPart, nodeSlot, relFrom, relOf, bookAt}
 use Rattle.book_tables.specs.Fits.{EntriesFit, Holds}
 use Rattle.book_tables.specs.Owners.{tablesOf, limitOf, moreOwners}
@@ -29,13 +30,22 @@ use Rattle.book_tables.specs.Stores.{ownerStored, withOwner, ownEntries,
 use Rattle.book_tables.proofs.ListedLaws.{listed-more, listed-same, map-end, sum-end}
 use Rattle.book_tables.proofs.NameLaws.{names-fit-more, node-names}
 use Rattle.book_tables.specs.Agree.{Free, TablesAgree, Agree}
-use Rattle.book_tables.proofs.AgreeLaws.{TablesFit, set-agrees, low-agrees, tables-trans, agree-trans, name-kept, entry-kept, entry-fit-kept, book-kept, tables-kept, slot-kept, from-kept, node-chains-kept, rel-chains-kept}
+use Rattle.book_tables.proofs.AgreeLaws.{TablesFit, set-agrees, low-agrees, tables-trans, agree-trans, name-kept, entry-kept, entry-fit-kept}
+use Rattle.book_tables.proofs.AgreeLaws.{book-kept, tables-kept, slot-kept, from-kept, node-chains-kept, rel-chains-kept}
 use Rattle.book_tables.proofs.Grow.{entries-fit-more, rel-fits-more, own-entries, own-fit}
 use Rattle.book_tables.proofs.Added.{NewName}
 
 -- the counts with n entries more that no owner has yet
 abbrev pub pending : BookCounts → ℕ → BookCounts
-pending c n = record { vattrs = c .vattrs; eattrs = c .eattrs; labels = c .labels; nodes = c .nodes; relationships = c .relationships; entries = c .entries + n }
+pending c n = record {
+  vattrs = c .vattrs;
+  eattrs = c .eattrs;
+  labels = c .labels;
+  nodes = c .nodes;
+  relationships = c .relationships;
+  entries = c .entries
+      + n;
+}
 
 -- words that agree on the pending entries too agree on what is counted
 pub tables-counted : (c : BookCounts) (n : ℕ) (words words′ : List ℕ) → TablesAgree (pending c n) words words′ → TablesAgree c words words′
@@ -66,7 +76,8 @@ pub stored-kept : (text : Bytes) (words words′ : List ℕ) (c : BookCounts) (o
 unfolding entriesFrom
 stored-kept text words words′ c offset declared es a same s = record {
   are =
-      listed-same _ _ (length es) (λ i l. entry-kept text words words′ (pending c (length es)) a offset declared same (c .entries + i) (omega arith) (s .each i l))
+      listed-same _ _ (length es) (λ i l. entry-kept text words words′ (pending c (length es)) a offset declared same (c .entries + i) (omega arith)
+      (s .each i l))
       ∙ s .are;
   each = λ i l. entry-fit-kept text words words′ (pending c (length es)) a declared (c .entries + i) (omega arith) (s .each i l);
 }
@@ -80,7 +91,11 @@ node-counts b n es =
 pub rel-counts : (b : Book) (l x y : Bytes) (es : List Entry) → entryCount (addLine b (rel l x y es)) ≡ entryCount b + length es
 unfolding entryCount addLine
 rel-counts b l x y es =
-    rw (map-end (λ (r : Rel). length (r .entries)) (b .rels) (record { label = l; from = place x (nodeNames b); to = place y (nodeNames b); entries = es }), sum-end) (omega arith)
+    rw (
+      map-end (λ (r : Rel). length (r .entries)) (b .rels)
+          (record { label = l; from = place x (nodeNames b); to = place y (nodeNames b); entries = es }),
+      sum-end,
+    ) (omega arith)
 
 -- where a further owner's words stand: free, apart, and before the chains
 record OwnerRoom (words : List ℕ) (c : BookCounts) (n : ℕ) (t : OwnerTables) : Type 0 where
@@ -100,8 +115,10 @@ module _ (text : Bytes) (words : List ℕ) (c : BookCounts) (b : Book) (holds : 
   entries-before = sym (ap entryCount (holds .is)) ∙ holds .fits .counted
 
   owner-room : (o : Owner) → tablesOf o c .count < limitOf o → OwnerRoom words c (length es) (tablesOf o c)
-  owner-room Node l = let m = holds .fits .within in let z = holds .fits .room in record { word = omega arith; own = omega arith; apart = omega arith; chained = omega arith; heads = omega arith; fits = omega arith }
-  owner-room Relationship l = let m = holds .fits .within in let z = holds .fits .room in record { word = omega arith; own = omega arith; apart = omega arith; chained = omega arith; heads = omega arith; fits = omega arith }
+  owner-room Node l = let m = holds .fits .within in let z = holds .fits .room in
+      record { word = omega arith; own = omega arith; apart = omega arith; chained = omega arith; heads = omega arith; fits = omega arith }
+  owner-room Relationship l = let m = holds .fits .within in let z = holds .fits .room in
+      record { word = omega arith; own = omega arith; apart = omega arith; chained = omega arith; heads = omega arith; fits = omega arith }
 
   -- what a store of a node and of a relationship have in common
   module _ (o : Owner) (w key : ℕ) (room : tablesOf o c .count < limitOf o) (small : key < keys)
@@ -135,7 +152,8 @@ module _ (text : Bytes) (words : List ℕ) (c : BookCounts) (b : Book) (holds : 
     unfolding withOwner
     agrees =
         tables-trans (pending c (length es)) words tables after (stores .tables)
-        (low-agrees (pending c (length es)) tables after (let l = holds .fits .within in omega arith) (length-linked tables (t .heads) (t .links) key (t .count)) low)
+        (low-agrees (pending c (length es)) tables after (let l = holds .fits .within in omega arith)
+        (length-linked tables (t .heads) (t .links) key (t .count)) low)
 
     word-at : wordAt after (t .owners + t .count) ≡ w
     unfolding ownerStored
@@ -150,9 +168,11 @@ module _ (text : Bytes) (words : List ℕ) (c : BookCounts) (b : Book) (holds : 
     entries-at =
         let r = owner-room o room in
         low (t .entries + t .count) (r .own .before-chains)
-        ∙ getD-set-same (set words (t .owners + t .count) w) (t .entries + t .count) (ownEntries c (length es)) 0 (rw length-set (omega (arith, r .own .before-chains)))
+        ∙ getD-set-same (set words (t .owners + t .count) w) (t .entries + t .count) (ownEntries c (length es)) 0
+        (rw length-set (omega (arith, r .own .before-chains)))
 
-    names-same : (o′ : Owner) (i : ℕ) → i < tablesOf o′ c .declared → wordAt after (tablesOf o′ c .attributes + i) ≡ wordAt words (tablesOf o′ c .attributes + i)
+    names-same : (o′ : Owner) (i : ℕ) → i < tablesOf o′ c .declared
+        → wordAt after (tablesOf o′ c .attributes + i) ≡ wordAt words (tablesOf o′ c .attributes + i)
     names-same Node i l = agrees .vattrs i l
     names-same Relationship i l = agrees .eattrs i l
 
@@ -186,59 +206,67 @@ module _ (text : Bytes) (words : List ℕ) (c : BookCounts) (b : Book) (holds : 
         (λ k l. stores .chains (t .heads + k) (omega arith))
         (λ i l. stores .chains (t .links + i) (omega arith)) same)
 
-  module _ (w : ℕ) (room : c .nodes < 256) (name : NewName text (nodeNames b) w) (stored : EntriesStored text words vattrNames (c .vattrs) (c .entries) es) where
-    abbrev slot : ℕ
-    slot = slotIn text w
+  module _ (w : ℕ) (room : c .nodes < 256) (name : NewName text (nodeNames b) w) (stored : EntriesStored text words vattrNames (c .vattrs) (c .entries) es)
+    where
+      abbrev slot : ℕ
+      slot = slotIn text w
 
-    abbrev node-words : List ℕ
-    node-words = withOwner words c Node w slot (length es)
+      abbrev node-words : List ℕ
+      node-words = withOwner words c Node w slot (length es)
 
-    slotted : slot < keys
-    slotted = slot-small (nameIn text w)
+      slotted : slot < keys
+      slotted = slot-small (nameIn text w)
 
-    node-named : nameOf text node-words nodesAt (c .nodes) ≡ nameIn text w
-    unfolding nameOf
-    node-named = rw (word-at Node w slot room slotted stored)
+      node-named : nameOf text node-words nodesAt (c .nodes) ≡ nameIn text w
+      unfolding nameOf
+      node-named = rw (word-at Node w slot room slotted stored)
 
-    node-last : nodeOf text node-words (c .nodes) ≡ record { name = nameIn text w; entries = es }
-    unfolding nodeOf
-    node-last = rw (node-named, entries-at Node w slot room slotted stored, own-entries text node-words vattrNames (c .vattrs) c es (still Node w slot room slotted stored) few)
+      node-last : nodeOf text node-words (c .nodes) ≡ record { name = nameIn text w; entries = es }
+      unfolding nodeOf
+      node-last = rw (
+        node-named,
+        entries-at Node w slot room slotted stored,
+        own-entries text node-words vattrNames (c .vattrs) c es
+            (still Node w slot room slotted stored) few,
+      )
 
-    -- the chains of the relationships are as they were
-    node-rel-chains : Chained node-words fromHeads fromLinks keys (relFrom node-words) (c .relationships)
-    node-rel-chains =
-        let s = slotted in
-        let h = stores Node w slot room slotted stored .chains in
-        rel-chains-kept text words node-words c (counted Node w slot room slotted stored) (holds .fits)
-        (λ k l. linked-else Node w slot room slotted stored (fromHeads + k) (omega arith) (omega arith) ∙ h (fromHeads + k) (omega arith))
-        (λ i l. linked-else Node w slot room slotted stored (fromLinks + i) (omega arith) (omega arith) ∙ h (fromLinks + i) (omega arith))
+      -- the chains of the relationships are as they were
+      node-rel-chains : Chained node-words fromHeads fromLinks keys (relFrom node-words) (c .relationships)
+      node-rel-chains =
+          let s = slotted in
+          let h = stores Node w slot room slotted stored .chains in
+          rel-chains-kept text words node-words c (counted Node w slot room slotted stored) (holds .fits)
+          (λ k l. linked-else Node w slot room slotted stored (fromHeads + k) (omega arith) (omega arith) ∙ h (fromHeads + k) (omega arith))
+          (λ i l. linked-else Node w slot room slotted stored (fromLinks + i) (omega arith) (omega arith) ∙ h (fromLinks + i) (omega arith))
 
-    node-is : bookAt text node-words (moreOwners Node c (length es)) ≡ addLine b (node (nameIn text w) es)
-    unfolding bookAt addLine
-    node-is = rw (listed-more (nodeOf text node-words) (c .nodes), node-last) (ap (λ (x : Book). addLine x (node (nameIn text w) es)) (before Node w slot room slotted stored))
+      node-is : bookAt text node-words (moreOwners Node c (length es)) ≡ addLine b (node (nameIn text w) es)
+      unfolding bookAt addLine
+      node-is = rw (listed-more (nodeOf text node-words) (c .nodes), node-last)
+          (ap (λ (x : Book). addLine x (node (nameIn text w) es)) (before Node w slot room slotted stored))
 
-    pub node-added : Holds text (withOwner words c Node w (slotIn text w) (length es)) (moreOwners Node c (length es)) (addLine b (node (nameIn text w) es))
-    node-added =
-        let f = fits Node w slot room slotted stored in
-        record {
-          fits = record {
-            room = f .room;
-            within = let m = f .within in omega arith;
-            vattrs = f .vattrs;
-            eattrs = f .eattrs;
-            labels = f .labels;
-            nodes = names-fit-more text node-words nodesAt (c .nodes) (f .nodes) (rw (word-at Node w slot room slotted stored) (name .inside))
-                (rw (node-named, ← node-names text node-words c, before Node w slot room slotted stored) (name .new));
-            of-nodes = own-fits Node w slot room slotted stored (f .of-nodes);
-            rels = λ i l. rel-fits-more (c .labels) (c .labels) (c .nodes) (c .nodes + 1) _ (omega arith) (omega arith) (f .rels i l);
-            of-rels = λ i l. entries-fit-more text node-words (c .eattrs) (c .eattrs) (c .entries) (c .entries + length es) _ (omega arith) (omega arith) (f .of-rels i l);
-            counted = ap entryCount node-is ∙ node-counts b (nameIn text w) es ∙ ap (λ (n : ℕ). n + length es) entries-before;
-            node-chains = own-chains Node w slot room slotted stored (nodeSlot text words) (nodeSlot text node-words) (ap slotOf node-named)
-                (slot-kept text words node-words c (counted Node w slot room slotted stored) (holds .fits)) (holds .fits .node-chains);
-            rel-chains = node-rel-chains;
-          };
-          is = node-is;
-        }
+      pub node-added : Holds text (withOwner words c Node w (slotIn text w) (length es)) (moreOwners Node c (length es)) (addLine b (node (nameIn text w) es))
+      node-added =
+          let f = fits Node w slot room slotted stored in
+          record {
+            fits = record {
+              room = f .room;
+              within = let m = f .within in omega arith;
+              vattrs = f .vattrs;
+              eattrs = f .eattrs;
+              labels = f .labels;
+              nodes = names-fit-more text node-words nodesAt (c .nodes) (f .nodes) (rw (word-at Node w slot room slotted stored) (name .inside))
+                  (rw (node-named, ← node-names text node-words c, before Node w slot room slotted stored) (name .new));
+              of-nodes = own-fits Node w slot room slotted stored (f .of-nodes);
+              rels = λ i l. rel-fits-more (c .labels) (c .labels) (c .nodes) (c .nodes + 1) _ (omega arith) (omega arith) (f .rels i l);
+              of-rels = λ i l. entries-fit-more text node-words (c .eattrs) (c .eattrs) (c .entries) (c .entries + length es) _ (omega arith) (omega arith)
+                  (f .of-rels i l);
+              counted = ap entryCount node-is ∙ node-counts b (nameIn text w) es ∙ ap (λ (n : ℕ). n + length es) entries-before;
+              node-chains = own-chains Node w slot room slotted stored (nodeSlot text words) (nodeSlot text node-words) (ap slotOf node-named)
+                  (slot-kept text words node-words c (counted Node w slot room slotted stored) (holds .fits)) (holds .fits .node-chains);
+              rel-chains = node-rel-chains;
+            };
+            is = node-is;
+          }
 
   module _ (l x y : ℕ) (label from to : Bytes) (room : c .relationships < 1024) (lin : l < c .labels) (xin : x < c .nodes) (yin : y < c .nodes)
       (labelled : nameOf text words labelNames l ≡ label) (from-place : place from (nodeNames b) ≡ x) (to-place : place to (nodeNames b) ≡ y)
@@ -296,7 +324,8 @@ module _ (text : Bytes) (words : List ℕ) (c : BookCounts) (b : Book) (holds : 
           rels = z .rels ++ (record { label = label; from = place from (nodeNames b); to = place to (nodeNames b); entries = es } ∷ []);
         }) (before Relationship rel-word x room left stored))
 
-    pub rel-added : Holds text (withOwner words c Relationship (l * 65536 + x * 256 + y) x (length es)) (moreOwners Relationship c (length es)) (addLine b (rel label from to es))
+    pub rel-added : Holds text (withOwner words c Relationship (l * 65536 + x * 256 + y) x (length es)) (moreOwners Relationship c (length es))
+        (addLine b (rel label from to es))
     rel-added =
         let f = fits Relationship rel-word x room left stored in
         record {
@@ -307,14 +336,17 @@ module _ (text : Bytes) (words : List ℕ) (c : BookCounts) (b : Book) (holds : 
             eattrs = f .eattrs;
             labels = f .labels;
             nodes = f .nodes;
-            of-nodes = λ i l. entries-fit-more text rel-words (c .vattrs) (c .vattrs) (c .entries) (c .entries + length es) _ (omega arith) (omega arith) (f .of-nodes i l);
+            of-nodes = λ i l. entries-fit-more text rel-words (c .vattrs) (c .vattrs) (c .entries) (c .entries + length es) _ (omega arith) (omega arith)
+                (f .of-nodes i l);
             rels = λ i l. either (equal-or-not i (c .relationships))
-                (λ e. rw (e, word-at Relationship rel-word x room left stored) (record { label = omega (arith, label-of); from = omega (arith, from-of); to = omega (arith, to-of) }))
+                (λ e. rw (e, word-at Relationship rel-word x room left stored)
+                (record { label = omega (arith, label-of); from = omega (arith, from-of); to = omega (arith, to-of) }))
                 (λ e. f .rels i (omega arith));
             of-rels = own-fits Relationship rel-word x room left stored (f .of-rels);
             counted = ap entryCount rel-is ∙ rel-counts b label from to es ∙ ap (λ (n : ℕ). n + length es) entries-before;
             node-chains = rel-node-chains;
-            rel-chains = own-chains Relationship rel-word x room left stored (relFrom words) (relFrom rel-words) (ap (λ (v : ℕ). fromPart v) (word-at Relationship rel-word x room left stored) ∙ from-of)
+            rel-chains = own-chains Relationship rel-word x room left stored (relFrom words) (relFrom rel-words)
+                (ap (λ (v : ℕ). fromPart v) (word-at Relationship rel-word x room left stored) ∙ from-of)
                 (from-kept text words rel-words c (counted Relationship rel-word x room left stored) (holds .fits)) (holds .fits .rel-chains);
           };
           is = rel-is;

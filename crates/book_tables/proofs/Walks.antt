@@ -43,11 +43,13 @@ module _ (rule : NameRule) (text : Bytes) (words : List ℕ) (c : BookCounts) (f
         → (next : ℕ) → next ≡ wordAt words (nodeLinks + (entry - 1)) → NodeWalk rule text words name (c .nodes) next
     unfolding nameOf
     nodes-next t te tf next e =
-        walk-next words nodeHeads nodeLinks keys (nodeSlot text words) (c .nodes) (f .node-chains) (slotOf name) named entry (entry - 1) is-next w next (sym te ∙ tf) e
+        walk-next words nodeHeads nodeLinks keys (nodeSlot text words) (c .nodes) (f .node-chains) (slotOf name) named entry (entry - 1) is-next w next
+        (sym te ∙ tf) e
 
     pub nodes-fall : (next : ℕ) → next ≡ wordAt words (nodeLinks + (entry - 1)) → next < entry
     nodes-fall next e =
-        let h = walk-falls words nodeHeads nodeLinks keys (nodeSlot text words) (c .nodes) (f .node-chains) (slotOf name) named entry (entry - 1) is-next w next e in omega arith
+        let h = walk-falls words nodeHeads nodeLinks keys (nodeSlot text words) (c .nodes) (f .node-chains) (slotOf name) named entry
+        (entry - 1) is-next w next e in omega arith
 
     pub node-found : (t : Bool) → t ≡ alike rule name (nameIn text (wordAt words (nodesAt + (entry - 1)))) → t ≡ true
         → NodeAlike rule text words c name (entry - 1)
@@ -88,11 +90,14 @@ module _ (text : Bytes) (words : List ℕ) (c : BookCounts) (f : Fits text words
 
     pub rels-fall : (next : ℕ) → next ≡ wordAt words (fromLinks + (entry - 1)) → next < entry
     rels-fall next e =
-        let h = walk-falls words fromHeads fromLinks keys (relFrom words) (c .relationships) (f .rel-chains) x runs entry (entry - 1) rel-is-next w next e in omega arith
+        let h = walk-falls words fromHeads fromLinks keys (relFrom words) (c .relationships) (f .rel-chains) x runs entry (entry - 1) rel-is-next w next
+        e in omega arith
 
     pub rel-found : relWord words (entry - 1) ≡ l * 65536 + x * 256 + y → true ≡ related (bookAt text words c) (nameOf text words labelNames l) x y
     rel-found e = related-here text words c f l x y lin xin yin (entry - 1) rels-inside e
 
-  pub rel-absent : (entry : ℕ) → entry ≡ 0 → RelWalk text words l x y (c .relationships) entry → false ≡ related (bookAt text words c) (nameOf text words labelNames l) x y
+  pub rel-absent : (entry : ℕ) → entry ≡ 0 → RelWalk text words l x y (c .relationships) entry
+      → false ≡ related (bookAt text words c) (nameOf text words labelNames l) x y
   rel-absent entry z w =
-      related-not text words c f l x y lin xin yin (walk-over words fromHeads fromLinks keys (relFrom words) (c .relationships) (f .rel-chains) x runs entry z w)
+      related-not text words c f l x y lin xin yin
+      (walk-over words fromHeads fromLinks keys (relFrom words) (c .relationships) (f .rel-chains) x runs entry z w)

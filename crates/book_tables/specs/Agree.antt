@@ -5,7 +5,8 @@ use mathlib.Core.Logic.{_≢_}
 use mathlib.Core.List.{List}
 use lib.ListN.{length}
 use Rattle.book_tables.specs.declared.BookCounts.{BookCounts}
-use Rattle.book_tables.specs.Layout.{vattrNames, eattrNames, typesBehind, labelNames, nodeNames, nodeEntries, relationships, relationshipEntries, entries, nodeHeads}
+use Rattle.book_tables.specs.Layout.{vattrNames, eattrNames, typesBehind, labelNames, nodeNames, nodeEntries, relationships}
+use Rattle.book_tables.specs.Layout.{relationshipEntries, entries, nodeHeads}
 use Rattle.book_tables.specs.View.{wordAt}
 
 -- a place is that of no word counted, and of none of a chain

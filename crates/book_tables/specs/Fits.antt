@@ -1,4 +1,5 @@
--- What is true of the tables' words whenever they hold a book: everything counted stands inside its table, and points inside the text; and the chains are right.
+-- What is true of the tables' words whenever they hold a book: everything counted stands inside its table, and points inside the text; and the chains are
+-- right.
 use Prim.Native.Nat.{ℕ, _+_, _*_, _/_, _%_, _≤_, _<_}
 use mathlib.Core.Path.{_≡_}
 use mathlib.Core.List.{List}
@@ -7,7 +8,8 @@ use Rattle.model.specs.Bytes.{Bytes}
 use Rattle.model.specs.Book.{Book, entryCount}
 use Rattle.chains.specs.Chains.{Chained}
 use Rattle.book_tables.specs.declared.BookCounts.{BookCounts}
-use Rattle.book_tables.specs.Layout.{vattrNames, eattrNames, labelNames, nodeNames, nodeEntries, relationshipEntries, entries, nodeHeads, nodeLinks, fromHeads, fromLinks, keys, bookWords}
+use Rattle.book_tables.specs.Layout.{vattrNames, eattrNames, labelNames, nodeNames, nodeEntries, relationshipEntries, entries, nodeHeads}
+use Rattle.book_tables.specs.Layout.{nodeLinks, fromHeads, fromLinks, keys, bookWords}
 use Rattle.book_tables.specs.View.{wordAt, startPart, countPart, nameOf, entryHead, labelPart, fromPart, toPart, relWord, nodeSlot, relFrom, bookAt}
 
 -- a part of the text, by its start and length, ends inside it

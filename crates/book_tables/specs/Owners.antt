@@ -10,7 +10,8 @@ use Rattle.book_tables.specs.declared.BookCounts.{BookCounts}
 use Rattle.book_tables.specs.declared.Owner.{Owner}
 use Rattle.book_tables.specs.declared.Owner.the-variants.{Node, Relationship}
 use Rattle.book_tables.specs.declared.OwnerTables.{OwnerTables}
-use Rattle.book_tables.specs.Layout.{vattrNames, eattrNames, nodeNames, nodeEntries, relationships, relationshipEntries, nodeHeads, nodeLinks, fromHeads, fromLinks}
+use Rattle.book_tables.specs.Layout.{vattrNames, eattrNames, nodeNames, nodeEntries, relationships, relationshipEntries, nodeHeads, nodeLinks}
+use Rattle.book_tables.specs.Layout.{fromHeads, fromLinks}
 use Rattle.book_tables.specs.Fits.{NamesFit}
 
 -- where its tables stand, and how much they hold
@@ -18,7 +19,15 @@ abbrev pub tablesOf : Owner → BookCounts → OwnerTables
 tablesOf Node c =
     record { attributes = vattrNames; declared = c .vattrs; owners = nodeNames; entries = nodeEntries; heads = nodeHeads; links = nodeLinks; count = c .nodes }
 tablesOf Relationship c =
-    record { attributes = eattrNames; declared = c .eattrs; owners = relationships; entries = relationshipEntries; heads = fromHeads; links = fromLinks; count = c .relationships }
+    record {
+      attributes = eattrNames;
+      declared = c .eattrs;
+      owners = relationships;
+      entries = relationshipEntries;
+      heads = fromHeads;
+      links = fromLinks;
+      count = c .relationships;
+    }
 
 -- how many it may be
 abbrev pub limitOf : Owner → ℕ
@@ -47,13 +56,44 @@ declares Node n k = vattr n k
 declares Relationship n k = eattr n k
 
 abbrev pub moreAttrs : Owner → BookCounts → BookCounts
-moreAttrs Node c = record { vattrs = c .vattrs + 1; eattrs = c .eattrs; labels = c .labels; nodes = c .nodes; relationships = c .relationships; entries = c .entries }
-moreAttrs Relationship c = record { vattrs = c .vattrs; eattrs = c .eattrs + 1; labels = c .labels; nodes = c .nodes; relationships = c .relationships; entries = c .entries }
+moreAttrs Node c = record {
+  vattrs = c .vattrs + 1;
+  eattrs = c .eattrs;
+  labels = c .labels;
+  nodes = c .nodes;
+  relationships = c .relationships;
+  entries =
+      c .entries;
+}
+moreAttrs Relationship c = record {
+  vattrs = c .vattrs;
+  eattrs = c .eattrs + 1;
+  labels = c .labels;
+  nodes = c .nodes;
+  relationships = c .relationships;
+  entries = c .entries;
+}
 
 -- the counts with an owner more, and its entries
 abbrev pub moreOwners : Owner → BookCounts → ℕ → BookCounts
-moreOwners Node c n = record { vattrs = c .vattrs; eattrs = c .eattrs; labels = c .labels; nodes = c .nodes + 1; relationships = c .relationships; entries = c .entries + n }
-moreOwners Relationship c n = record { vattrs = c .vattrs; eattrs = c .eattrs; labels = c .labels; nodes = c .nodes; relationships = c .relationships + 1; entries = c .entries + n }
+moreOwners Node c n = record {
+  vattrs = c .vattrs;
+  eattrs = c .eattrs;
+  labels = c .labels;
+  nodes = c .nodes
+      + 1;
+  relationships = c .relationships;
+  entries = c .entries + n;
+}
+moreOwners Relationship c n = record {
+  vattrs = c .vattrs;
+  eattrs = c .eattrs;
+  labels = c .labels;
+  nodes = c .nodes;
+  relationships = c .relationships
+      + 1;
+  entries = c .entries + n;
+}
 
 -- the attributes declared at an offset
 pub record AttrTable (text : Bytes) (words : List ℕ) (offset declared : ℕ) : Type 0 where

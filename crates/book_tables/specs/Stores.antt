@@ -19,7 +19,15 @@ noCounts = record { vattrs = 0; eattrs = 0; labels = 0; nodes = 0; relationships
 
 -- one label more in the counts
 abbrev pub moreLabels : BookCounts → BookCounts
-moreLabels c = record { vattrs = c .vattrs; eattrs = c .eattrs; labels = c .labels + 1; nodes = c .nodes; relationships = c .relationships; entries = c .entries }
+moreLabels c = record {
+  vattrs = c .vattrs;
+  eattrs = c .eattrs;
+  labels = c .labels + 1;
+  nodes = c .nodes;
+  relationships = c .relationships;
+  entries =
+      c .entries;
+}
 
 -- the words without a node or a relationship in any chain
 unfoldable pub withoutChains : List ℕ → List ℕ

@@ -25,7 +25,8 @@ pub fn is_related(
     to: usize,
 ) -> bool
     requires { ⌜ Fits (now text) (now words) counts × (label < counts .labels) × (from < counts .nodes) × (to < counts .nodes) ⌝ }
-    ensures { λ r. ⌜ r ≡ related (bookAt (now (text .entry)) (now (words .entry)) counts) (nameOf (now (text .entry)) (now (words .entry)) labelNames label) from to ⌝ }
+    ensures { λ r. ⌜ r ≡ related (bookAt (now (text .entry)) (now (words .entry)) counts)
+        (nameOf (now (text .entry)) (now (words .entry)) labelNames label) from to ⌝ }
 {
     let word = (label * NODE_PAIRS + from * NODES + to) as u32;
     let count = counts.relationships;

@@ -41,7 +41,8 @@ pub fn store_attr(
     kind: u32,
 ) -> BookCounts
     requires { ⌜ (bookWords ≤ length (now words)) × Within counts × (tablesOf owner counts .declared < 32) ⌝ }
-    ensures stored { λ r. ⌜ now (words .exit) ≡ withAttr (now (words .entry)) (tablesOf owner counts .attributes) (tablesOf owner counts .declared) name kind ⌝ }
+    ensures stored { λ r. ⌜ now (words .exit)
+        ≡ withAttr (now (words .entry)) (tablesOf owner counts .attributes) (tablesOf owner counts .declared) name kind ⌝ }
     ensures counted { λ r. ⌜ r ≡ moreAttrs owner counts ⌝ }
 {
     let tables = owners::tables(counts, owner);

@@ -45,11 +45,13 @@ module _ (book rules query request : Bytes) (rows work rows′ work′ : List �
       → (list : List (List ℕ)) × HadRows b r q x list
   rows-that-may-be-had b r q x h = (rowsFor b r q x, had-rows (length work) book rules query request b r q x h)
 
-  given : (list : List (List ℕ)) (a : Due list) → found ≡ pick (ltb (length rows) (wordsNeeded a)) (refusal 14 5 0) (accepted (record { rows = list; width = length (a .q .returns) }))
+  given : (list : List (List ℕ)) (a : Due list)
+      → found ≡ pick (ltb (length rows) (wordsNeeded a)) (refusal 14 5 0) (accepted (record { rows = list; width = length (a .q .returns) }))
   given list a =
       let e = only-list (length work) book rules query request (a .b) (a .r) (a .q) (a .x) (a .premises) list (a .had) in
       rows-given (length work) book rules query request (a .b) (a .r) (a .q) (a .x) (a .premises) (length rows)
-      ∙ ap (λ (l : List (List ℕ)). pick (ltb (length rows) (length l * length (a .q .returns))) (refusal 14 5 0) (accepted (record { rows = l; width = length (a .q .returns) }))) (sym e)
+      ∙ ap (λ (l : List (List ℕ)). pick (ltb (length rows) (length l * length (a .q .returns))) (refusal 14 5 0)
+      (accepted (record { rows = l; width = length (a .q .returns) }))) (sym e)
 
   -- the theorem: the rows that may be had are listed if they fit, and 14 is answered if they do not
   pub listed-if-they-fit : (list : List (List ℕ)) (a : Due list) → wordsNeeded a ≤ length rows → RowsGiven list (length (a .q .returns)) (length rows) rows′ res
@@ -91,17 +93,26 @@ module _ (book rules query request : Bytes) (rows work rows′ work′ : List �
           q = g .q;
           x = g .x;
           premises = h;
-          had = subst (λ (z : FoundRows). HadRows (g .b) (g .r) (g .q) (g .x) (z .rows)) (sym (g .found-is)) (had-rows (length work) book rules query request (g .b) (g .r) (g .q) (g .x) h);
+          had = subst (λ (z : FoundRows). HadRows (g .b) (g .r) (g .q) (g .x) (z .rows)) (sym (g .found-is))
+              (had-rows (length work) book rules query request (g .b) (g .r) (g .q) (g .x) h);
         } in
-        let same : _≡_ {A = ListAnswer} (record { rows = length (f .rows); width = f .width }) (record { rows = n; width = w }) = cc in
-        (f .rows, a, g .fits, ap (λ (z : ListAnswer). z .rows) same, sym (ap (λ (z : FoundRows). z .width) (g .found-is)) ∙ ap (λ (z : ListAnswer). z .width) same),
+        let same : _≡_ {A = ListAnswer} (record { rows = length (f .rows); width = f .width }) (record { rows = n; width = w }) = cc in (
+          f .rows,
+          a,
+          g .fits,
+          ap (λ (z : ListAnswer). z .rows) same,
+          sym (ap (λ (z : FoundRows). z .width) (g .found-is))
+              ∙ ap (λ (z : ListAnswer). z .width) same,
+        ),
     λ (list, a, l, m, v). listed-if-they-fit list a l .number-and-width ∙ ap₂ (λ (i j : ℕ). accepted (record { rows = i; width = j })) m v,
   )
 
 -- Not vacuous: the paper's texts meet the premises,
-premises-example : Premises 16384 (bytesOf example.book) (bytesOf example.rules) (bytesOf example.query) (bytesOf example.request) example.theBook example.theRules example.theQuery example.theRequest
+premises-example : Premises 16384 (bytesOf example.book) (bytesOf example.rules) (bytesOf example.query) (bytesOf example.request) example.theBook
+    example.theRules example.theQuery example.theRequest
 unfolding computing
-premises-example = premises-of 16384 (bytesOf example.book) (bytesOf example.rules) (bytesOf example.query) (bytesOf example.request) example.theBook example.theRules example.theQuery example.theRequest
+premises-example = premises-of 16384 (bytesOf example.book) (bytesOf example.rules) (bytesOf example.query) (bytesOf example.request) example.theBook
+    example.theRules example.theQuery example.theRequest
     (record {
       rules-before = record { book-before = record { memory-whole = omega arith; book-read = example.book-read }; rules-read = example.rules-read };
       query-read = example.query-read;
@@ -110,9 +121,12 @@ premises-example = premises-of 16384 (bytesOf example.book) (bytesOf example.rul
 
 -- and a call on them, with two row words lent, answers one row of one name: that of S5, then all ones
 row-example : (rows work rows′ work′ : List ℕ) (res : RowsListed) → length rows ≡ 2 → length work ≡ 16384
-    → ListCalled (bytesOf example.book) (bytesOf example.rules) (bytesOf example.query) (bytesOf example.request) rows work rows′ work′ res → (listAnswer res ≡ accepted (record { rows = 1; width = 1 })) × (rows′ ≡ 2 ∷ 4294967295 ∷ [])
+    → ListCalled (bytesOf example.book) (bytesOf example.rules) (bytesOf example.query) (bytesOf example.request) rows work rows′ work′ res
+    → (listAnswer res ≡ accepted (record { rows = 1; width = 1 })) × (rows′ ≡ 2 ∷ 4294967295 ∷ [])
 unfolding computing
 row-example rows work rows′ work′ res m n call = (
-  call .answer ∙ ap₂ (λ (i j : ℕ). listService i j (bytesOf example.book) (bytesOf example.rules) (bytesOf example.query) (bytesOf example.request) .answer) n m,
-  call .rows-left ∙ ap₂ (λ (i j : ℕ). listService i j (bytesOf example.book) (bytesOf example.rules) (bytesOf example.query) (bytesOf example.request) .rows) n m,
+  call .answer ∙ ap₂ (λ (i j : ℕ). listService i j (bytesOf example.book) (bytesOf example.rules) (bytesOf example.query)
+      (bytesOf example.request) .answer) n m,
+  call .rows-left ∙ ap₂ (λ (i j : ℕ). listService i j (bytesOf example.book) (bytesOf example.rules) (bytesOf example.query)
+      (bytesOf example.request) .rows) n m,
 )

@@ -31,7 +31,8 @@ use Rattle.model.specs.Refused.{AllRead, woven, wovenNumber, rowsFor, foundFor}
 use Rattle.model.specs.Demands.{Premises, HadRows}
 
 -- a woven pattern has no fault exactly if it passes no limit and each of its vertices is tied to an identity
-pub woven-clear : (p : WovenPattern) (ids : List Identity) → (wovenFault p ids ≡ nothing) ↔ ((T (wovenTooMany p) → ⊥) × ((v : ℕ) → IsVertex p v → TiedTo p ids v))
+pub woven-clear : (p : WovenPattern) (ids : List Identity)
+    → (wovenFault p ids ≡ nothing) ↔ ((T (wovenTooMany p) → ⊥) × ((v : ℕ) → IsVertex p v → TiedTo p ids v))
 unfolding wovenFault lowest
 woven-clear p ids = (λ e. let u = go (wovenTooMany p) every .0 e in (u .0, each (u .1)), λ u. go (wovenTooMany p) every .1 (u .0, back (u .1)))
   where
@@ -39,10 +40,12 @@ woven-clear p ids = (λ e. let u = go (wovenTooMany p) every .0 e in (u .0, each
     every = all (λ v. memℕ v (tied p ids)) (below (length (p .vertices)))
 
     each : T every → (v : ℕ) → IsVertex p v → TiedTo p ids v
-    each t v l = tied-by-path p ids v .0 (memℕ-e v (tied p ids) (all-e (λ v. memℕ v (tied p ids)) (below (length (p .vertices))) t v (below-i (length (p .vertices)) v l)))
+    each t v l = tied-by-path p ids v .0 (memℕ-e v (tied p ids)
+        (all-e (λ v. memℕ v (tied p ids)) (below (length (p .vertices))) t v (below-i (length (p .vertices)) v l)))
 
     back : ((v : ℕ) → IsVertex p v → TiedTo p ids v) → T every
-    back h = all-i (λ v. memℕ v (tied p ids)) (below (length (p .vertices))) (λ v m. memℕ-i v (tied p ids) (tied-by-path p ids v .1 (h v (below-e (length (p .vertices)) v m))))
+    back h = all-i (λ v. memℕ v (tied p ids)) (below (length (p .vertices)))
+        (λ v m. memℕ-i v (tied p ids) (tied-by-path p ids v .1 (h v (below-e (length (p .vertices)) v m))))
 
     go : (a c : Bool) → (pick {A = Maybe ℕ} a (just 12) (pick (not c) (just 13) nothing) ≡ nothing) ↔ ((T a → ⊥) × T c)
     go true c = (λ e. let z : _≡_ {A = ℕ} 0 1 = cc in absurd (omega arith), λ u. absurd (u .0 tt))
@@ -64,7 +67,8 @@ module _ (work : ℕ) (book rules query request : Bytes) (b : Book) (r : Rules) 
     had-rows =
         let a = rows-ascend b (x .identities) (askedQuery r x q) (askedPolicies r x) in
         record {
-          every-row-and-no-other = rows-may-be-had b (x .identities) (askedQuery r x q) (askedPolicies r x) (query-named b query q (h .read .query-read)) (policies-named b rules r (h .read .rules-before .rules-read) x);
+          every-row-and-no-other = rows-may-be-had b (x .identities) (askedQuery r x q) (askedPolicies r x) (query-named b query q (h .read .query-read))
+              (policies-named b rules r (h .read .rules-before .rules-read) x);
           ascending = a;
           each-once = ascending-none-twice (rowsFor b r q x) a;
         }
@@ -72,10 +76,12 @@ module _ (work : ℕ) (book rules query request : Bytes) (b : Book) (r : Rules) 
     -- and there is only one such list
     pub only-list : (list : List (List ℕ)) → HadRows b r q x list → list ≡ rowsFor b r q x
     only-list list g = same-list list (rowsFor b r q x) (ascending-sorted list (g .ascending)) (ascending-sorted (rowsFor b r q x) (had-rows .ascending))
-        (λ row m. had-rows .every-row-and-no-other row .1 (g .every-row-and-no-other row .0 m)) (λ row m. g .every-row-and-no-other row .1 (had-rows .every-row-and-no-other row .0 m))
+        (λ row m. had-rows .every-row-and-no-other row .1 (g .every-row-and-no-other row .0 m))
+        (λ row m. g .every-row-and-no-other row .1 (had-rows .every-row-and-no-other row .0 m))
 
     -- what the list gives: these rows, or 14 where they do not fit
-    pub rows-given : (words : ℕ) → listFound work words book rules query request ≡ pick (ltb words (length (rowsFor b r q x) * length (q .returns))) (refusal 14 5 0) (accepted (foundFor b r q x))
+    pub rows-given : (words : ℕ) → listFound work words book rules query request
+        ≡ pick (ltb words (length (rowsFor b r q x) * length (q .returns))) (refusal 14 5 0) (accepted (foundFor b r q x))
     unfolding listFound withWork onAccept refusedIf
     rows-given words = rw (
       le-ltb work 16384 (h .read .rules-before .book-before .memory-whole),

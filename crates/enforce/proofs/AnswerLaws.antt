@@ -42,7 +42,8 @@ use Rattle.enforce.proofs.DeclaredLaws.{labels-below, attributes-below}
 use Rattle.enforce.proofs.TextLaws.{tree-is, texts-are}
 use Rattle.enforce.proofs.ClearLaws.{some-returned, texts-sound}
 
-module _ (book : Bytes) (words : List ℕ) (k : BookCounts) (query rules : Bytes) (rulesWords : List ℕ) (rc : RulesCounts) (category : ℕ) (clear : TextsClear book words k query rules rulesWords rc category) where
+module _ (book : Bytes) (words : List ℕ) (k : BookCounts) (query rules : Bytes) (rulesWords : List ℕ) (rc : RulesCounts) (category : ℕ)
+    (clear : TextsClear book words k query rules rulesWords rc category) where
   abbrev b : Book
   b = bookAt book words k
 
@@ -57,7 +58,8 @@ module _ (book : Bytes) (words : List ℕ) (k : BookCounts) (query rules : Bytes
       let whole = texts-are query rules rulesWords rc (clear .rules-fit) category (clear .counted) x (its ∙ ap (nameOf rules rulesWords names) at) tree is in
       subst (λ a. AskedSays book words k query rules a (x .identities) (length (tree .returns)) woven out) (sym whole)
       (subst (λ ids. AskedSays book words k query rules all-texts ids (length (tree .returns)) woven out) (sym same)
-      (subst (λ (t : QueryText). AskedSays book words k query rules all-texts (identitiesIn request (rd .identities) (rd .count)) (length (t .returns)) woven out) (tree-is query tree is) says))
+      (subst (λ (t : QueryText). AskedSays book words k query rules all-texts (identitiesIn request (rd .identities) (rd .count))
+      (length (t .returns)) woven out) (tree-is query tree is) says))
 
   module _ (old new : List ℕ) (c : WovenCounts) (held : Held b k query rules rulesWords rc category (rc .categories) old c) where
     pub finish-ready : (identities : List IdentityData) (count : ℕ) → IdentitiesReady identities count → FinishReady query rules old c identities count
@@ -81,7 +83,8 @@ module _ (book : Bytes) (words : List ℕ) (k : BookCounts) (query rules : Bytes
     return-count e =
         let tree = patternOf (treeOf query) in
         sym (length-listed (λ i. getD new (408 + i) 0) (c .returns)) ∙ ap (λ (p : WovenPattern). length (p .returns)) e
-        ∙ length-map (λ (v : ℕ). moved (weave all-texts .vertices) (underNames 0 (actorsAt rules rulesWords category) tree) v) (tree .returns) ∙ length-map (λ v. place v (vertexNames (treeOf query))) (treeOf query .returns)
+        ∙ length-map (λ (v : ℕ). moved (weave all-texts .vertices) (underNames 0 (actorsAt rules rulesWords category) tree) v) (tree .returns)
+        ∙ length-map (λ v. place v (vertexNames (treeOf query))) (treeOf query .returns)
 
     module _ (ids : List Identity) (finished : Finished query rules ids old new c true) (room : wovenWords ≤ length new) where
       stays : wovenAt b query rules new c ≡ weave all-texts
@@ -117,6 +120,7 @@ module _ (book : Bytes) (words : List ℕ) (k : BookCounts) (query rules : Bytes
         held = stays;
         no-fault = woven-fault b query rules all-texts old new c (held .held) ids true finished;
         given = search-given;
-        identified = λ once. subst (λ p. Identified p ids new) stays (identities-say (wovenAt b query rules new c) ids new once (λ v h. finished .given b v (omega (arith, vertex-count))));
+        identified = λ once. subst (λ p. Identified p ids new) stays
+            (identities-say (wovenAt b query rules new c) ids new once (λ v h. finished .given b v (omega (arith, vertex-count))));
         returns = return-count stays;
       }

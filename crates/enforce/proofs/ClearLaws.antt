@@ -50,7 +50,8 @@ all-take p zero s t = tt
 all-take p (suc k) [] t = tt
 all-take p (suc k) (b ∷ s) t = let u = pick-iff (p b) (all p s) .1 t in pick-iff (p b) (all p (take k s)) .0 (u .0, all-take p k s (u .1))
 
-module _ (book : Bytes) (words : List ℕ) (k : BookCounts) (query rules : Bytes) (rulesWords : List ℕ) (rc : RulesCounts) (category : ℕ) (clear : TextsClear book words k query rules rulesWords rc category) where
+module _ (book : Bytes) (words : List ℕ) (k : BookCounts) (query rules : Bytes) (rulesWords : List ℕ) (rc : RulesCounts) (category : ℕ)
+    (clear : TextsClear book words k query rules rulesWords rc category) where
   abbrev b : Book
   b = bookAt book words k
 
@@ -101,7 +102,8 @@ module _ (book : Bytes) (words : List ℕ) (k : BookCounts) (query rules : Bytes
 
     policy-allowed : Allowed (policyText rules rulesWords i)
     unfolding policyText partOf
-    policy-allowed = all-take isAllowed (wordAt rulesWords (policyAt i + 2)) (drop (wordAt rulesWords (policyAt i + 1)) rules) (all-drop isAllowed (wordAt rulesWords (policyAt i + 1)) rules (line-allowed 1 rules (rules-bytes .allowed)))
+    policy-allowed = all-take isAllowed (wordAt rulesWords (policyAt i + 2)) (drop (wordAt rulesWords (policyAt i + 1)) rules)
+        (all-drop isAllowed (wordAt rulesWords (policyAt i + 1)) rules (line-allowed 1 rules (rules-bytes .allowed)))
 
     pub policy-asked : PatternAsked book words k (policyText rules rulesWords i)
     policy-asked = record { fits = clear .fits; clear = policy-clear; allowed = policy-allowed }
@@ -112,7 +114,8 @@ module _ (book : Bytes) (words : List ℕ) (k : BookCounts) (query rules : Bytes
   texts-named a i =
       let x : Request = record { category = nameOf rules rulesWords names category; identities = [] } in
       ⊎-elim (λ e. subst (λ (z : Asked). Named (z .text)) (sym e) query-named)
-      (λ j. let p = asked-policy r x a (subst (λ z. a ∈ z) (sym (policies-are query rules rulesWords rc (clear .rules-fit) category (clear .counted) x refl)) j) in
+      (λ j. let p = asked-policy r x a (subst (λ z. a ∈ z)
+      (sym (policies-are query rules rulesWords rc (clear .rules-fit) category (clear .counted) x refl)) j) in
       subst (λ (z : Asked). Named (z .text)) (sym (p .2)) (rules-named b rules r (clear .rules-read) (p .0) (p .1)))
       (cases-cons i)
 
@@ -122,4 +125,5 @@ module _ (book : Bytes) (words : List ℕ) (k : BookCounts) (query rules : Bytes
   pub texts-sound-below : (m : ℕ) → m ≤ rc .categories → Each Sound (textsBelow query rules rulesWords rc category m)
   texts-sound-below m h =
       let rest = texts-rest query rules rulesWords rc category m h in
-      each-i Sound (textsBelow query rules rulesWords rc category m) (λ a i. pattern-ranged (a .text) (texts-named a (subst (λ z. a ∈ z) (sym (rest .1)) (append-left (rest .0) i))))
+      each-i Sound (textsBelow query rules rulesWords rc category m)
+      (λ a i. pattern-ranged (a .text) (texts-named a (subst (λ z. a ∈ z) (sym (rest .1)) (append-left (rest .0) i))))

@@ -66,17 +66,21 @@ module _ (k : BookCounts) (text : Bytes) (p : PatternData) (fits : PatternFits (
   pub pattern-named : AllNamed (patternIn (oneNamed k) text p)
   unfolding patternIn edgeIn oneNamed
   pattern-named = record {
-    edges = each-map (λ (e : EdgeData). e .label < k .labels) (λ (e : Edge). e .label ≡ aName) (edgeIn (oneNamed k) text) (take (p .counts .edges) (p .edges)) (λ e h. name-at (k .labels) (e .label) h)
+    edges = each-map (λ (e : EdgeData). e .label < k .labels) (λ (e : Edge). e .label ≡ aName) (edgeIn (oneNamed k) text)
+        (take (p .counts .edges) (p .edges)) (λ e h. name-at (k .labels) (e .label) h)
         (each-take (λ (e : EdgeData). e .label < k .labels) noEdge (p .edges) (p .counts .edges) (λ i h. fits .edges .each i h .label));
-    clauses = each-map (λ (x : ClauseData). ConditionFits (countLimits k p) (x .condition)) NamesOne (λ (x : ClauseData). clauseIn (oneNamed k) text (x .condition)) (take (p .counts .clauses) (p .clauses)) (λ x h. condition-named (x .condition) h)
-        (each-take (λ (x : ClauseData). ConditionFits (countLimits k p) (x .condition)) noClause (p .clauses) (p .counts .clauses) (λ i h. fits .clauses .each i h));
+    clauses = each-map (λ (x : ClauseData). ConditionFits (countLimits k p) (x .condition)) NamesOne
+        (λ (x : ClauseData). clauseIn (oneNamed k) text (x .condition)) (take (p .counts .clauses) (p .clauses)) (λ x h. condition-named (x .condition) h)
+        (each-take (λ (x : ClauseData). ConditionFits (countLimits k p) (x .condition)) noClause (p .clauses) (p .counts .clauses)
+        (λ i h. fits .clauses .each i h));
   }
 
 -- one text more keeps names declared
 one-more-named : (j : ℕ) (actors : List Bytes) (p : Pattern) (woven : WovenPattern) → AllNamed p → AllNamed woven → AllNamed (oneMore j actors p woven)
 unfolding oneMore moreVertices underNames movedEdge
 one-more-named j actors p woven own before = record {
-  edges = each-append (λ (e : Edge). e .label ≡ aName) (woven .edges) _ (before .edges) (each-map (λ (e : Edge). e .label ≡ aName) (λ (e : Edge). e .label ≡ aName) _ (p .edges) (λ e h. h) (own .edges));
+  edges = each-append (λ (e : Edge). e .label ≡ aName) (woven .edges) _ (before .edges)
+      (each-map (λ (e : Edge). e .label ≡ aName) (λ (e : Edge). e .label ≡ aName) _ (p .edges) (λ e h. h) (own .edges));
   clauses = each-append NamesOne (woven .clauses) _ (before .clauses) (each-map NamesOne NamesOne _ (p .clauses) (moved-named _ _ _) (own .clauses));
 }
   where
@@ -96,7 +100,9 @@ none-declared k q r words = subst AllNamed (sym (none-woven (oneNamed k) q r wor
 pub text-declared : (k : BookCounts) (q r : Bytes) (actors : List Bytes) (j base : ℕ) (p : PatternData) (old new : List ℕ) (c n : WovenCounts)
     → PatternFits (countLimits k p) p → Declared k q r old c → TextAdded q r actors j base p old new c (Woven n) → Declared k q r new n
 text-declared k q r actors j base p old new c n fits before added =
-    subst AllNamed (sym (added .1 (oneNamed k))) (one-more-named j actors (patternIn (oneNamed k) (drop base (textOf q r j)) p) (wovenAt (oneNamed k) q r old c) (pattern-named k (drop base (textOf q r j)) p fits) before)
+    subst AllNamed (sym (added .1 (oneNamed k)))
+    (one-more-named j actors (patternIn (oneNamed k) (drop base (textOf q r j)) p) (wovenAt (oneNamed k) q r old c)
+    (pattern-named k (drop base (textOf q r j)) p fits) before)
 
 -- so the numbers in the words are below what the book declares
 module _ (k : BookCounts) (q r : Bytes) (woven : List ℕ) (c : WovenCounts) (declared : Declared k q r woven c) where
@@ -105,7 +111,8 @@ module _ (k : BookCounts) (q r : Bytes) (woven : List ℕ) (c : WovenCounts) (de
   labels-below e h =
       let none : Edge = record { name = []; label = []; from = 0; to = 0 } in
       let es = edgesAt (oneNamed k) q r woven (c .edges) in
-      let here = each-e (λ (x : Edge). x .label ≡ aName) es (declared .edges) (getD es e none) (getD-in es e none (omega (arith, length-edges (oneNamed k) q r woven (c .edges)))) in
+      let here = each-e (λ (x : Edge). x .label ≡ aName) es (declared .edges) (getD es e none)
+      (getD-in es e none (omega (arith, length-edges (oneNamed k) q r woven (c .edges)))) in
       let is = getD-listed (λ i. edgeAt (oneNamed k) q r (getD woven (24 + i) 0) (getD woven (72 + i) 0)) (c .edges) e none h in
       only-below (k .labels) (edgeWord woven e / 65536) (sym (ap (λ (x : Edge). x .label) is) ∙ here)
 
@@ -113,7 +120,8 @@ module _ (k : BookCounts) (q r : Bytes) (woven : List ℕ) (c : WovenCounts) (de
   unfolding wovenAt clausesAt
   clause-named i h =
       let cs = clausesAt (oneNamed k) q r woven (clauseCount c) in
-      let here = each-e NamesOne cs (declared .clauses) (getD cs i (excluded 0 0)) (getD-in cs i (excluded 0 0) (omega (arith, length-clauses (oneNamed k) q r woven (clauseCount c)))) in
+      let here = each-e NamesOne cs (declared .clauses) (getD cs i (excluded 0 0))
+      (getD-in cs i (excluded 0 0) (omega (arith, length-clauses (oneNamed k) q r woven (clauseCount c)))) in
       subst NamesOne (getD-listed (λ i. clauseAt (oneNamed k) q r (whatOf woven i) (highOf woven i) (lowOf woven i)) (clauseCount c) i (excluded 0 0) h) here
 
   pub attributes-below : (i : ℕ) → i < clauseCount c → AttributeDeclared k (whatOf woven i)
@@ -123,5 +131,6 @@ module _ (k : BookCounts) (q r : Bytes) (woven : List ℕ) (c : WovenCounts) (de
       let here = clause-named i h in
       record {
         of-vertex = λ e. let z : w % 4 ≢ 0 = λ y. omega arith in attr-below (k .vattrs) (w / 128 % 32) (rw (ne-eqb (w % 4) 0 z, eq-eqb (w % 4) 1 e) at here);
-        of-edge = λ e. let z : w % 4 ≢ 0 = λ y. omega arith in let y : w % 4 ≢ 1 = λ x. omega arith in attr-below (k .eattrs) (w / 128 % 32) (rw (ne-eqb (w % 4) 0 z, ne-eqb (w % 4) 1 y) at here);
+        of-edge = λ e. let z : w % 4 ≢ 0 = λ y. omega arith in let y : w % 4 ≢ 1 = λ x. omega arith in
+            attr-below (k .eattrs) (w / 128 % 32) (rw (ne-eqb (w % 4) 0 z, ne-eqb (w % 4) 1 y) at here);
       }

@@ -44,21 +44,25 @@ use Rattle.enforce.proofs.ClearLaws.{query-tree, query-short, rules-sho
 
 -- the actors of a category, from their first word on
 pub own-actors : (rules : Bytes) (words : List ℕ) (category : ℕ)
-    → actorsIn rules (take (length words - actorsFrom category) (drop (actorsFrom category) words)) (wordAt words (actorCountAt category)) ≡ actorsAt rules words category
+    → actorsIn rules (take (length words - actorsFrom category) (drop (actorsFrom category) words)) (wordAt words (actorCountAt category))
+    ≡ actorsAt rules words category
 unfolding actorsIn actorsAt namesAt nameNumbered
 own-actors rules words category =
-    ap (λ z. actorsIn rules z (wordAt words (actorCountAt category))) (take-all (length words - actorsFrom category) (drop (actorsFrom category) words) (simp length-drop (omega arith)))
+    ap (λ z. actorsIn rules z (wordAt words (actorCountAt category)))
+    (take-all (length words - actorsFrom category) (drop (actorsFrom category) words) (simp length-drop (omega arith)))
     ∙ listed-same _ _ (wordAt words (actorCountAt category)) (λ i h. ap (nameIn rules) (getD-drop (actorsFrom category) words i 0))
 
 -- the part of the rules that is a policy's text
 pub policy-part : (rules : Bytes) (words : List ℕ) (i : ℕ)
-    → take (wordAt words (policyAt i + 1) + wordAt words (policyAt i + 2) - wordAt words (policyAt i + 1)) (drop (wordAt words (policyAt i + 1)) rules) ≡ policyText rules words i
+    → take (wordAt words (policyAt i + 1) + wordAt words (policyAt i + 2) - wordAt words (policyAt i + 1)) (drop (wordAt words (policyAt i + 1)) rules)
+    ≡ policyText rules words i
 unfolding policyText partOf
 policy-part rules words i =
     let e : wordAt words (policyAt i + 1) + wordAt words (policyAt i + 2) - wordAt words (policyAt i + 1) ≡ wordAt words (policyAt i + 2) = omega arith in
     ap (λ n. take n (drop (wordAt words (policyAt i + 1)) rules)) e
 
-module _ (book : Bytes) (words : List ℕ) (k : BookCounts) (query rules : Bytes) (rulesWords : List ℕ) (rc : RulesCounts) (category : ℕ) (clear : TextsClear book words k query rules rulesWords rc category) where
+module _ (book : Bytes) (words : List ℕ) (k : BookCounts) (query rules : Bytes) (rulesWords : List ℕ) (rc : RulesCounts) (category : ℕ)
+    (clear : TextsClear book words k query rules rulesWords rc category) where
   abbrev b : Book
   b = bookAt book words k
 
@@ -96,7 +100,8 @@ module _ (book : Bytes) (words : List ℕ) (k : BookCounts) (query rules : Bytes
       unfolding textsBelow enforcedBelow
       query-held n e = record {
         kept = query-added (Woven n) e .0;
-        held = text-held b query rules [] (queryAsked query rules rulesWords category) 0 ofQuery old new c tt (ap (wovenAt b query rules old) none ∙ none-woven b query rules old) query-pattern n (query-added (Woven n) e);
+        held = text-held b query rules [] (queryAsked query rules rulesWords category) 0 ofQuery old new c tt
+            (ap (wovenAt b query rules old) none ∙ none-woven b query rules old) query-pattern n (query-added (Woven n) e);
         declared = text-declared k query rules (actorsAt rules rulesWords category) 0 0 ofQuery old new c n (woven .1 .fits)
             (subst (Declared k query rules old) (sym none) (none-declared k query rules old)) (query-added (Woven n) e);
       }
@@ -104,16 +109,20 @@ module _ (book : Bytes) (words : List ℕ) (k : BookCounts) (query rules : Bytes
       pub query-passed : out ≡ Passed → LimitPassed query rules rulesWords rc category
       unfolding textsBelow
       query-passed e ids =
-          text-passed b query rules [] (queryAsked query rules rulesWords category) 0 ofQuery old new c tt (ap (wovenAt b query rules old) none ∙ none-woven b query rules old) query-pattern (query-added Passed e)
-          (map (policyAsked (rulesAt rules rulesWords rc)) (enforcedBelow rules rulesWords rc category (rc .categories))) (texts-sound book words k query rules rulesWords rc category clear) ids
+          text-passed b query rules [] (queryAsked query rules rulesWords category) 0 ofQuery old new c tt
+          (ap (wovenAt b query rules old) none ∙ none-woven b query rules old) query-pattern (query-added Passed e)
+          (map (policyAsked (rulesAt rules rulesWords rc)) (enforcedBelow rules rulesWords rc category (rc .categories)))
+          (texts-sound book words k query rules rulesWords rc category clear) ids
 
   -- a category that adds no text
-  pub held-on : (m count : ℕ) (woven : List ℕ) (c : WovenCounts) → below m ≡ below (m + 1) → Held b k query rules rulesWords rc category m woven c → count ≡ length (below m)
+  pub held-on : (m count : ℕ) (woven : List ℕ) (c : WovenCounts) → below m ≡ below (m + 1) → Held b k query rules rulesWords rc category m woven c
+      → count ≡ length (below m)
       → Held b k query rules rulesWords rc category (m + 1) woven c × (count ≡ length (below (m + 1)))
   held-on m count woven c e held many = (record { kept = held .kept; held = held .held ∙ ap weave e; declared = held .declared }, many ∙ ap length e)
 
   -- a category whose policy is woven, or passes a limit
-  module _ (m : ℕ) (low : m < rc .categories) (enforced : bit (lowerSet rulesWords category) m ≡ true) (i : ℕ) (its : i ≡ policyPlace rulesWords rc m) (there : i < rc .policies) where
+  module _ (m : ℕ) (low : m < rc .categories) (enforced : bit (lowerSet rulesWords category) m ≡ true) (i : ℕ) (its : i ≡ policyPlace rulesWords rc m)
+      (there : i < rc .policies) where
     abbrev start : ℕ
     start = wordAt rulesWords (policyAt i + 1)
 
@@ -127,7 +136,8 @@ module _ (book : Bytes) (words : List ℕ) (k : BookCounts) (query rules : Bytes
     one-more =
         let found = subst (λ z. z < rc .policies) its there in
         with-policy query rules rulesWords rc category m enforced found
-        ∙ ap (λ z. below m ++ (z ∷ [])) (policy-text query rules rulesWords rc (clear .rules-fit) m low found ∙ ap (λ z. let a : Asked = record { text = treeOf (policyText rules rulesWords z); actors = actorsAt rules rulesWords m } in a) (sym its))
+        ∙ ap (λ z. below m ++ (z ∷ [])) (policy-text query rules rulesWords rc (clear .rules-fit) m low found
+        ∙ ap (λ z. let a : Asked = record { text = treeOf (policyText rules rulesWords z); actors = actorsAt rules rulesWords m } in a) (sym its))
 
     -- where its text stands in the rules
     abbrev part : Bytes
@@ -166,7 +176,8 @@ module _ (book : Bytes) (words : List ℕ) (k : BookCounts) (query rules : Bytes
         read = subst (λ s. PatternRead b k s ofPolicy) part-is (woven .1)
 
         policy-added : (o : PatternAdded) → out ≡ o → TextAdded query rules (own .actors) (length (below m)) start ofPolicy old new c o
-        policy-added o e = subst (λ j. TextAdded query rules (own .actors) j start ofPolicy old new c o) many (subst (TextAdded query rules (own .actors) count start ofPolicy old new c) e (woven .2))
+        policy-added o e = subst (λ j. TextAdded query rules (own .actors) j start ofPolicy old new c o) many
+            (subst (TextAdded query rules (own .actors) count start ofPolicy old new c) e (woven .2))
 
         sound : Each Sound (below m)
         sound = texts-sound-below book words k query rules rulesWords rc category clear m (omega arith)
@@ -182,8 +193,10 @@ module _ (book : Bytes) (words : List ℕ) (k : BookCounts) (query rules : Bytes
         policy-held n e = (
           record {
             kept = policy-added (Woven n) e .0;
-            held = text-held b query rules (below m) own start ofPolicy old new c sound (held .held) is-pattern n (policy-added (Woven n) e) ∙ ap weave (sym one-more);
-            declared = text-declared k query rules (own .actors) (length (below m)) start ofPolicy old new c n (read .fits) (held .declared) (policy-added (Woven n) e);
+            held = text-held b query rules (below m) own start ofPolicy old new c sound (held .held) is-pattern n (policy-added (Woven n) e)
+                ∙ ap weave (sym one-more);
+            declared = text-declared k query rules (own .actors) (length (below m)) start ofPolicy old new c n (read .fits) (held .declared)
+                (policy-added (Woven n) e);
           },
           omega (arith, ap length one-more, length-append (below m) (own ∷ [])),
         )
@@ -191,7 +204,8 @@ module _ (book : Bytes) (words : List ℕ) (k : BookCounts) (query rules : Bytes
         pub policy-passed : out ≡ Passed → LimitPassed query rules rulesWords rc category
         policy-passed e ids =
             let rest = texts-rest query rules rulesWords rc category (m + 1) (omega arith) in
-            let whole : below (rc .categories) ≡ below m ++ (own ∷ rest .0) = rest .1 ∙ ap (λ z. z ++ rest .0) one-more ∙ append-assoc (below m) (own ∷ []) (rest .0) in
+            let whole : below (rc .categories) ≡ below m ++ (own ∷ rest .0) = rest .1 ∙ ap (λ z. z ++ rest .0) one-more
+            ∙ append-assoc (below m) (own ∷ []) (rest .0) in
             ap (λ z. wovenFault (weave z) ids) whole
             ∙ text-passed b query rules (below m) own start ofPolicy old new c sound (held .held) is-pattern (policy-added Passed e) (rest .0)
             (subst (Each Sound) whole (texts-sound book words k query rules rulesWords rc category clear)) ids

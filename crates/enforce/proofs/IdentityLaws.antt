@@ -16,7 +16,8 @@ use Rattle.model.proofs.AcceptedRequest.{request-accepted}
 -- an accepted request identifies no actor twice
 pub identified-once : (b : Book) (r : Rules) (s : Bytes) (x : Request) → readRequest b r s ≡ accepted x → T (twice (map (λ i. i .actor) (x .identities))) → ⊥
 unfolding requestFault requestOf
-identified-once b r s x e = subst (λ (z : Request). T (twice (map (λ (i : Identity). i .actor) (z .identities))) → ⊥) (request-accepted b r s x e .is-request) (of-line (request-accepted b r s x e .line) (request-accepted b r s x e .faultless))
+identified-once b r s x e = subst (λ (z : Request). T (twice (map (λ (i : Identity). i .actor) (z .identities))) → ⊥)
+    (request-accepted b r s x e .is-request) (of-line (request-accepted b r s x e .line) (request-accepted b r s x e .faultless))
   where
     of-line : (z : RequestLine) → requestFault b r z ≡ nothing → T (twice (map (λ (i : Identity). i .actor) (requestOf b z .identities))) → ⊥
     of-line z f t =

@@ -36,26 +36,32 @@ tree-is t q e = ap treeOr e
 
 module _ (query rules : Bytes) (words : List ℕ) (c : RulesCounts) (category : ℕ) where
   -- category m adds no text: it is not enforced, or it has no policy
-  pub not-enforced : (m : ℕ) → bit (lowerSet words category) m ≡ false → textsBelow query rules words c category m ≡ textsBelow query rules words c category (m + 1)
+  pub not-enforced : (m : ℕ) → bit (lowerSet words category) m ≡ false
+      → textsBelow query rules words c category m ≡ textsBelow query rules words c category (m + 1)
   unfolding textsBelow enforcedBelow
   not-enforced m e = rw (add-one m, e, append-nil)
 
-  pub without-policy : (m : ℕ) → bit (lowerSet words category) m ≡ true → c .policies ≤ policyPlace words c m → textsBelow query rules words c category m ≡ textsBelow query rules words c category (m + 1)
+  pub without-policy : (m : ℕ) → bit (lowerSet words category) m ≡ true → c .policies ≤ policyPlace words c m
+      → textsBelow query rules words c category m ≡ textsBelow query rules words c category (m + 1)
   unfolding textsBelow enforcedBelow policiesOf
   without-policy m e h = rw (add-one m, e, le-ltb (policyPlace words c m) (c .policies) h, append-nil)
 
   -- category m adds its policy
   pub with-policy : (m : ℕ) → bit (lowerSet words category) m ≡ true → policyPlace words c m < c .policies
-      → textsBelow query rules words c category (m + 1) ≡ textsBelow query rules words c category m ++ (policyAsked (rulesAt rules words c) (policyOf rules words (policyPlace words c m)) ∷ [])
+      → textsBelow query rules words c category (m + 1)
+      ≡ textsBelow query rules words c category m ++ (policyAsked (rulesAt rules words c) (policyOf rules words (policyPlace words c m)) ∷ [])
   unfolding textsBelow enforcedBelow policiesOf
   with-policy m e h =
       let r = rulesAt rules words c in
-      rw (add-one m, e, lt-ltb (policyPlace words c m) (c .policies) h) (ap (λ z. queryAsked query rules words category ∷ z) (map-end (policyAsked r) (enforcedBelow rules words c category m) (policyOf rules words (policyPlace words c m))))
+      rw (add-one m, e, lt-ltb (policyPlace words c m) (c .policies) h)
+      (ap (λ z. queryAsked query rules words category ∷ z)
+      (map-end (policyAsked r) (enforcedBelow rules words c category m) (policyOf rules words (policyPlace words c m))))
 
   -- the texts of the first categories stand in front of all
   enforced-rest : (n m : ℕ) → m ≤ n → (rest : List Policy) × (enforcedBelow rules words c category n ≡ enforcedBelow rules words c category m ++ rest)
   unfolding enforcedBelow
-  enforced-rest zero m h = let e : 0 ≡ m = omega arith in ([], ap (enforcedBelow rules words c category) e ∙ sym (append-nil (enforcedBelow rules words c category m)))
+  enforced-rest zero m h = let e : 0 ≡ m = omega arith in
+      ([], ap (enforcedBelow rules words c category) e ∙ sym (append-nil (enforcedBelow rules words c category m)))
   enforced-rest (suc n) m h = either (equal-or-not m (suc n))
       (λ e. ([], ap (enforcedBelow rules words c category) (sym e) ∙ sym (append-nil (enforcedBelow rules words c category m))))
       (λ d. let l : m ≤ n = omega arith in
@@ -63,7 +69,8 @@ module _ (query rules : Bytes) (words : List ℕ) (c : RulesCounts) (category : 
       let own = pick (bit (lowerSet words category) n) (policiesOf rules words c n) [] in
       (r .0 ++ own, ap (λ z. z ++ own) (r .1) ∙ append-assoc (enforcedBelow rules words c category m) (r .0) own))
 
-  pub texts-rest : (m : ℕ) → m ≤ c .categories → (rest : List Asked) × (textsBelow query rules words c category (c .categories) ≡ textsBelow query rules words c category m ++ rest)
+  pub texts-rest : (m : ℕ) → m ≤ c .categories
+      → (rest : List Asked) × (textsBelow query rules words c category (c .categories) ≡ textsBelow query rules words c category m ++ rest)
   unfolding textsBelow
   texts-rest m h =
       let r = enforced-rest (c .categories) m h in
@@ -111,7 +118,8 @@ policy-category words c m h =
 module _ (query rules : Bytes) (words : List ℕ) (c : RulesCounts) (fits : Fits rules words c) where
   -- a policy comes with the actors of its own category
   pub policy-text : (m : ℕ) → m < c .categories → policyPlace words c m < c .policies
-      → policyAsked (rulesAt rules words c) (policyOf rules words (policyPlace words c m)) ≡ record { text = treeOf (policyText rules words (policyPlace words c m)); actors = actorsAt rules words m }
+      → policyAsked (rulesAt rules words c) (policyOf rules words (policyPlace words c m))
+      ≡ record { text = treeOf (policyText rules words (policyPlace words c m)); actors = actorsAt rules words m }
   unfolding policyOf
   policy-text m l h =
       let actors : actorsOf (rulesAt rules words c) (nameOf rules words names (policyCategory words (policyPlace words c m))) ≡ actorsAt rules words m =
@@ -119,14 +127,18 @@ module _ (query rules : Bytes) (words : List ℕ) (c : RulesCounts) (fits : Fits
       ap (λ z. let a : Asked = record { text = treeOf (policyText rules words (policyPlace words c m)); actors = z } in a) actors
 
   module _ (category : ℕ) (counted : category < c .categories) (x : Request) (its : x .category ≡ nameOf rules words names category) where
-    pub policies-are : askedPolicies (rulesAt rules words c) x ≡ map (policyAsked (rulesAt rules words c)) (enforcedBelow rules words c category (c .categories))
+    pub policies-are : askedPolicies (rulesAt rules words c) x
+        ≡ map (policyAsked (rulesAt rules words c)) (enforcedBelow rules words c category (c .categories))
     unfolding askedPolicies
-    policies-are = ap (map (policyAsked (rulesAt rules words c))) (ap (enforced (rulesAt rules words c)) its ∙ enforced-in-order rules words c fits category counted)
+    policies-are = ap (map (policyAsked (rulesAt rules words c)))
+        (ap (enforced (rulesAt rules words c)) its ∙ enforced-in-order rules words c fits category counted)
 
     -- the texts of all categories are the model's
-    pub texts-are : (tree : QueryText) → queryText query ≡ just tree → askedQuery (rulesAt rules words c) x tree ∷ askedPolicies (rulesAt rules words c) x ≡ textsBelow query rules words c category (c .categories)
+    pub texts-are : (tree : QueryText) → queryText query ≡ just tree
+        → askedQuery (rulesAt rules words c) x tree ∷ askedPolicies (rulesAt rules words c) x ≡ textsBelow query rules words c category (c .categories)
     unfolding askedQuery textsBelow
     texts-are tree e =
-        let actors : actorsOf (rulesAt rules words c) (x .category) ≡ actorsAt rules words category = ap (actorsOf (rulesAt rules words c)) its ∙ actors-of rules words c fits category counted in
+        let actors : actorsOf (rulesAt rules words c) (x .category) ≡ actorsAt rules words category = ap (actorsOf (rulesAt rules words c)) its
+        ∙ actors-of rules words c fits category counted in
         ap₂ (λ t z. let a : Asked = record { text = t; actors = z } in a ∷ askedPolicies (rulesAt rules words c) x) (sym (tree-is query tree e)) actors
         ∙ ap (λ z. queryAsked query rules words category ∷ z) policies-are

@@ -27,7 +27,8 @@ use Rattle.enforce.specs.Texts.{textsBelow}
 use Rattle.enforce.specs.OneNamed.{Declared}
 
 -- book and rules are in their words, and rules and query are accepted
-pub record TextsClear (book : Bytes) (words : List ℕ) (k : BookCounts) (query rules : Bytes) (rulesWords : List ℕ) (rc : RulesCounts) (category : ℕ) : Type 0 where
+pub record TextsClear (book : Bytes) (words : List ℕ) (k : BookCounts) (query rules : Bytes) (rulesWords : List ℕ) (rc : RulesCounts)
+    (category : ℕ) : Type 0 where
   pub fits : Fits book words k
   pub rules-fit : RulesFit rules rulesWords rc
   pub rules-read : readRules (bookAt book words k) rules ≡ accepted (rulesAt rules rulesWords rc)
@@ -40,7 +41,8 @@ pub record AskedReady (book : Bytes) (words : List ℕ) (query rules : Bytes) (r
   pub identified : IdentitiesReady (r .request .identities) (r .request .count)
 
 -- what weaving one text asks
-pub record TextReady (book : Bytes) (words : List ℕ) (k : BookCounts) (text query rules : Bytes) (rulesWords : List ℕ) (t : TextPlace) (woven : List ℕ) (c : WovenCounts) : Type 0 where
+pub record TextReady (book : Bytes) (words : List ℕ) (k : BookCounts) (text query rules : Bytes) (rulesWords : List ℕ) (t : TextPlace) (woven : List ℕ)
+    (c : WovenCounts) : Type 0 where
   pub asked : PatternAsked book words k text
   pub short : t .base + length text ≤ 65536
   pub room : wovenWords ≤ length rulesWords
@@ -50,18 +52,21 @@ pub record TextReady (book : Bytes) (words : List ℕ) (k : BookCounts) (text qu
   pub few-texts : t .number < 32
 
 -- the words hold the woven pattern of the query and the enforced policies of the categories below m
-pub record Held (b : Book) (k : BookCounts) (query rules : Bytes) (rulesWords : List ℕ) (rc : RulesCounts) (category m : ℕ) (woven : List ℕ) (c : WovenCounts) : Type 0 where
+pub record Held (b : Book) (k : BookCounts) (query rules : Bytes) (rulesWords : List ℕ) (rc : RulesCounts) (category m : ℕ) (woven : List ℕ)
+    (c : WovenCounts) : Type 0 where
   pub kept : Kept query rules woven c
   pub held : wovenAt b query rules woven c ≡ weave (textsBelow query rules rulesWords rc category m)
   pub declared : Declared k query rules woven c
 
 -- what weaving the policies asks: the query is woven
-pub record PoliciesReady (book : Bytes) (words : List ℕ) (k : BookCounts) (query rules : Bytes) (rulesWords : List ℕ) (rc : RulesCounts) (category : ℕ) (woven : List ℕ) (c : WovenCounts) : Type 0 where
+pub record PoliciesReady (book : Bytes) (words : List ℕ) (k : BookCounts) (query rules : Bytes) (rulesWords : List ℕ) (rc : RulesCounts) (category : ℕ)
+    (woven : List ℕ) (c : WovenCounts) : Type 0 where
   pub texts : TextsClear book words k query rules rulesWords rc category
   pub held : Held (bookAt book words k) k query rules rulesWords rc category 0 woven c
 
 -- what weaving the policy of category m asks: those of the categories below are woven, so many texts with the query
-pub record CategoryReady (book : Bytes) (words : List ℕ) (k : BookCounts) (query rules : Bytes) (rulesWords : List ℕ) (rc : RulesCounts) (category m count : ℕ) (woven : List ℕ) (c : WovenCounts) : Type 0 where
+pub record CategoryReady (book : Bytes) (words : List ℕ) (k : BookCounts) (query rules : Bytes) (rulesWords : List ℕ) (rc : RulesCounts)
+    (category m count : ℕ) (woven : List ℕ) (c : WovenCounts) : Type 0 where
   pub texts : TextsClear book words k query rules rulesWords rc category
   pub low : m < rc .categories
   pub many : count ≡ length (textsBelow query rules rulesWords rc category m)

@@ -18,4 +18,5 @@ policyAsked r p = record { text = p .text; actors = actorsOf r (p .category) }
 
 -- the query and the enforced policies of the categories below m, in their order
 unfoldable pub textsBelow : Bytes → Bytes → List ℕ → RulesCounts → ℕ → ℕ → List Asked
-textsBelow query rules words c category m = queryAsked query rules words category ∷ map (policyAsked (rulesAt rules words c)) (enforcedBelow rules words c category m)
+textsBelow query rules words c category m = queryAsked query rules words category ∷ map (policyAsked (rulesAt rules words c))
+    (enforcedBelow rules words c category m)

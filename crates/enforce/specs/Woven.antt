@@ -37,7 +37,8 @@ use Rattle.enforce.specs.Ready.{Held}
 
 -- all texts together pass a woven limit: 12, whatever identities there are
 abbrev pub LimitPassed : Bytes → Bytes → List ℕ → RulesCounts → ℕ → Type 0
-LimitPassed query rules rulesWords rc category = (ids : List Identity) → wovenFault (weave (textsBelow query rules rulesWords rc category (rc .categories))) ids ≡ just 12
+LimitPassed query rules rulesWords rc category = (ids : List Identity)
+    → wovenFault (weave (textsBelow query rules rulesWords rc category (rc .categories))) ids ≡ just 12
 
 -- the pattern of a text is woven, or a limit is passed
 abbrev pub TextWoven : Book → BookCounts → Bytes → Bytes → Bytes → List Bytes → TextPlace → List ℕ → List ℕ → WovenCounts → PatternAdded → Type 0
@@ -56,7 +57,8 @@ PoliciesWoven b k query rules rulesWords rc category woven (added.Woven c) = Hel
 PoliciesWoven b k query rules rulesWords rc category woven added.Passed = LimitPassed query rules rulesWords rc category
 
 -- the woven pattern of texts stands in the words, with the identities, as the search wants it; so many names are returned
-pub record AllWoven (book : Bytes) (words : List ℕ) (k : BookCounts) (query rules : Bytes) (asked : List Asked) (ids : List Identity) (returned : ℕ) (woven : List ℕ) (c : WovenCounts) : Type 0 where
+pub record AllWoven (book : Bytes) (words : List ℕ) (k : BookCounts) (query rules : Bytes) (asked : List Asked) (ids : List Identity) (returned : ℕ)
+    (woven : List ℕ) (c : WovenCounts) : Type 0 where
   pub held : wovenAt (bookAt book words k) query rules woven c ≡ weave asked
   pub no-fault : wovenFault (weave asked) ids ≡ nothing
   pub given : Given book words k query rules woven c
@@ -71,7 +73,8 @@ AskedSays book words k query rules asked ids returned woven (Refused n) = wovenF
 -- the answer for a request of that category and those identities, and the query's tree
 abbrev pub AskedAnswer : Bytes → List ℕ → Bytes → Bytes → List ℕ → Bytes → Ready → List ℕ → AskedWoven → Type 0
 AskedAnswer book words query rules rulesWords request r woven out =
-    (x : Request) → x .category ≡ nameOf rules rulesWords names (r .request .category) → x .identities ≡ identitiesIn request (r .request .identities) (r .request .count)
+    (x : Request) → x .category ≡ nameOf rules rulesWords names (r .request .category)
+    → x .identities ≡ identitiesIn request (r .request .identities) (r .request .count)
     → (tree : QueryText) → queryText query ≡ just tree
     → let theRules = rulesAt rules rulesWords (r .rules) in
     AskedSays book words (r .book) query rules (askedQuery theRules x tree ∷ askedPolicies theRules x) (x .identities) (length (tree .returns)) woven out

@@ -45,7 +45,8 @@ pub fn weave_request(
     woven: &mut [u32],
 ) -> AskedWoven
     requires { ⌜ AskedReady (now book) (now words) (now query) (now rules) (now «rules_words») ready × (wovenWords ≤ length (now woven)) ⌝ }
-    ensures { λ r. ⌜ AskedAnswer (now (book .entry)) (now (words .entry)) (now (query .entry)) (now (rules .entry)) (now («rules_words» .entry)) (now (request .entry)) ready (now (woven .exit)) r ⌝ }
+    ensures { λ r. ⌜ AskedAnswer (now (book .entry)) (now (words .entry)) (now (query .entry)) (now (rules .entry)) (now («rules_words» .entry))
+        (now (request .entry)) ready (now (woven .exit)) r ⌝ }
 {
     let counts = ready.book;
     let rules_counts = ready.rules;
@@ -83,8 +84,10 @@ pub fn weave_texts(
     category: usize,
     woven: &mut [u32],
 ) -> PatternAdded
-    requires { ⌜ TextsClear (now book) (now words) counts (now query) (now rules) (now «rules_words») «rules_counts» category × (wovenWords ≤ length (now woven)) ⌝ }
-    ensures { λ r. ⌜ PoliciesWoven (bookAt (now (book .entry)) (now (words .entry)) counts) counts (now (query .entry)) (now (rules .entry)) (now («rules_words» .entry)) «rules_counts» category (now (woven .exit)) r ⌝ }
+    requires { ⌜ TextsClear (now book) (now words) counts (now query) (now rules) (now «rules_words») «rules_counts» category
+        × (wovenWords ≤ length (now woven)) ⌝ }
+    ensures { λ r. ⌜ PoliciesWoven (bookAt (now (book .entry)) (now (words .entry)) counts) counts (now (query .entry)) (now (rules .entry))
+        (now («rules_words» .entry)) «rules_counts» category (now (woven .exit)) r ⌝ }
 {
     let place = TextPlace {
         category,

@@ -35,7 +35,8 @@ pub fn weave_policies(
     alone: WovenCounts,
 ) -> PatternAdded
     requires { ⌜ PoliciesReady (now book) (now words) counts (now query) (now rules) (now «rules_words») «rules_counts» category (now woven) alone ⌝ }
-    ensures { λ r. ⌜ PoliciesWoven (bookAt (now (book .entry)) (now (words .entry)) counts) counts (now (query .entry)) (now (rules .entry)) (now («rules_words» .entry)) «rules_counts» category (now (woven .exit)) r ⌝ }
+    ensures { λ r. ⌜ PoliciesWoven (bookAt (now (book .entry)) (now (words .entry)) counts) counts (now (query .entry)) (now (rules .entry))
+        (now («rules_words» .entry)) «rules_counts» category (now (woven .exit)) r ⌝ }
 {
     let categories = rules_counts.categories;
     let mut texts = 1;
@@ -81,8 +82,10 @@ fn weave_category(
     woven: &mut [u32],
     shape: WovenCounts,
 ) -> TextsWoven
-    requires { ⌜ CategoryReady (now book) (now words) counts (now query) (now rules) (now «rules_words») «rules_counts» category lower texts (now woven) shape ⌝ }
-    ensures { λ r. ⌜ CategoryWoven (bookAt (now (book .entry)) (now (words .entry)) counts) counts (now (query .entry)) (now (rules .entry)) (now («rules_words» .entry)) «rules_counts» category lower (now (woven .exit)) r ⌝ }
+    requires { ⌜ CategoryReady (now book) (now words) counts (now query) (now rules) (now «rules_words») «rules_counts» category lower texts
+        (now woven) shape ⌝ }
+    ensures { λ r. ⌜ CategoryWoven (bookAt (now (book .entry)) (now (words .entry)) counts) counts (now (query .entry)) (now (rules .entry))
+        (now («rules_words» .entry)) «rules_counts» category lower (now (woven .exit)) r ⌝ }
 {
     let lower_set = rules_words[CATEGORIES + CATEGORY_WORDS * category + LOWER_SET];
     if !bits::has(lower_set, lower) {

@@ -22,8 +22,11 @@ pub extern "C" fn hifmuneth_list(
     text: &mut u32,
     line: &mut u32,
 ) -> bool
-    ensures answer { λ r. ⌜ RowsTold (listService (length (now (work .entry))) (length (now (rows .entry))) (now (book .entry)) (now (rules .entry)) (now (query .entry)) (now (request .entry)) .answer) r (now (count .exit)) (now (width .exit)) (now (number .exit)) (now (text .exit)) (now (line .exit)) ⌝ }
-    ensures rows { λ _. ⌜ now (rows .exit) ≡ listService (length (now (work .entry))) (length (now (rows .entry))) (now (book .entry)) (now (rules .entry)) (now (query .entry)) (now (request .entry)) .rows ⌝ }
+    ensures answer { λ r. ⌜ RowsTold (listService (length (now (work .entry))) (length (now (rows .entry))) (now (book .entry)) (now (rules .entry))
+        (now (query .entry)) (now (request .entry)) .answer) r (now (count .exit)) (now (width .exit)) (now (number .exit)) (now (text .exit))
+        (now (line .exit)) ⌝ }
+    ensures rows { λ _. ⌜ now (rows .exit) ≡ listService (length (now (work .entry))) (length (now (rows .entry))) (now (book .entry)) (now (rules .entry))
+        (now (query .entry)) (now (request .entry)) .rows ⌝ }
     ensures cleared { λ _. ⌜ now (work .exit) ≡ ones (length (now (work .entry))) ⌝ }
 {
     let listed = service::list(book, rules, query, request, rows, work);

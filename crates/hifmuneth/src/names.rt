@@ -19,7 +19,8 @@ pub extern "C" fn hifmuneth_node_names(
     text: &mut u32,
     line: &mut u32,
 ) -> bool
-    ensures answer { λ r. ⌜ NamesTold (bookService (length (now (work .entry))) (now (book .entry)) .answer) r (now (count .exit)) (now (number .exit)) (now (text .exit)) (now (line .exit)) ⌝ }
+    ensures answer { λ r. ⌜ NamesTold (bookService (length (now (work .entry))) (now (book .entry)) .answer) r (now (count .exit)) (now (number .exit))
+        (now (text .exit)) (now (line .exit)) ⌝ }
     ensures names { λ _. ⌜ now (names .exit) ≡ namesLeft (length (now (work .entry))) (now (book .entry)) ⌝ }
     ensures cleared { λ _. ⌜ now (work .exit) ≡ ones (length (now (work .entry))) ⌝ }
 {

@@ -17,7 +17,8 @@ pub extern "C" fn hifmuneth_read_book(
     text: &mut u32,
     line: &mut u32,
 ) -> bool
-    ensures answer { λ r. ⌜ BookTold (bookService (length (now (work .entry))) (now (book .entry)) .answer) r (now (nodes .exit)) (now (relationships .exit)) (now (entries .exit)) (now (number .exit)) (now (text .exit)) (now (line .exit)) ⌝ }
+    ensures answer { λ r. ⌜ BookTold (bookService (length (now (work .entry))) (now (book .entry)) .answer) r (now (nodes .exit))
+        (now (relationships .exit)) (now (entries .exit)) (now (number .exit)) (now (text .exit)) (now (line .exit)) ⌝ }
     ensures cleared { λ _. ⌜ now (work .exit) ≡ ones (length (now (work .entry))) ⌝ }
 {
     let read = service::read_book(book, work);

@@ -29,7 +29,9 @@ pub extern "C" fn hifmuneth_read_query(
     text: &mut u32,
     line: &mut u32,
 ) -> bool
-    ensures answer { λ r. ⌜ QueryTold (queryRead (length (now (work .entry))) (now (book .entry)) (now (query .entry))) r (now (vertices .exit)) (now (edges .exit)) (now (conditions .exit)) (now (returns .exit)) (now («vertex_words» .exit)) (now («edge_words» .exit)) (now («condition_words» .exit)) (now («return_words» .exit)) (now (number .exit)) (now (text .exit)) (now (line .exit)) ⌝ }
+    ensures answer { λ r. ⌜ QueryTold (queryRead (length (now (work .entry))) (now (book .entry)) (now (query .entry))) r (now (vertices .exit))
+        (now (edges .exit)) (now (conditions .exit)) (now (returns .exit)) (now («vertex_words» .exit)) (now («edge_words» .exit))
+        (now («condition_words» .exit)) (now («return_words» .exit)) (now (number .exit)) (now (text .exit)) (now (line .exit)) ⌝ }
     ensures cleared { λ _. ⌜ now (work .exit) ≡ ones (length (now (work .entry))) ⌝ }
 {
     let read = service::read_query(book, query, work);

@@ -22,7 +22,8 @@ pub extern "C" fn hifmuneth_read_request(
     text: &mut u32,
     line: &mut u32,
 ) -> bool
-    ensures answer { λ r. ⌜ RequestTold (requestRead (length (now (work .entry))) (now (book .entry)) (now (rules .entry)) (now (request .entry))) r (now (category .exit)) (now (count .exit)) (now (identities .exit)) (now (number .exit)) (now (text .exit)) (now (line .exit)) ⌝ }
+    ensures answer { λ r. ⌜ RequestTold (requestRead (length (now (work .entry))) (now (book .entry)) (now (rules .entry)) (now (request .entry))) r
+        (now (category .exit)) (now (count .exit)) (now (identities .exit)) (now (number .exit)) (now (text .exit)) (now (line .exit)) ⌝ }
     ensures cleared { λ _. ⌜ now (work .exit) ≡ ones (length (now (work .entry))) ⌝ }
 {
     let read = service::read_request(book, rules, request, work);

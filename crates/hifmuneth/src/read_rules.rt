@@ -17,7 +17,8 @@ pub extern "C" fn hifmuneth_read_rules(
     text: &mut u32,
     line: &mut u32,
 ) -> bool
-    ensures answer { λ r. ⌜ RulesTold (rulesService (length (now (work .entry))) (now (book .entry)) (now (rules .entry)) .answer) r (now (categories .exit)) (now (policies .exit)) (now (number .exit)) (now (text .exit)) (now (line .exit)) ⌝ }
+    ensures answer { λ r. ⌜ RulesTold (rulesService (length (now (work .entry))) (now (book .entry)) (now (rules .entry)) .answer) r
+        (now (categories .exit)) (now (policies .exit)) (now (number .exit)) (now (text .exit)) (now (line .exit)) ⌝ }
     ensures cleared { λ _. ⌜ now (work .exit) ≡ ones (length (now (work .entry))) ⌝ }
 {
     let read = service::read_rules(book, rules, work);

@@ -19,8 +19,10 @@ pub extern "C" fn hifmuneth_write_query(
     text: &mut u32,
     line: &mut u32,
 ) -> bool
-    ensures answer { λ r. ⌜ CountTold (writerService (length (now (work .entry))) (now (out .entry)) (now (book .entry)) (now (rules .entry)) (now (query .entry)) .answer) r (now (size .exit)) (now (number .exit)) (now (text .exit)) (now (line .exit)) ⌝ }
-    ensures written { λ _. ⌜ now (out .exit) ≡ writerService (length (now (work .entry))) (now (out .entry)) (now (book .entry)) (now (rules .entry)) (now (query .entry)) .text ⌝ }
+    ensures answer { λ r. ⌜ CountTold (writerService (length (now (work .entry))) (now (out .entry)) (now (book .entry)) (now (rules .entry))
+        (now (query .entry)) .answer) r (now (size .exit)) (now (number .exit)) (now (text .exit)) (now (line .exit)) ⌝ }
+    ensures written { λ _. ⌜ now (out .exit)
+        ≡ writerService (length (now (work .entry))) (now (out .entry)) (now (book .entry)) (now (rules .entry)) (now (query .entry)) .text ⌝ }
     ensures cleared { λ _. ⌜ now (work .exit) ≡ ones (length (now (work .entry))) ⌝ }
 {
     let written = service::write_query(book, rules, query, out, work);

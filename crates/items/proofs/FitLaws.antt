@@ -7,7 +7,8 @@ use lib.ListN.{length}
 use lib.Dec.{leb, eqb}
 use Rattle.model.specs.Bytes.{Bytes}
 use Rattle.model.specs.Choice.{pick, Maybe, nothing, just, andThen}
-use Rattle.model.specs.Words.{Got, isLetter, isDigit, isWordByte, run, wordAt, before, isText, textAt, quotedAt, isWhole, biased, decimal, digitsAt, wholeAt, readAs}
+use Rattle.model.specs.Words.{Got, isLetter, isDigit, isWordByte, run, wordAt, before, isText, textAt, quotedAt, isWhole, biased, decimal, digitsAt}
+use Rattle.model.specs.Words.{wholeAt, readAs}
 use Rattle.model.specs.Items.{Item, word, whole, text, quoted, Items, none, onward, onwardWith, isList, plainAt, asList, opens, listAt, itemAt}
 use Rattle.text.proofs.PlaceLaws.{run-length}
 
@@ -27,18 +28,21 @@ fits-as n f (just g) h = h
 
 word-fits : (t : Bytes) → sizeOrZero (wordAt t) ≤ length t
 unfolding wordAt sizeOrZero
-word-fits t = fits-pick (length t) (leb (length (run isWordByte t)) 24) (just (record { got = run isWordByte t; size = length (run isWordByte t) })) nothing (run-length isWordByte t) (omega arith)
+word-fits t = fits-pick (length t) (leb (length (run isWordByte t)) 24) (just (record { got = run isWordByte t; size = length (run isWordByte t) }))
+    nothing (run-length isWordByte t) (omega arith)
 
 digits-fit : (m : Bool) (t : Bytes) → sizeOrZero (digitsAt m t) ≤ length t + pick m 1 0
 unfolding digitsAt sizeOrZero
 digits-fit m t =
-    fits-pick (length t + pick m 1 0) (isWhole m (run isDigit t)) (just (record { got = biased m (decimal 0 (run isDigit t)); size = length (run isDigit t) + pick m 1 0 })) nothing
+    fits-pick (length t + pick m 1 0) (isWhole m (run isDigit t))
+    (just (record { got = biased m (decimal 0 (run isDigit t)); size = length (run isDigit t) + pick m 1 0 })) nothing
     (omega (arith, run-length isDigit t)) (omega arith)
 
 whole-fits : (t : Bytes) → sizeOrZero (wholeAt t) ≤ length t
 unfolding wholeAt sizeOrZero
 whole-fits [] = omega arith
-whole-fits (b ∷ t) = fits-pick (suc (length t)) (eqb b 45) (digitsAt true t) (digitsAt false (b ∷ t)) (omega (arith, digits-fit true t)) (omega (arith, digits-fit false (b ∷ t)))
+whole-fits (b ∷ t) = fits-pick (suc (length t)) (eqb b 45) (digitsAt true t) (digitsAt false (b ∷ t)) (omega (arith, digits-fit true t))
+    (omega (arith, digits-fit false (b ∷ t)))
 
 -- what stands before a byte leaves room for that byte
 lengthOr : Maybe Bytes → ℕ
@@ -59,7 +63,8 @@ text-fits : (t : Bytes) → sizeOrZero (textAt t) ≤ suc (length t)
 unfolding textAt sizeOrZero andThen lengthOr
 text-fits t = go (before 39 t) (before-fits 39 t)
   where
-    go : (o : Maybe Bytes) → lengthOr o ≤ length t → sizeOrZero (andThen o (λ u. pick (isText u) (just (record { got = u; size = length u + 2 })) nothing)) ≤ suc (length t)
+    go : (o : Maybe Bytes) → lengthOr o ≤ length t
+        → sizeOrZero (andThen o (λ u. pick (isText u) (just (record { got = u; size = length u + 2 })) nothing)) ≤ suc (length t)
     go nothing h = omega arith
     go (just u) h = fits-pick (suc (length t)) (isText u) (just (record { got = u; size = length u + 2 })) nothing (omega arith) (omega arith)
 
@@ -76,9 +81,12 @@ unfolding plainAt sizeOrZero
 plain-fits [] = omega arith
 plain-fits (b ∷ s) =
     let n : ℕ = suc (length s) in
-    fits-pick n (isLetter b) (readAs word (wordAt (b ∷ s))) (pick (isDigit b || eqb b 45) (readAs whole (wholeAt (b ∷ s))) (pick (eqb b 39) (readAs text (textAt s)) (pick (eqb b 34) (readAs quoted (quotedAt s)) nothing)))
+    fits-pick n (isLetter b) (readAs word (wordAt (b ∷ s)))
+    (pick (isDigit b || eqb b 45) (readAs whole (wholeAt (b ∷ s)))
+    (pick (eqb b 39) (readAs text (textAt s)) (pick (eqb b 34) (readAs quoted (quotedAt s)) nothing)))
     (fits-as n word (wordAt (b ∷ s)) (word-fits (b ∷ s)))
-    (fits-pick n (isDigit b || eqb b 45) (readAs whole (wholeAt (b ∷ s))) (pick (eqb b 39) (readAs text (textAt s)) (pick (eqb b 34) (readAs quoted (quotedAt s)) nothing))
+    (fits-pick n (isDigit b || eqb b 45) (readAs whole (wholeAt (b ∷ s)))
+    (pick (eqb b 39) (readAs text (textAt s)) (pick (eqb b 34) (readAs quoted (quotedAt s)) nothing))
     (fits-as n whole (wholeAt (b ∷ s)) (whole-fits (b ∷ s)))
     (fits-pick n (eqb b 39) (readAs text (textAt s)) (pick (eqb b 34) (readAs quoted (quotedAt s)) nothing) (fits-as n text (textAt s) (text-fits s))
     (fits-pick n (eqb b 34) (readAs quoted (quotedAt s)) nothing (fits-as n quoted (quotedAt s) (quoted-fits s)) (omega arith))))

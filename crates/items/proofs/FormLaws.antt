@@ -99,19 +99,23 @@ module _ {A B : Type 0} (free : Bool) (i : ℕ) (s : Bytes) where
   form-each reading k = rest-same 3 free i s _ _ (λ e is. then-pick (spacesFrom s e) (each reading is) k)
 
 module _ {B : Type 0} (free : Bool) (i : ℕ) (s : Bytes) where
-  pub form-word : (k : Bytes → ListOf Item → Maybe B) → formAt free i s (λ is. first asWord is k) ≡ onPiece (wordNext 3 free s i) (λ p q. formAt false q s (k (partOf s p (q - p))))
+  pub form-word : (k : Bytes → ListOf Item → Maybe B)
+      → formAt free i s (λ is. first asWord is k) ≡ onPiece (wordNext 3 free s i) (λ p q. formAt false q s (k (partOf s p (q - p))))
   unfolding formAt
   form-word k = form-first free i s asWord k ∙ first-word 3 free s i (λ e w is. pick (spacesFrom s e) (k w is) nothing)
 
-  pub form-quoted : (k : Bytes → ListOf Item → Maybe B) → formAt free i s (λ is. first asQuoted is k) ≡ onPiece (quotedNext 3 free s i) (λ p q. formAt false (q + 1) s (k (partOf s p (q - p))))
+  pub form-quoted : (k : Bytes → ListOf Item → Maybe B)
+      → formAt free i s (λ is. first asQuoted is k) ≡ onPiece (quotedNext 3 free s i) (λ p q. formAt false (q + 1) s (k (partOf s p (q - p))))
   unfolding formAt
   form-quoted k = form-first free i s asQuoted k ∙ first-quoted 3 free s i (λ e w is. pick (spacesFrom s e) (k w is) nothing)
 
-  pub form-name : (k : Bytes → ListOf Item → Maybe B) → formAt free i s (λ is. first asName is k) ≡ onName s (nameNext 3 free s i) (λ n q. formAt false q s (k n)) (λ e. nothing)
+  pub form-name : (k : Bytes → ListOf Item → Maybe B)
+      → formAt free i s (λ is. first asName is k) ≡ onName s (nameNext 3 free s i) (λ n q. formAt false q s (k n)) (λ e. nothing)
   unfolding formAt
   form-name k = form-first free i s asName k ∙ first-name 3 free s i (λ e n is. pick (spacesFrom s e) (k n is) nothing)
 
-  pub form-value : (k : Value → ListOf Item → Maybe B) → formAt free i s (λ is. first asValue is k) ≡ onValue s (valueNext 3 free s i) (λ v q. formAt false q s (k v))
+  pub form-value : (k : Value → ListOf Item → Maybe B)
+      → formAt free i s (λ is. first asValue is k) ≡ onValue s (valueNext 3 free s i) (λ v q. formAt false q s (k v))
   unfolding formAt
   form-value k = form-first free i s asValue k ∙ first-value 3 free s i (λ e v is. pick (spacesFrom s e) (k v is) nothing)
 
@@ -123,17 +127,20 @@ module _ {B : Type 0} (free : Bool) (i : ℕ) (s : Bytes) where
 
   pub form-lists : {A : Type 0} (h : ListOf Item → Maybe A) (k : ListOf A → Maybe B)
       → formAt free i s (λ is. andThen (each (λ x. andThen (itemsOf x) h) is) k)
-      ≡ onNext (openNext s i) (λ p. restAt 2 true p s (λ q is. andThen (h is) (λ a. formAt true q s (λ is. andThen (each (λ x. andThen (itemsOf x) h) is) (λ l. k (a ∷ l))))))
+      ≡ onNext (openNext s i) (λ p. restAt 2 true p s
+      (λ q is. andThen (h is) (λ a. formAt true q s (λ is. andThen (each (λ x. andThen (itemsOf x) h) is) (λ l. k (a ∷ l))))))
       (λ e. pick (spacesFrom s e) (k []) nothing)
   unfolding formAt
   form-lists h k =
       form-each free i s (λ x. andThen (itemsOf x) h) k ∙ each-list h 2 free s i (λ e l. pick (spacesFrom s e) (k l) nothing)
-      ∙ (λ t. onNext (openNext s i) (λ p. restAt 2 true p s (λ q is. andThen (h is) (λ a. sym (form-each true q s (λ x. andThen (itemsOf x) h) (λ l. k (a ∷ l))) t))) (λ e. pick (spacesFrom s e) (k []) nothing))
+      ∙ (λ t. onNext (openNext s i) (λ p. restAt 2 true p s
+      (λ q is. andThen (h is) (λ a. sym (form-each true q s (λ x. andThen (itemsOf x) h) (λ l. k (a ∷ l))) t))) (λ e. pick (spacesFrom s e) (k []) nothing))
 
   pub form-end : (a : B) → formAt free i s (λ is. atEnd is a) ≡ pick (formCloses s i) (just a) nothing
   unfolding formAt formCloses spacesBehind onPlace andThen
   form-end a =
-      rest-same 3 free i s _ _ (λ e is. turned (spacesFrom s e) (atEnd is a)) ∙ end-next 3 free s i a (λ e a. pick (spacesFrom s e) (just a) nothing) ∙ shut (closeNext s i)
+      rest-same 3 free i s _ _ (λ e is. turned (spacesFrom s e) (atEnd is a)) ∙ end-next 3 free s i a (λ e a. pick (spacesFrom s e) (just a) nothing)
+      ∙ shut (closeNext s i)
     where
       turned : (x : Bool) (o : Maybe B) → pick x o nothing ≡ andThen o (λ a. pick x (just a) nothing)
       turned true nothing = refl
@@ -183,6 +190,7 @@ module _ (s : Bytes) (p : ℕ) (e : p ≡ past isSpace s 0) where
   form-shut h = rw (← e, ne-eqb (peekAt s p) 40 h)
 
 -- a line that ends in a line feed
-pub form-of : {B : Type 0} (bytes : Bytes) (f : ListOf Item → Maybe B) → andThen (formOf (record { bytes = bytes; ended = true })) f ≡ onPlace (formOpens bytes) (λ i. formAt true i bytes f)
+pub form-of : {B : Type 0} (bytes : Bytes) (f : ListOf Item → Maybe B)
+    → andThen (formOf (record { bytes = bytes; ended = true })) f ≡ onPlace (formOpens bytes) (λ i. formAt true i bytes f)
 unfolding formOf
 form-of bytes f = line-form f bytes

@@ -55,11 +55,13 @@ behind d s p q r e h = omega (arith, read-within d s p q r e h .after)
 
 module _ {B : Type 0} (d : ℕ) (s : Bytes) (p : ℕ) where
   pub word-item : (f : Bytes → Bool → ℕ → Maybe B)
-      → onItem p (itemAt d (drop p s)) (λ x q. andThen (asWord x) (λ a. f a (isList x) q)) ≡ onPiece (wordPiece p (readAt d s p)) (λ p q. f (partOf s p (q - p)) false q)
+      → onItem p (itemAt d (drop p s)) (λ x q. andThen (asWord x) (λ a. f a (isList x) q))
+      ≡ onPiece (wordPiece p (readAt d s p)) (λ p q. f (partOf s p (q - p)) false q)
   unfolding onItem itemTo asWord isList andThen wordPiece afterEnd onPiece
   word-item f = ap (λ (o : Maybe (Got Item)). onItem p o (λ x q. andThen (asWord x) (λ a. f a (isList x) q))) (item-told d s p) ∙ go (readAt d s p) refl
     where
-      go : (r : ItemRead) → r ≡ readAt d s p → onItem p (itemTo d s p r) (λ x q. andThen (asWord x) (λ a. f a (isList x) q)) ≡ onPiece (wordPiece p r) (λ p q. f (partOf s p (q - p)) false q)
+      go : (r : ItemRead) → r ≡ readAt d s p → onItem p (itemTo d s p r) (λ x q. andThen (asWord x) (λ a. f a (isList x) q))
+          ≡ onPiece (wordPiece p r) (λ p q. f (partOf s p (q - p)) false q)
       go (Word q) e = ap (f (partOf s p (q - p)) false) (behind d s p q (Word q) e refl)
       go (Number n q) e = refl
       go (Text q) e = refl
@@ -68,12 +70,14 @@ module _ {B : Type 0} (d : ℕ) (s : Bytes) (p : ℕ) where
       go None e = refl
 
   pub quoted-item : (f : Bytes → Bool → ℕ → Maybe B)
-      → onItem p (itemAt d (drop p s)) (λ x q. andThen (asQuoted x) (λ a. f a (isList x) q)) ≡ onPiece (quotedPiece p (readAt d s p)) (λ p q. f (partOf s p (q - p)) false (q + 1))
+      → onItem p (itemAt d (drop p s)) (λ x q. andThen (asQuoted x) (λ a. f a (isList x) q))
+      ≡ onPiece (quotedPiece p (readAt d s p)) (λ p q. f (partOf s p (q - p)) false (q + 1))
   unfolding onItem itemTo asQuoted isList andThen quotedPiece afterEnd onPiece
   quoted-item f = ap (λ (o : Maybe (Got Item)). onItem p o (λ x q. andThen (asQuoted x) (λ a. f a (isList x) q))) (item-told d s p) ∙ go (readAt d s p) refl
     where
       go : (r : ItemRead) → r ≡ readAt d s p
-          → onItem p (itemTo d s p r) (λ x q. andThen (asQuoted x) (λ a. f a (isList x) q)) ≡ onPiece (quotedPiece p r) (λ p q. f (partOf s p (q - p)) false (q + 1))
+          → onItem p (itemTo d s p r) (λ x q. andThen (asQuoted x) (λ a. f a (isList x) q))
+          ≡ onPiece (quotedPiece p r) (λ p q. f (partOf s p (q - p)) false (q + 1))
       go (Word q) e = refl
       go (Number n q) e = refl
       go (Text q) e = refl
@@ -97,7 +101,8 @@ module _ {B : Type 0} (d : ℕ) (s : Bytes) (p : ℕ) where
       truth q false true h = ap (f (bool false) false) h
       truth q false false h = refl
 
-      go : (r : ItemRead) → r ≡ readAt d s p → onItem p (itemTo d s p r) (λ x q. andThen (asValue x) (λ a. f a (isList x) q)) ≡ onValue s (valuePiece s p r) (λ v q. f v false q)
+      go : (r : ItemRead) → r ≡ readAt d s p → onItem p (itemTo d s p r) (λ x q. andThen (asValue x) (λ a. f a (isList x) q))
+          ≡ onValue s (valuePiece s p r) (λ v q. f v false q)
       go (Word q) e = truth q (same (partOf s p (q - p)) (bytesOf "true")) (same (partOf s p (q - p)) (bytesOf "false")) (behind d s p q (Word q) e refl)
       go (Number n q) e = ap (f (int n) false) (behind d s p q (Number n q) e refl)
       go (Text q) e = ap (f (str (partOf s (p + 1) (q - p - 2))) false) (behind d s p q (Text q) e refl)
@@ -119,7 +124,8 @@ name-piece {B} s (piece.At p q) f g = rw (name-of (partOf s p (q - p))) (go (not
 
 module _ {B : Type 0} (d : ℕ) (s : Bytes) (p : ℕ) where
   pub name-item : (f : Bytes → Bool → ℕ → Maybe B) (g : ℕ → Maybe B)
-      → onItem p (itemAt d (drop p s)) (λ x q. andThen (asName x) (λ a. f a (isList x) q)) ≡ onName s (namePiece s (wordPiece p (readAt d s p))) (λ n q. f n false q) g
+      → onItem p (itemAt d (drop p s)) (λ x q. andThen (asName x) (λ a. f a (isList x) q))
+      ≡ onName s (namePiece s (wordPiece p (readAt d s p))) (λ n q. f n false q) g
   unfolding asName andThen
   name-item f g =
       on-item-same p (itemAt d (drop p s)) _ _ (λ x q. assoc (asWord x) (λ a. f a (isList x) q))

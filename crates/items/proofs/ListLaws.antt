@@ -26,7 +26,8 @@ use Rattle.items.specs.declared.ClaimRead.the-variants as claim
 use Rattle.items.specs.declared.EntryRead.the-variants as entry
 use Rattle.items.specs.Rest.{restAt, spacesFrom, formAt, onNext}
 use Rattle.items.specs.Pieces.{wordNext, nameNext, valueNext, openNext, closeNext, onPiece, onName, onValue, onPlace, afterEnd, namePlaces}
-use Rattle.items.specs.Forms.{claimNode, claimActor, claimRest, claimHead, claimAfter, claimNext, onClaim, entryValued, entryNamed, entryAfter, entryNext, onEntry}
+use Rattle.items.specs.Forms.{claimNode, claimActor, claimRest, claimHead, claimAfter, claimNext, onClaim, entryValued, entryNamed, entryAfter}
+use Rattle.items.specs.Forms.{entryNext, onEntry}
 use Rattle.items.proofs.RestLaws.{rest-same, rest-nothing}
 use Rattle.items.proofs.FormLaws.{form-lists}
 use Rattle.items.proofs.PieceLaws.{first-word, first-name, first-value, end-next}
@@ -47,23 +48,27 @@ first-then reading (i ∷ is) k c = go (reading i)
 
 module _ {B : Type 0} (s : Bytes) where
   entry-shut : (d : ℕ) (a b : ℕ) (r : ValueItem) (k : Entry → ℕ → Maybe B) (g : ℕ → Maybe B)
-      → onValue s r (λ v q. restAt d false q s (λ e is. andThen (atEnd is (record { attr = partOf s a (b - a); value = v })) (λ x. k x e))) ≡ onEntry s (entryValued s a b r) k g
+      → onValue s r (λ v q. restAt d false q s (λ e is. andThen (atEnd is (record { attr = partOf s a (b - a); value = v })) (λ x. k x e)))
+      ≡ onEntry s (entryValued s a b r) k g
   unfolding onValue entryValued onEntry onPlace afterEnd
   entry-shut d a b read.None k g = refl
   entry-shut d a b (read.Value v q) k g =
       end-next d false s q (record { attr = partOf s a (b - a); value = valueOf s v }) (λ e x. k x e) ∙ go (closeNext s q)
     where
-      go : (r : End) → onPlace r (λ e. k (record { attr = partOf s a (b - a); value = valueOf s v }) e) ≡ onEntry s (afterEnd r (λ e. entry.Entry a b v e) entry.None) k g
+      go : (r : End) → onPlace r (λ e. k (record { attr = partOf s a (b - a); value = valueOf s v }) e)
+          ≡ onEntry s (afterEnd r (λ e. entry.Entry a b v e) entry.None) k g
       go (end.At e) = refl
       go end.None = refl
 
   entry-named : (d : ℕ) (n : NameItem) (k : Entry → ℕ → Maybe B) (g : ℕ → Maybe B)
-      → onName s n (λ w q. restAt d false q s (λ e is. first asValue is (λ v is. andThen (atEnd is (record { attr = w; value = v })) (λ x. k x e)))) (λ e. nothing) ≡ onEntry s (entryNamed d s (namePlaces n)) k g
+      → onName s n (λ w q. restAt d false q s (λ e is. first asValue is (λ v is. andThen (atEnd is (record { attr = w; value = v })) (λ x. k x e))))
+      (λ e. nothing) ≡ onEntry s (entryNamed d s (namePlaces n)) k g
   unfolding onName entryNamed onEntry
   entry-named d (name.Close e) k g = refl
   entry-named d name.None k g = refl
   entry-named d (name.Name a b) k g =
-      first-value d false s b (λ e v is. andThen (atEnd is (record { attr = partOf s a (b - a); value = v })) (λ x. k x e)) ∙ entry-shut d a b (valueNext d false s b) k g
+      first-value d false s b (λ e v is. andThen (atEnd is (record { attr = partOf s a (b - a); value = v })) (λ x. k x e))
+      ∙ entry-shut d a b (valueNext d false s b) k g
 
   -- the items of an entry, and what is made of it and of the place behind
   pub entry-items : (d : ℕ) (p : ℕ) (k : Entry → ℕ → Maybe B) (g : ℕ → Maybe B)
@@ -90,12 +95,14 @@ module _ {B : Type 0} (s : Bytes) where
   unfolding entryOf entryNext entryItems
   form-entries free i k =
       form-lists free i s entryItems k
-      ∙ (λ t. onNext (openNext s i) (λ p. entry-items 2 p (λ x q. formAt true q s (λ is. andThen (each entryOf is) (λ l. k (x ∷ l)))) (λ e. pick (spacesFrom s e) (k []) nothing) t) (λ e. pick (spacesFrom s e) (k []) nothing))
+      ∙ (λ t. onNext (openNext s i) (λ p. entry-items 2 p (λ x q. formAt true q s (λ is. andThen (each entryOf is) (λ l. k (x ∷ l))))
+      (λ e. pick (spacesFrom s e) (k []) nothing) t) (λ e. pick (spacesFrom s e) (k []) nothing))
       ∙ after-entry 2 (openNext s i) (λ x q. formAt true q s (λ is. andThen (each entryOf is) (λ l. k (x ∷ l)))) (λ e. pick (spacesFrom s e) (k []) nothing)
 
 -- (id ACTOR NODE)...
 claimItems : ListOf Item → Maybe Claim
-claimItems is = first asWord is (λ w is. first asName is (λ a is. first asName is (λ n is. pick (same w (bytesOf "id")) (atEnd is (record { actor = a; node = n })) nothing)))
+claimItems is = first asWord is (λ w is. first asName is
+    (λ a is. first asName is (λ n is. pick (same w (bytesOf "id")) (atEnd is (record { actor = a; node = n })) nothing)))
 
 first-nothing : {A B : Type 0} (reading : Item → Maybe A) (is : ListOf Item) → first {B = B} reading is (λ a is. nothing) ≡ nothing
 unfolding first andThen
@@ -108,37 +115,47 @@ first-nothing {A} {B} reading (i ∷ is) = go (reading i)
 
 module _ {B : Type 0} (d : ℕ) (s : Bytes) (k : Claim → ℕ → Maybe B) (g : ℕ → Maybe B) where
   claim-node : (a b : ℕ) (n : NameItem)
-      → onName s n (λ w q. restAt d false q s (λ e is. andThen (atEnd is (record { actor = partOf s a (b - a); node = w })) (λ x. k x e))) (λ e. nothing) ≡ onClaim s (claimNode s a b (namePlaces n)) k g
+      → onName s n (λ w q. restAt d false q s (λ e is. andThen (atEnd is (record { actor = partOf s a (b - a); node = w })) (λ x. k x e))) (λ e. nothing)
+      ≡ onClaim s (claimNode s a b (namePlaces n)) k g
   unfolding onName claimNode onClaim onPlace afterEnd
   claim-node a b (name.Close e) = refl
   claim-node a b name.None = refl
   claim-node a b (name.Name x y) =
       end-next d false s y (record { actor = partOf s a (b - a); node = partOf s x (y - x) }) (λ e x. k x e) ∙ go (closeNext s y)
     where
-      go : (r : End) → onPlace r (λ e. k (record { actor = partOf s a (b - a); node = partOf s x (y - x) }) e) ≡ onClaim s (afterEnd r (λ e. claim.Claim a b x y e) claim.None) k g
+      go : (r : End) → onPlace r (λ e. k (record { actor = partOf s a (b - a); node = partOf s x (y - x) }) e)
+          ≡ onClaim s (afterEnd r (λ e. claim.Claim a b x y e) claim.None) k g
       go (end.At e) = refl
       go end.None = refl
 
   claim-actor : (n : NameItem)
-      → onName s n (λ w q. restAt d false q s (λ e is. first asName is (λ m is. andThen (atEnd is (record { actor = w; node = m })) (λ x. k x e)))) (λ e. nothing) ≡ onClaim s (claimActor d s (namePlaces n)) k g
+      → onName s n (λ w q. restAt d false q s (λ e is. first asName is (λ m is. andThen (atEnd is (record { actor = w; node = m })) (λ x. k x e))))
+      (λ e. nothing) ≡ onClaim s (claimActor d s (namePlaces n)) k g
   unfolding onName claimActor onClaim
   claim-actor (name.Close e) = refl
   claim-actor name.None = refl
   claim-actor (name.Name a b) =
-      first-name d false s b (λ e m is. andThen (atEnd is (record { actor = partOf s a (b - a); node = m })) (λ x. k x e)) ∙ claim-node a b (nameNext d false s b)
+      first-name d false s b (λ e m is. andThen (atEnd is (record { actor = partOf s a (b - a); node = m })) (λ x. k x e))
+      ∙ claim-node a b (nameNext d false s b)
 
-  pub claim-rest : (i : ℕ) → restAt d false i s (λ e is. first asName is (λ a is. first asName is (λ n is. andThen (atEnd is (record { actor = a; node = n })) (λ x. k x e)))) ≡ onClaim s (claimRest d s i) k g
+  pub claim-rest : (i : ℕ) → restAt d false i s
+      (λ e is. first asName is (λ a is. first asName is (λ n is. andThen (atEnd is (record { actor = a; node = n })) (λ x. k x e))))
+      ≡ onClaim s (claimRest d s i) k g
   unfolding claimRest
-  claim-rest i = first-name d false s i (λ e a is. first asName is (λ n is. andThen (atEnd is (record { actor = a; node = n })) (λ x. k x e))) ∙ claim-actor (nameNext d false s i)
+  claim-rest i = first-name d false s i (λ e a is. first asName is (λ n is. andThen (atEnd is (record { actor = a; node = n })) (λ x. k x e)))
+      ∙ claim-actor (nameNext d false s i)
 
   claim-head : (w : ItemAt)
-      → onPiece w (λ p q. restAt d false q s (λ e is. first asName is (λ a is. first asName is (λ n is. andThen (pick (same (partOf s p (q - p)) (bytesOf "id")) (atEnd is (record { actor = a; node = n })) nothing) (λ x. k x e)))))
+      → onPiece w (λ p q. restAt d false q s (λ e is. first asName is
+      (λ a is. first asName is (λ n is. andThen (pick (same (partOf s p (q - p)) (bytesOf "id")) (atEnd is (record { actor = a; node = n })) nothing)
+      (λ x. k x e)))))
       ≡ onClaim s (claimHead d s w) k g
   unfolding onPiece claimHead onClaim andThen
   claim-head piece.None = refl
   claim-head (piece.At p q) = go (same (partOf s p (q - p)) (bytesOf "id"))
     where
-      go : (x : Bool) → restAt d false q s (λ e is. first asName is (λ a is. first asName is (λ n is. andThen (pick x (atEnd is (record { actor = a; node = n })) nothing) (λ x. k x e))))
+      go : (x : Bool) → restAt d false q s (λ e is. first asName is
+          (λ a is. first asName is (λ n is. andThen (pick x (atEnd is (record { actor = a; node = n })) nothing) (λ x. k x e))))
           ≡ onClaim s (pick x (claimRest d s q) claim.None) k g
       go true = claim-rest q
       go false =
@@ -171,7 +188,8 @@ pub form-claims : {B : Type 0} (s : Bytes) (free : Bool) (i : ℕ) (k : ListOf C
 unfolding claimOf claimNext claimItems
 form-claims s free i k =
     form-lists free i s claimItems k
-    ∙ (λ t. onNext (openNext s i) (λ p. claim-items 2 s (λ x q. formAt true q s (λ is. andThen (each claimOf is) (λ l. k (x ∷ l)))) (λ e. pick (spacesFrom s e) (k []) nothing) p t) (λ e. pick (spacesFrom s e) (k []) nothing))
+    ∙ (λ t. onNext (openNext s i) (λ p. claim-items 2 s (λ x q. formAt true q s (λ is. andThen (each claimOf is) (λ l. k (x ∷ l))))
+    (λ e. pick (spacesFrom s e) (k []) nothing) p t) (λ e. pick (spacesFrom s e) (k []) nothing))
     ∙ after-claim 2 s (λ x q. formAt true q s (λ is. andThen (each claimOf is) (λ l. k (x ∷ l)))) (λ e. pick (spacesFrom s e) (k []) nothing) (openNext s i)
 
 -- what the tests of `entry` say
@@ -185,7 +203,8 @@ module _ (d : ℕ) (s : Bytes) (i p : ℕ) (e : next.Item p ≡ openNext s i) wh
     unfolding entryNamed
     entry-value r h = ap (entryValued s a b) h ∙ at-entry (piece.At a b) n
 
-    pub entry-close : (v : ValueData) (q : ℕ) → read.Value v q ≡ valueNext d false s b → (x : End) → x ≡ closeNext s q → afterEnd x (λ e. entry.Entry a b v e) entry.None ≡ entryNext d s i
+    pub entry-close : (v : ValueData) (q : ℕ) → read.Value v q ≡ valueNext d false s b → (x : End) → x ≡ closeNext s q
+        → afterEnd x (λ e. entry.Entry a b v e) entry.None ≡ entryNext d s i
     unfolding entryValued
     entry-close v q h x k = ap (λ (x : End). afterEnd x (λ e. entry.Entry a b v e) entry.None) k ∙ entry-value (read.Value v q) h
 
@@ -195,7 +214,8 @@ module _ (d : ℕ) (s : Bytes) (i a b : ℕ) (n : piece.At a b ≡ namePlaces (n
   unfolding claimRest claimActor
   at-node w h = ap (claimNode s a b) h ∙ ap (claimActor d s) n
 
-  pub at-shut : (x y : ℕ) → piece.At x y ≡ namePlaces (nameNext d false s b) → (r : End) → r ≡ closeNext s y → afterEnd r (λ e. claim.Claim a b x y e) claim.None ≡ claimRest d s i
+  pub at-shut : (x y : ℕ) → piece.At x y ≡ namePlaces (nameNext d false s b) → (r : End) → r ≡ closeNext s y
+      → afterEnd r (λ e. claim.Claim a b x y e) claim.None ≡ claimRest d s i
   unfolding claimNode
   at-shut x y h r k = ap (λ (r : End). afterEnd r (λ e. claim.Claim a b x y e) claim.None) k ∙ at-node (piece.At x y) h
 

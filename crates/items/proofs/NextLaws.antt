@@ -81,7 +81,8 @@ module _ {B : Type 0} (d : ℕ) (s : Bytes) (f : ℕ → List Item → Maybe B) 
       space h = eqb-false (peekAt s p) 32 (past-test isSpace s i refl) h
 
       go : (free x y z : Bool) → eqb (peekAt s p) 41 ≡ x → ltb i p ≡ y → eqb (peekAt s p) 40 ≡ z
-          → restAt d (free || y) p s f ≡ onNext (pick x (Close (p + 1)) (pick y (ItemAt p) (pick (free || z) (ItemAt p) None))) (λ p. restAt d true p s f) (λ q. f q [])
+          → restAt d (free || y) p s f ≡ onNext (pick x (Close (p + 1)) (pick y (ItemAt p) (pick (free || z) (ItemAt p) None))) (λ p. restAt d true p s f)
+          (λ q. f q [])
       go free true y z a b c = rest-close d (free || y) s p f (peek-in s p (omega (arith, eqb-true (peekAt s p) 41 a))) (eqb-true (peekAt s p) 41 a)
       go true false true z a b c = refl
       go true false false z a b c = refl
@@ -174,7 +175,8 @@ module _ (d : ℕ) (s : Bytes) (i p : ℕ) (b : Begins s i p) where
 
   pub ends-at : (q : ℕ) → end.At q ≡ endOf p (itemAt d (drop p s)) → (p < q) × (restAt d true p s ends ≡ restAt d (eqb (peekAt s p) 40) q s ends)
   unfolding endOf onItem sizeOr kindOr
-  ends-at q e = let r = go (itemAt d (drop p s)) (item-size d (drop p s)) (rw (opens-at s p) at (item-kind d (drop p s))) e in (r .0, rest-at d s i p ends b ∙ r .1)
+  ends-at q e = let r = go (itemAt d (drop p s)) (item-size d (drop p s)) (rw (opens-at s p) at (item-kind d (drop p s))) e in
+      (r .0, rest-at d s i p ends b ∙ r .1)
     where
       go : (o : Maybe (Got Item)) → 0 < sizeOr o → kindOr (eqb (peekAt s p) 40) o ≡ eqb (peekAt s p) 40 → end.At q ≡ endOf p o
           → (p < q) × (onItem p o (λ x q. restAt d (isList x) q s ends) ≡ restAt d (eqb (peekAt s p) 40) q s ends)

@@ -23,14 +23,16 @@ use Rattle.items.specs.declared.ValueItem.{ValueItem}
 use Rattle.items.specs.declared.ValueItem.the-variants as read
 use Rattle.items.specs.Reads.{nextAt}
 use Rattle.items.specs.Rest.{restAt, onNext, onItem}
-use Rattle.items.specs.Pieces.{itemPlace, afterEnd, nameAfter, closeAfter, wordPiece, quotedPiece, namePiece, valuePiece, readAt, wordNext, quotedNext, nameNext, valueNext, openNext, closeNext, onPiece, onName, onValue, onPlace}
+use Rattle.items.specs.Pieces.{itemPlace, afterEnd, nameAfter, closeAfter, wordPiece, quotedPiece, namePiece, valuePiece, readAt, wordNext}
+use Rattle.items.specs.Pieces.{quotedNext, nameNext, valueNext, openNext, closeNext, onPiece, onName, onValue, onPlace}
 use Rattle.items.proofs.ItemLaws.{on-item-same, on-next-same, word-item, quoted-item, value-item, name-item, list-item}
 use Rattle.items.proofs.RestLaws.{rest-nothing, rest-then}
 use Rattle.items.proofs.NextLaws.{item-follows, close-follows, none-follows, begins, rest-at}
 
 -- by the next item, for every list that is asked for it
 module _ {B : Type 0} (d : ℕ) (free : Bool) (s : Bytes) (i : ℕ) (f : ℕ → ListOf Item → Maybe B) where
-  by-next : restAt d free i s f ≡ onNext (nextAt free s i) (λ p. onItem p (itemAt d (drop p s)) (λ x q. restAt d (isList x) q s (λ e is. f e (x ∷ is)))) (λ e. f e [])
+  by-next : restAt d free i s f ≡ onNext (nextAt free s i) (λ p. onItem p (itemAt d (drop p s)) (λ x q. restAt d (isList x) q s (λ e is. f e (x ∷ is))))
+      (λ e. f e [])
   unfolding onNext
   by-next = go (nextAt free s i) refl
     where
@@ -44,7 +46,8 @@ module _ {A B : Type 0} (reading : Item → Maybe A) (d : ℕ) (free : Bool) (s 
   -- the first item by a reading of it
   pub first-next : (k : ℕ → A → ListOf Item → Maybe B)
       → restAt d free i s (λ e is. first reading is (k e))
-      ≡ onNext (nextAt free s i) (λ p. onItem p (itemAt d (drop p s)) (λ x q. andThen (reading x) (λ a. restAt d (isList x) q s (λ e is. k e a is)))) (λ e. nothing)
+      ≡ onNext (nextAt free s i) (λ p. onItem p (itemAt d (drop p s)) (λ x q. andThen (reading x) (λ a. restAt d (isList x) q s (λ e is. k e a is))))
+      (λ e. nothing)
   unfolding first
   first-next k =
       by-next d free s i (λ e is. first reading is (k e))
@@ -54,7 +57,8 @@ module _ {A B : Type 0} (reading : Item → Maybe A) (d : ℕ) (free : Bool) (s 
   -- every item by a reading of it
   pub each-next : (k : ℕ → ListOf A → Maybe B)
       → restAt d free i s (λ e is. andThen (each reading is) (k e))
-      ≡ onNext (nextAt free s i) (λ p. onItem p (itemAt d (drop p s)) (λ x q. andThen (reading x) (λ a. restAt d (isList x) q s (λ e is. andThen (each reading is) (λ rest. k e (a ∷ rest)))))) (λ e. k e [])
+      ≡ onNext (nextAt free s i) (λ p. onItem p (itemAt d (drop p s))
+      (λ x q. andThen (reading x) (λ a. restAt d (isList x) q s (λ e is. andThen (each reading is) (λ rest. k e (a ∷ rest)))))) (λ e. k e [])
   unfolding each andThen
   each-next k =
       by-next d free s i (λ e is. andThen (each reading is) (k e))
@@ -76,7 +80,8 @@ module _ {B : Type 0} (free : Bool) (s : Bytes) (i : ℕ) where
   close-item g = go free (eqb (peekAt s (past isSpace s i)) 41) (ltb i (past isSpace s i)) (eqb (peekAt s (past isSpace s i)) 40)
     where
       follows : Bool → Bool → Bool → Bool → Next
-      follows free x y z = pick x (next.Close (past isSpace s i + 1)) (pick y (next.Item (past isSpace s i)) (pick (free || z) (next.Item (past isSpace s i)) next.None))
+      follows free x y z = pick x (next.Close (past isSpace s i + 1))
+          (pick y (next.Item (past isSpace s i)) (pick (free || z) (next.Item (past isSpace s i)) next.None))
 
       go : (free x y z : Bool) → onNext (follows free x y z) (λ p. nothing) g ≡ onPlace (closeAfter (follows true x y z)) g
       go free true y z = refl
@@ -100,7 +105,8 @@ module _ {A B : Type 0} (d : ℕ) (free : Bool) (s : Bytes) (i : ℕ) where
       ∙ close-item free s i (λ e. k e a)
 
 -- a list that is asked for a word, a name, a value, a policy text, a list
-after-piece : {B : Type 0} (n : Next) (f : ℕ → ItemAt) (g : ℕ → ℕ → Maybe B) → onNext n (λ p. onPiece (f p) g) (λ e. nothing) ≡ onPiece (afterEnd (itemPlace n) f piece.None) g
+after-piece : {B : Type 0} (n : Next) (f : ℕ → ItemAt) (g : ℕ → ℕ → Maybe B)
+    → onNext n (λ p. onPiece (f p) g) (λ e. nothing) ≡ onPiece (afterEnd (itemPlace n) f piece.None) g
 unfolding onNext afterEnd onPiece
 after-piece (next.Item p) f g = refl
 after-piece (next.Close e) f g = refl
@@ -113,7 +119,8 @@ after-name d s (next.Item p) g h = refl
 after-name d s (next.Close e) g h = refl
 after-name d s next.None g h = refl
 
-after-value : {B : Type 0} (s : Bytes) (n : Next) (f : ℕ → ValueItem) (g : Value → ℕ → Maybe B) → onNext n (λ p. onValue s (f p) g) (λ e. nothing) ≡ onValue s (afterEnd (itemPlace n) f read.None) g
+after-value : {B : Type 0} (s : Bytes) (n : Next) (f : ℕ → ValueItem) (g : Value → ℕ → Maybe B)
+    → onNext n (λ p. onValue s (f p) g) (λ e. nothing) ≡ onValue s (afterEnd (itemPlace n) f read.None) g
 unfolding onNext afterEnd onValue
 after-value s (next.Item p) f g = refl
 after-value s (next.Close e) f g = refl
@@ -129,7 +136,8 @@ module _ {B : Type 0} (d : ℕ) (free : Bool) (s : Bytes) (i : ℕ) where
       ∙ after-piece (nextAt free s i) (λ p. wordPiece p (readAt d s p)) (λ p q. restAt d false q s (λ e is. k e (partOf s p (q - p)) is))
 
   pub first-quoted : (k : ℕ → Bytes → ListOf Item → Maybe B)
-      → restAt d free i s (λ e is. first asQuoted is (k e)) ≡ onPiece (quotedNext d free s i) (λ p q. restAt d false (q + 1) s (λ e is. k e (partOf s p (q - p)) is))
+      → restAt d free i s (λ e is. first asQuoted is (k e))
+      ≡ onPiece (quotedNext d free s i) (λ p q. restAt d false (q + 1) s (λ e is. k e (partOf s p (q - p)) is))
   unfolding quotedNext
   first-quoted k =
       first-next asQuoted d free s i k
@@ -150,7 +158,8 @@ module _ {B : Type 0} (d : ℕ) (free : Bool) (s : Bytes) (i : ℕ) where
   unfolding nameNext
   each-name k =
       each-next asName d free s i k
-      ∙ on-next-same (nextAt free s i) _ _ (λ e. k e []) (λ p. name-item d s p (λ n x q. restAt d x q s (λ e is. andThen (each asName is) (λ ns. k e (n ∷ ns)))) (λ e. k e []))
+      ∙ on-next-same (nextAt free s i) _ _ (λ e. k e [])
+      (λ p. name-item d s p (λ n x q. restAt d x q s (λ e is. andThen (each asName is) (λ ns. k e (n ∷ ns)))) (λ e. k e []))
       ∙ after-name d s (nextAt free s i) (λ n q. restAt d false q s (λ e is. andThen (each asName is) (λ ns. k e (n ∷ ns)))) (λ e. k e [])
 
   pub first-value : (k : ℕ → Value → ListOf Item → Maybe B)
@@ -165,11 +174,13 @@ module _ {A B : Type 0} (h : ListOf Item → Maybe A) (d : ℕ) (free : Bool) (s
   pub first-list : (k : ℕ → A → ListOf Item → Maybe B)
       → restAt (suc d) free i s (λ e is. first (λ x. andThen (itemsOf x) h) is (k e))
       ≡ onNext (openNext s i) (λ p. restAt d true p s (λ q is. andThen (h is) (λ a. restAt (suc d) true q s (λ e is. k e a is)))) (λ e. nothing)
-  first-list k = first-next (λ x. andThen (itemsOf x) h) (suc d) free s i k ∙ list-item h d s free i (λ a x q. restAt (suc d) x q s (λ e is. k e a is)) (λ e. nothing)
+  first-list k = first-next (λ x. andThen (itemsOf x) h) (suc d) free s i k
+      ∙ list-item h d s free i (λ a x q. restAt (suc d) x q s (λ e is. k e a is)) (λ e. nothing)
 
   pub each-list : (k : ℕ → ListOf A → Maybe B)
       → restAt (suc d) free i s (λ e is. andThen (each (λ x. andThen (itemsOf x) h) is) (k e))
-      ≡ onNext (openNext s i) (λ p. restAt d true p s (λ q is. andThen (h is) (λ a. restAt (suc d) true q s (λ e is. andThen (each (λ x. andThen (itemsOf x) h) is) (λ rest. k e (a ∷ rest))))))
+      ≡ onNext (openNext s i) (λ p. restAt d true p s
+      (λ q is. andThen (h is) (λ a. restAt (suc d) true q s (λ e is. andThen (each (λ x. andThen (itemsOf x) h) is) (λ rest. k e (a ∷ rest))))))
       (λ e. k e [])
   each-list k =
       each-next (λ x. andThen (itemsOf x) h) (suc d) free s i k

@@ -25,7 +25,8 @@ use Rattle.items.specs.declared.ItemAt.the-variants as piece
 use Rattle.items.specs.declared.NameItem.the-variants as name
 use Rattle.items.specs.declared.ValueItem.the-variants as read
 use Rattle.items.specs.Reads.{kindAt, readOf, nextAt}
-use Rattle.items.specs.Pieces.{itemPlace, wordEnd, wordOf, quotedEnd, afterEnd, nameAfter, openAfter, wordPiece, quotedPiece, namePiece, truthPiece, valuePiece, readAt, wordNext, quotedNext, nameNext, valueNext}
+use Rattle.items.specs.Pieces.{itemPlace, wordEnd, wordOf, quotedEnd, afterEnd, nameAfter, openAfter, wordPiece, quotedPiece, namePiece}
+use Rattle.items.specs.Pieces.{truthPiece, valuePiece, readAt, wordNext, quotedNext, nameNext, valueNext}
 use Rattle.items.proofs.ReadLaws.{plain-word, plain-whole, plain-text, plain-quoted, plain-none, item-opened, item-deep, read-plain, Within, read-within}
 
 -- an item of a known kind lies in the text
@@ -61,7 +62,8 @@ unfolding endOf readOf readAs kindAt
 as-word at nothing = refl
 as-word at (just g) = refl
 
-as-other : {A : Type 0} (at : ℕ) (f : A → Item) (o : Maybe (Got A)) → ((a : A) (q : ℕ) → end.None ≡ wordEnd (kindAt (f a) q)) → end.None ≡ wordEnd (readOf at (readAs f o))
+as-other : {A : Type 0} (at : ℕ) (f : A → Item) (o : Maybe (Got A)) → ((a : A) (q : ℕ) → end.None ≡ wordEnd (kindAt (f a) q))
+    → end.None ≡ wordEnd (readOf at (readAs f o))
 unfolding readOf readAs
 as-other at f nothing h = refl
 as-other at f (just g) h = h (g .got) (at + g .size)
@@ -79,7 +81,8 @@ module _ (s : Bytes) (p : ℕ) where
       b : ℕ
       b = peekAt s p
 
-      go : (w x y z : Bool) → isLetter b ≡ w → (isDigit b || eqb b 45) ≡ x → eqb b 39 ≡ y → eqb b 34 ≡ z → pick w (endOf p (wordAt (drop p s))) end.None ≡ wordEnd (readOf p (plainAt (drop p s)))
+      go : (w x y z : Bool) → isLetter b ≡ w → (isDigit b || eqb b 45) ≡ x → eqb b 39 ≡ y → eqb b 34 ≡ z
+          → pick w (endOf p (wordAt (drop p s))) end.None ≡ wordEnd (readOf p (plainAt (drop p s)))
       go true x y z h i j k = rw (plain-word s p h) (as-word p (wordAt (drop p s)))
       go false true y z h i j k = rw (plain-whole s p h i) (as-other p whole (wholeAt (drop p s)) (λ a q. refl))
       go false false true z h i j k = rw (plain-text s p h i (eqb-true b 39 j)) (as-other p text (textAt (drop (p + 1) s)) (λ a q. refl))
@@ -121,14 +124,16 @@ module _ (d : ℕ) (free : Bool) (s : Bytes) (i : ℕ) where
 
     pub at-quoted : (x : End) → x ≡ quotedEnd (readAt d s p) → afterEnd x (λ q. piece.At (p + 1) (q - 1)) piece.None ≡ quotedNext d free s i
     unfolding quotedNext quotedPiece afterEnd
-    at-quoted x w = ap (λ (x : End). afterEnd x (λ q. piece.At (p + 1) (q - 1)) piece.None) w ∙ ap (λ (x : End). afterEnd x (λ p. quotedPiece p (readAt d s p)) piece.None) e
+    at-quoted x w = ap (λ (x : End). afterEnd x (λ q. piece.At (p + 1) (q - 1)) piece.None) w
+        ∙ ap (λ (x : End). afterEnd x (λ p. quotedPiece p (readAt d s p)) piece.None) e
 
     pub at-value : valuePiece s p (readAt d s p) ≡ valueNext d free s i
     unfolding valueNext afterEnd
     at-value = ap (λ (x : End). afterEnd x (λ p. valuePiece s p (readAt d s p)) read.None) e
 
   -- what follows, to a name
-  pub at-name : (p : ℕ) → next.Item p ≡ nextAt free s i → (x : End) → x ≡ wordEnd (readAt d s p) → namePiece s (afterEnd x (λ q. piece.At p q) piece.None) ≡ nameNext d free s i
+  pub at-name : (p : ℕ) → next.Item p ≡ nextAt free s i → (x : End) → x ≡ wordEnd (readAt d s p)
+      → namePiece s (afterEnd x (λ q. piece.At p q) piece.None) ≡ nameNext d free s i
   unfolding nameNext nameAfter wordPiece
   at-name p e x w = ap (λ (x : End). namePiece s (afterEnd x (λ q. piece.At p q) piece.None)) w ∙ ap (nameAfter d s) e
 

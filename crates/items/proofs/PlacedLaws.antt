@@ -29,7 +29,8 @@ use Rattle.items.specs.declared.ValueItem.the-variants as read
 use Rattle.items.specs.declared.EntryRead.{EntryRead}
 use Rattle.items.specs.declared.EntryRead.the-variants as entry
 use Rattle.items.specs.Reads.{nextAt}
-use Rattle.items.specs.Pieces.{itemPlace, afterEnd, wordPiece, quotedPiece, namePiece, namePlaces, truthPiece, valuePiece, readAt, wordNext, quotedNext, nameAfter, nameNext, valueNext, openAfter, openNext, closeAfter, closeNext}
+use Rattle.items.specs.Pieces.{itemPlace, afterEnd, wordPiece, quotedPiece, namePiece, namePlaces, truthPiece, valuePiece, readAt, wordNext}
+use Rattle.items.specs.Pieces.{quotedNext, nameAfter, nameNext, valueNext, openAfter, openNext, closeAfter, closeNext}
 use Rattle.items.specs.Forms.{entryValued, entryNamed, entryAfter, entryNext}
 use Rattle.items.specs.Places.{WordPlaces, Placed, NextWord, NextName, QuotedPlaced, NextQuoted, ValueInside, EntryPlaced, NextEntry}
 use Rattle.items.proofs.ReadLaws.{read-within, text-within, quoted-within, word-small}
@@ -191,7 +192,8 @@ module _ (d : ℕ) (s : Bytes) (i : ℕ) where
   entry-named : (p : ℕ) → i ≤ p → (r : ItemAt) → Placed s p r → EntryPlaced s i (entryNamed d s r)
   unfolding entryNamed
   entry-named p l (piece.At a b) w =
-      entry-valued a b (record { after = omega (arith, w .after); some = w .some; inside = w .inside; short = w .short }) (valueNext d false s b) (value-placed s b d)
+      entry-valued a b (record { after = omega (arith, w .after); some = w .some; inside = w .inside; short = w .short }) (valueNext d false s b)
+      (value-placed s b d)
   entry-named p l piece.None w = tt
 
   entry-placed : EntryPlaced s i (entryNext d s i)

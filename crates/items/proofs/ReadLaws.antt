@@ -39,7 +39,8 @@ end-read at (just g) = go (g .got)
     go (list w) = refl
 
 -- an item of one kind
-read-bytes : (at : ℕ) (f : Bytes → Item) (kind : ℕ → ItemRead) (o : Maybe (Got Bytes)) → ((w : Bytes) (q : ℕ) → kindAt (f w) q ≡ kind q) → onEnd kind (endOf at o) ≡ readOf at (readAs f o)
+read-bytes : (at : ℕ) (f : Bytes → Item) (kind : ℕ → ItemRead) (o : Maybe (Got Bytes)) → ((w : Bytes) (q : ℕ) → kindAt (f w) q ≡ kind q)
+    → onEnd kind (endOf at o) ≡ readOf at (readAs f o)
 unfolding endOf readOf readAs
 read-bytes at f kind nothing h = refl
 read-bytes at f kind (just g) h = sym (h (g .got) (at + g .size))
@@ -74,7 +75,8 @@ module _ (s : Bytes) (at : ℕ) where
       pub plain-none : (peekAt s at ≡ 39 → ⊥) → (peekAt s at ≡ 34 → ⊥) → plainAt (drop at s) ≡ nothing
       unfolding plainAt
       plain-none h k =
-          ⊎-elim (λ l. rw (drop-peek s at l, a, n, ne-eqb (peekAt s at) 39 h, ne-eqb (peekAt s at) 34 k)) (λ g. rw (drop-end s at g)) (below-or-not at (length s))
+          ⊎-elim (λ l. rw (drop-peek s at l, a, n, ne-eqb (peekAt s at) 39 h, ne-eqb (peekAt s at) 34 k)) (λ g. rw (drop-end s at g))
+          (below-or-not at (length s))
 
   -- what the tests of `plain` say
   pub read-word : isLetter (peekAt s at) ≡ true → onEnd Word (endOf at (wordAt (drop at s))) ≡ readOf at (plainAt (drop at s))
@@ -127,7 +129,8 @@ module _ (d : ℕ) (s : Bytes) (at : ℕ) where
   unfolding readOf
   read-deep e h = ap (readOf at) (sym (item-deep d s at e h))
 
-  pub read-opened : (c : ℕ) → d ≡ suc c → peekAt s at ≡ 40 → onEnd List (endOf (at + 1) (listAt (itemAt c) true 0 (drop (at + 1) s))) ≡ readOf at (itemAt d (drop at s))
+  pub read-opened : (c : ℕ) → d ≡ suc c → peekAt s at ≡ 40
+      → onEnd List (endOf (at + 1) (listAt (itemAt c) true 0 (drop (at + 1) s))) ≡ readOf at (itemAt d (drop at s))
   read-opened c e h = read-list at (listAt (itemAt c) true 0 (drop (at + 1) s)) ∙ ap (readOf at) (sym (item-opened d c s at e h))
 
   pub read-plain : (peekAt s at ≡ 40 → ⊥) → readOf at (plainAt (drop at s)) ≡ readOf at (itemAt d (drop at s))
@@ -169,10 +172,12 @@ module _ (d : ℕ) (s : Bytes) (p : ℕ) where
       go true x y z h i j k = rw (plain-word s p h) (ap (readAs word) (word-read s p) ∙ to-word d s p (wordAt (drop p s)))
       go false true y z h i j k = rw (plain-whole s p h i) (ap (readAs whole) (whole-read s p) ∙ to-whole d s p (wholeAt (drop p s)))
       go false false true z h i j k = rw (plain-text s p h i (eqb-true b 39 j)) (ap (readAs text) (text-read s p) ∙ to-text d s p (textAt (drop (p + 1) s)))
-      go false false false true h i j k = rw (plain-quoted s p h i (eqb-true b 34 k)) (ap (readAs quoted) (quoted-read s p) ∙ to-quoted d s p (quotedAt (drop (p + 1) s)))
+      go false false false true h i j k = rw (plain-quoted s p h i (eqb-true b 34 k))
+          (ap (readAs quoted) (quoted-read s p) ∙ to-quoted d s p (quotedAt (drop (p + 1) s)))
       go false false false false h i j k = rw (plain-none s p h i (eqb-false b 39 j) (eqb-false b 34 k))
 
-list-told : (c : ℕ) (s : Bytes) (p : ℕ) (o : Maybe (Got Items)) → listAt (itemAt c) true 0 (drop (p + 1) s) ≡ o → asList o ≡ itemTo (suc c) s p (readOf p (asList o))
+list-told : (c : ℕ) (s : Bytes) (p : ℕ) (o : Maybe (Got Items)) → listAt (itemAt c) true 0 (drop (p + 1) s) ≡ o
+    → asList o ≡ itemTo (suc c) s p (readOf p (asList o))
 unfolding asList itemTo readOf kindAt insideAt itemsOr
 list-told c s p nothing e = refl
 list-told c s p (just g) e = let k : p + (g .size + 1) - p ≡ g .size + 1 = omega arith in rw (e, k)

@@ -74,7 +74,8 @@ module _ {B : Type 0} (d : ℕ) (free : Bool) (s : Bytes) (i : ℕ) (f : ℕ →
     rest-opens h = rw (drop-peek s i l, h) (go free)
       where
         rest : Bool → Maybe (Got Items)
-        rest x = pick (x || true) (andThen (itemAt d (40 ∷ drop (i + 1) s)) (λ g. onwardWith (g .got) (listAt (itemAt d) (isList (g .got)) (g .size - 1) (drop (i + 1) s)))) nothing
+        rest x = pick (x || true) (andThen (itemAt d (40 ∷ drop (i + 1) s))
+            (λ g. onwardWith (g .got) (listAt (itemAt d) (isList (g .got)) (g .size - 1) (drop (i + 1) s)))) nothing
 
         go : (x : Bool) → andThen (rest x) (λ g. f (i + g .size) (itemList (g .got))) ≡ andThen (rest true) (λ g. f (i + g .size) (itemList (g .got)))
         go true = refl
@@ -103,6 +104,7 @@ module _ {B : Type 0} (d : ℕ) (free : Bool) (s : Bytes) (i : ℕ) (f : ℕ →
         rest-item g e =
             let z : 0 < g .size = rw e at (item-size d (drop i s)) in
             let k : i + 1 + (g .size - 1) ≡ i + g .size = omega arith in
-            ap (λ (o : Maybe (Got Items)). behind i o f) (opened g e ∙ ap (onwardWith (g .got)) (list-skip (itemAt d) (isList (g .got)) (g .size - 1) (drop (i + 1) s)))
+            ap (λ (o : Maybe (Got Items)). behind i o f)
+            (opened g e ∙ ap (onwardWith (g .got)) (list-skip (itemAt d) (isList (g .got)) (g .size - 1) (drop (i + 1) s)))
             ∙ behind-with i (g .size - 1) (g .got) (listAt (itemAt d) (isList (g .got)) 0 (drop (g .size - 1) (drop (i + 1) s))) f
             ∙ rw (drop-drop (g .size - 1) (i + 1) s, k)

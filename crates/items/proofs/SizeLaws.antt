@@ -9,7 +9,8 @@ use lib.ListN.{length, drop}
 use lib.Dec.{leb, eqb}
 use Rattle.model.specs.Bytes.{Bytes}
 use Rattle.model.specs.Choice.{pick, Maybe, nothing, just, andThen}
-use Rattle.model.specs.Words.{Got, isLetter, isDigit, isWordByte, run, wordAt, before, isText, textAt, quotedAt, isWhole, plainDigits, biased, decimal, digitsAt, wholeAt, readAs}
+use Rattle.model.specs.Words.{Got, isLetter, isDigit, isWordByte, run, wordAt, before, isText, textAt, quotedAt, isWhole, plainDigits, biased}
+use Rattle.model.specs.Words.{decimal, digitsAt, wholeAt, readAs}
 use Rattle.model.specs.Items.{Item, word, whole, text, quoted, list, Items, isList, plainAt, asList, opens, listAt, itemAt}
 
 -- the size of what was read, or 1
@@ -42,12 +43,15 @@ kind-as f (just g) h = h (g .got)
 
 word-size : (b : ℕ) (s : Bytes) → isLetter b ≡ true → 0 < sizeOr (wordAt (b ∷ s))
 unfolding sizeOr wordAt run isWordByte
-word-size b s h = rw h (size-pick (leb (suc (length (run isWordByte s))) 24) (just (record { got = b ∷ run isWordByte s; size = suc (length (run isWordByte s)) })) nothing (omega arith) (omega arith))
+word-size b s h = rw h (size-pick (leb (suc (length (run isWordByte s))) 24)
+    (just (record { got = b ∷ run isWordByte s; size = suc (length (run isWordByte s)) })) nothing (omega arith) (omega arith))
 
-digits-size : (m : Bool) (ds : Bytes) → 0 < sizeOr (pick (isWhole m ds) (just (record { got = biased m (decimal 0 ds); size = length ds + pick m 1 0 })) nothing)
+digits-size : (m : Bool) (ds : Bytes) → 0 < sizeOr
+    (pick (isWhole m ds) (just (record { got = biased m (decimal 0 ds); size = length ds + pick m 1 0 })) nothing)
 unfolding sizeOr isWhole plainDigits
 digits-size m [] = omega arith
-digits-size m (b ∷ ds) = size-pick (isWhole m (b ∷ ds)) (just (record { got = biased m (decimal 0 (b ∷ ds)); size = suc (length ds) + pick m 1 0 })) nothing (omega arith) (omega arith)
+digits-size m (b ∷ ds) = size-pick (isWhole m (b ∷ ds)) (just (record { got = biased m (decimal 0 (b ∷ ds)); size = suc (length ds) + pick m 1 0 }))
+    nothing (omega arith) (omega arith)
 
 whole-size : (b : ℕ) (s : Bytes) → 0 < sizeOr (wholeAt (b ∷ s))
 unfolding wholeAt digitsAt
@@ -74,10 +78,13 @@ unfolding sizeOr plainAt
 plain-size [] = omega arith
 plain-size (b ∷ s) = go (isLetter b) refl
   where
-    go : (x : Bool) → isLetter b ≡ x → 0 < sizeOr (pick x (readAs word (wordAt (b ∷ s))) (pick (isDigit b || eqb b 45) (readAs whole (wholeAt (b ∷ s))) (pick (eqb b 39) (readAs text (textAt s)) (pick (eqb b 34) (readAs quoted (quotedAt s)) nothing))))
+    go : (x : Bool) → isLetter b ≡ x → 0 < sizeOr
+        (pick x (readAs word (wordAt (b ∷ s))) (pick (isDigit b || eqb b 45) (readAs whole (wholeAt (b ∷ s)))
+        (pick (eqb b 39) (readAs text (textAt s)) (pick (eqb b 34) (readAs quoted (quotedAt s)) nothing))))
     go true e = size-as word (wordAt (b ∷ s)) (word-size b s e)
     go false e =
-        size-pick (isDigit b || eqb b 45) (readAs whole (wholeAt (b ∷ s))) (pick (eqb b 39) (readAs text (textAt s)) (pick (eqb b 34) (readAs quoted (quotedAt s)) nothing))
+        size-pick (isDigit b || eqb b 45) (readAs whole (wholeAt (b ∷ s)))
+        (pick (eqb b 39) (readAs text (textAt s)) (pick (eqb b 34) (readAs quoted (quotedAt s)) nothing))
         (size-as whole (wholeAt (b ∷ s)) (whole-size b s))
         (size-pick (eqb b 39) (readAs text (textAt s)) (pick (eqb b 34) (readAs quoted (quotedAt s)) nothing) (size-as text (textAt s) (text-size s))
         (size-pick (eqb b 34) (readAs quoted (quotedAt s)) nothing (size-as quoted (quotedAt s) (quoted-size s)) (omega arith)))
@@ -86,9 +93,12 @@ pub plain-kind : (t : Bytes) → kindOr false (plainAt t) ≡ false
 unfolding kindOr plainAt isList
 plain-kind [] = refl
 plain-kind (b ∷ s) =
-    kind-pick (isLetter b) (readAs word (wordAt (b ∷ s))) (pick (isDigit b || eqb b 45) (readAs whole (wholeAt (b ∷ s))) (pick (eqb b 39) (readAs text (textAt s)) (pick (eqb b 34) (readAs quoted (quotedAt s)) nothing)))
+    kind-pick (isLetter b) (readAs word (wordAt (b ∷ s)))
+    (pick (isDigit b || eqb b 45) (readAs whole (wholeAt (b ∷ s)))
+    (pick (eqb b 39) (readAs text (textAt s)) (pick (eqb b 34) (readAs quoted (quotedAt s)) nothing)))
     (kind-as word (wordAt (b ∷ s)) (λ a. refl))
-    (kind-pick (isDigit b || eqb b 45) (readAs whole (wholeAt (b ∷ s))) (pick (eqb b 39) (readAs text (textAt s)) (pick (eqb b 34) (readAs quoted (quotedAt s)) nothing))
+    (kind-pick (isDigit b || eqb b 45) (readAs whole (wholeAt (b ∷ s)))
+    (pick (eqb b 39) (readAs text (textAt s)) (pick (eqb b 34) (readAs quoted (quotedAt s)) nothing))
     (kind-as whole (wholeAt (b ∷ s)) (λ a. refl))
     (kind-pick (eqb b 39) (readAs text (textAt s)) (pick (eqb b 34) (readAs quoted (quotedAt s)) nothing) (kind-as text (textAt s) (λ a. refl))
     (kind-pick (eqb b 34) (readAs quoted (quotedAt s)) nothing (kind-as quoted (quotedAt s) (λ a. refl)) refl)))
@@ -106,7 +116,8 @@ list-kind (just g) = refl
 pub item-size : (d : ℕ) (t : Bytes) → 0 < sizeOr (itemAt d t)
 unfolding itemAt sizeOr
 item-size zero t = size-pick (opens t) nothing (plainAt t) (omega arith) (plain-size t)
-item-size (suc d) t = size-pick (opens t) (asList (listAt (itemAt d) true 0 (drop 1 t))) (plainAt t) (list-size (listAt (itemAt d) true 0 (drop 1 t))) (plain-size t)
+item-size (suc d) t = size-pick (opens t) (asList (listAt (itemAt d) true 0 (drop 1 t))) (plainAt t) (list-size (listAt (itemAt d) true 0 (drop 1 t)))
+    (plain-size t)
 
 pub item-kind : (d : ℕ) (t : Bytes) → kindOr (opens t) (itemAt d t) ≡ opens t
 unfolding itemAt kindOr
@@ -132,20 +143,25 @@ holds-pick P false a b h k = k
 
 -- what holds of each kind of item holds of every item
 module _ (P : Item → ℕ → Type 0) (w : (t : Bytes) → holds P (readAs word (wordAt t))) (n : (t : Bytes) → holds P (readAs whole (wholeAt t)))
-    (x : (t : Bytes) → holds P (readAs text (textAt t))) (y : (t : Bytes) → holds P (readAs quoted (quotedAt t))) (l : (o : Maybe (Got Items)) → holds P (asList o)) where
+    (x : (t : Bytes) → holds P (readAs text (textAt t))) (y : (t : Bytes) → holds P (readAs quoted (quotedAt t)))
+    (l : (o : Maybe (Got Items)) → holds P (asList o)) where
   plain-holds : (t : Bytes) → holds P (plainAt t)
   unfolding plainAt
   plain-holds [] = tt
   plain-holds (b ∷ s) =
-      holds-pick P (isLetter b) (readAs word (wordAt (b ∷ s))) (pick (isDigit b || eqb b 45) (readAs whole (wholeAt (b ∷ s))) (pick (eqb b 39) (readAs text (textAt s)) (pick (eqb b 34) (readAs quoted (quotedAt s)) nothing))) (w (b ∷ s))
-      (holds-pick P (isDigit b || eqb b 45) (readAs whole (wholeAt (b ∷ s))) (pick (eqb b 39) (readAs text (textAt s)) (pick (eqb b 34) (readAs quoted (quotedAt s)) nothing)) (n (b ∷ s))
+      holds-pick P (isLetter b) (readAs word (wordAt (b ∷ s)))
+      (pick (isDigit b || eqb b 45) (readAs whole (wholeAt (b ∷ s)))
+      (pick (eqb b 39) (readAs text (textAt s)) (pick (eqb b 34) (readAs quoted (quotedAt s)) nothing))) (w (b ∷ s))
+      (holds-pick P (isDigit b || eqb b 45) (readAs whole (wholeAt (b ∷ s)))
+      (pick (eqb b 39) (readAs text (textAt s)) (pick (eqb b 34) (readAs quoted (quotedAt s)) nothing)) (n (b ∷ s))
       (holds-pick P (eqb b 39) (readAs text (textAt s)) (pick (eqb b 34) (readAs quoted (quotedAt s)) nothing) (x s)
       (holds-pick P (eqb b 34) (readAs quoted (quotedAt s)) nothing (y s) tt)))
 
   item-holds : (d : ℕ) (t : Bytes) → holds P (itemAt d t)
   unfolding itemAt
   item-holds zero t = holds-pick P (opens t) nothing (plainAt t) tt (plain-holds t)
-  item-holds (suc d) t = holds-pick P (opens t) (asList (listAt (itemAt d) true 0 (drop 1 t))) (plainAt t) (l (listAt (itemAt d) true 0 (drop 1 t))) (plain-holds t)
+  item-holds (suc d) t = holds-pick P (opens t) (asList (listAt (itemAt d) true 0 (drop 1 t))) (plainAt t) (l (listAt (itemAt d) true 0 (drop 1 t)))
+      (plain-holds t)
 
 -- a word has at most 24 bytes, a text value at least its two apostrophes, a policy text its two quotes
 Sized : Item → ℕ → Type 0
@@ -164,7 +180,8 @@ word-sized : (t : Bytes) → holds Sized (readAs word (wordAt t))
 unfolding readAs wordAt Sized
 word-sized t = go (leb (length (run isWordByte t)) 24) refl
   where
-    go : (x : Bool) → leb (length (run isWordByte t)) 24 ≡ x → holds Sized (readAs word (pick x (just (record { got = run isWordByte t; size = length (run isWordByte t) })) nothing))
+    go : (x : Bool) → leb (length (run isWordByte t)) 24 ≡ x
+        → holds Sized (readAs word (pick x (just (record { got = run isWordByte t; size = length (run isWordByte t) })) nothing))
     go true e = leb-true (length (run isWordByte t)) 24 e
     go false e = tt
 

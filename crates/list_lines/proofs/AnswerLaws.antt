@@ -64,7 +64,8 @@ module _ (book rules query request : Bytes) where
   unfolding printed listRows listService listAnswer onAccept outcomeText
   list-refused res r e a = go found (sym (ap listAnswer e) ∙ a)
     where
-      go : (o : Outcome FoundRows) → _≡_ {A = Outcome ListAnswer} (refused (refusalOf r)) (onAccept o (λ f. accepted (record { rows = length (f .rows); width = f .width })))
+      go : (o : Outcome FoundRows) → _≡_ {A = Outcome ListAnswer} (refused (refusalOf r))
+          (onAccept o (λ f. accepted (record { rows = length (f .rows); width = f .width })))
           → refusalText (refusalOf r) ≡ outcomeText (namesOf (readBook book)) (onAccept o (λ f. accepted (f .rows)))
       go (accepted f) d = never (refusalOf r) _ d
       go (refused q) d = let same : refusalOf r ≡ q = cc in ap refusalText same
@@ -82,7 +83,8 @@ module _ (book rules query request : Bytes) where
       let rows-are : f .rows ≡ rowsFor (g .b) (g .r) (g .q) (g .x) = ap (λ (z : FoundRows). z .rows) (g .found-is) in
       let width-is : f .width ≡ length (g .q .returns) = ap (λ (z : FoundRows). z .width) (g .found-is) in
       let up = rows-ascend (g .b) (g .x .identities) (askedQuery (g .r) (g .x) (g .q)) (askedPolicies (g .r) (g .x)) in (
-        λ row m. rows-are-rows (g .b) (g .x .identities) (askedQuery (g .r) (g .x) (g .q)) (askedPolicies (g .r) (g .x)) row (subst (λ z. row ∈ z) rows-are m) .0 ∙ sym width-is,
+        λ row m. rows-are-rows (g .b) (g .x .identities) (askedQuery (g .r) (g .x) (g .q)) (askedPolicies (g .r) (g .x)) row
+            (subst (λ z. row ∈ z) rows-are m) .0 ∙ sym width-is,
         ascending-none-twice (f .rows) (subst Ascending (sym rows-are) up),
         rw width-is (g .fits),
       )
@@ -93,7 +95,8 @@ module _ (book rules query request : Bytes) where
   list-shown res n w e a after held b read = go found refl (sym (ap listAnswer e) ∙ a) held
     where
       go : (o : Outcome FoundRows) → found ≡ o
-          → _≡_ {A = Outcome ListAnswer} (accepted (record { rows = n; width = w })) (onAccept o (λ f. accepted (record { rows = length (f .rows); width = f .width })))
+          → _≡_ {A = Outcome ListAnswer} (accepted (record { rows = n; width = w }))
+          (onAccept o (λ f. accepted (record { rows = length (f .rows); width = f .width })))
           → after ≡ rowWords 16384 o → Shown b after n w
       go (accepted f) d a held =
           let (wide, once, fits) = given f d in
@@ -101,7 +104,9 @@ module _ (book rules query request : Bytes) where
           let n-is : n ≡ length (f .rows) = ap (λ (z : ListAnswer). z .rows) told in
           let w-is : w ≡ f .width = ap (λ (z : ListAnswer). z .width) told in
           let rows-are : rowsIn w n after ≡ f .rows =
-          ap₂ (λ (x y : ℕ). rowsIn x y after) w-is n-is ∙ ap (rowsIn (f .width) (length (f .rows))) (held ∙ ap (λ (l : List ℕ). l ++ ones (16384 - length (joined (λ row. row) (f .rows)))) (joined-flat (f .rows)))
+          ap₂ (λ (x y : ℕ). rowsIn x y after) w-is n-is
+          ∙ ap (rowsIn (f .width) (length (f .rows)))
+          (held ∙ ap (λ (l : List ℕ). l ++ ones (16384 - length (joined (λ row. row) (f .rows)))) (joined-flat (f .rows)))
           ∙ rowsIn-flat (f .width) (f .rows) _ wide in
           record {
             fits = rw (n-is, w-is) fits;

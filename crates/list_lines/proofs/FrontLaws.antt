@@ -32,7 +32,8 @@ stored-as-fits t o h =
     let same : length (sets o 0 u) ≡ length o = length-sets o 0 u in
     let none : drop (0 + length u) o ≡ [] = drop-of-length-le o {i = 0 + length u} (omega arith) in
     let no-more : drop (length t) o ≡ [] = drop-of-length-le o {i = length t} (omega arith) in
-    ap (sets o 0) (sym (take-append-drop (length o) t)) ∙ sets-then u (drop (length o) t) o 0 ∙ sets-past (drop (length o) t) (sets o 0 u) (0 + length u) (omega arith)
+    ap (sets o 0) (sym (take-append-drop (length o) t)) ∙ sets-then u (drop (length o) t) o 0
+    ∙ sets-past (drop (length o) t) (sets o 0 u) (0 + length u) (omega arith)
     ∙ sets-eq u o 0 (omega arith) ∙ ap (λ (l : Bytes). u ++ l) (none ∙ sym no-more)
 
 -- a text of a list's length that is put at the start is printed

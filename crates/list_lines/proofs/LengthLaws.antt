@@ -57,7 +57,8 @@ unfolding namesAt nameOf nameIn partOf
 names-short book words counts n =
     let all : nodeNames (bookAt book words counts) ≡ listed (nameOf book words layout.nodeNames) (counts .nodes) = node-names book words counts in
     either (below-or-not n (counts .nodes))
-    (λ l. rw (all, getD-listed (nameOf book words layout.nodeNames) (counts .nodes) n [] l, length-take) (omega (arith, mod-lt (getD words (layout.nodeNames + n) 0) {m = 32} (omega arith))))
+    (λ l. rw (all, getD-listed (nameOf book words layout.nodeNames) (counts .nodes) n [] l, length-take)
+    (omega (arith, mod-lt (getD words (layout.nodeNames + n) 0) {m = 32} (omega arith))))
     (λ l. rw (past-end (nodeNames (bookAt book words counts)) n (rw (all, length-listed (nameOf book words layout.nodeNames) (counts .nodes)) l)) (omega arith))
 
 module _ (names : List Bytes) (short : Short names) where
@@ -85,7 +86,8 @@ module _ (names : List Bytes) (short : Short names) where
   list-long width rows w = simp length-append (omega (arith, few-digits 5 (length rows), rows-long width rows w))
 
   -- a list whose rows fit the program's row words
-  pub list-short : (width count : ℕ) (words : List ℕ) → count * width ≤ length words → count ≤ 16384 → count * width ≤ 16384 → length (rowsText names (rowsIn width count words)) ≤ 622605
+  pub list-short : (width count : ℕ) (words : List ℕ) → count * width ≤ length words → count ≤ 16384 → count * width ≤ 16384
+      → length (rowsText names (rowsIn width count words)) ≤ 622605
   list-short width count words h few fits =
       let long : length (rowsText names (rowsIn width count words)) ≤ 13 + 6 * count + 32 * (count * width) =
       rw length-rowsIn at (list-long width (rowsIn width count words) (rowsIn-wide width count words h)) in

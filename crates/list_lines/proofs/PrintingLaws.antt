@@ -31,7 +31,9 @@ each-behind sep (t ∷ ts) = refl
 -- a row from its pieces
 pub row-text : (names : List Bytes) (row : List ℕ) → (bytesOf "(row" ++ namesText names row (length row)) ++ bytesOf ")\n" ≡ rowText names row
 unfolding namesText rowText nameIn
-row-text names row = ap (λ t. bytesOf "(row" ++ t ++ bytesOf ")\n") (ap (λ l. listing (bytesOf " ") (bytesOf " ") (map (nameIn names) l)) (take-all (length row) row (omega arith)) ∙ each-behind (bytesOf " ") (map (nameIn names) row))
+row-text names row = ap (λ t. bytesOf "(row" ++ t ++ bytesOf ")\n")
+    (ap (λ l. listing (bytesOf " ") (bytesOf " ") (map (nameIn names) l)) (take-all (length row) row (omega arith))
+    ∙ each-behind (bytesOf " ") (map (nameIn names) row))
 
 -- no name is put yet
 pub no-names : (names : List Bytes) (row : List ℕ) (o : Bytes) (a : ℕ) → Puts o a (namesText names row 0) o a
@@ -42,7 +44,8 @@ no-names names row o a = puts-none (bytesOf " ") (bytesOf " ") o a
 pub names-more : {o : Bytes} {a : ℕ} {o′ : Bytes} {a′ : ℕ} {o″ : Bytes} {a″ : ℕ} (names : List Bytes) (row : List ℕ) (i : ℕ) → i < length row
     → Puts o a (namesText names row i) o′ a′ → Puts o′ a′ (bytesOf " " ++ nameIn names (getD row i 0)) o″ a″ → Puts o a (namesText names row (i + 1)) o″ a″
 unfolding namesText
-names-more names row i h p q = puts-one-more (bytesOf " ") (bytesOf " ") (nameIn names) row 0 i h p (puts-same (ap (λ t. t ++ nameIn names (getD row i 0)) (sym (before-all (bytesOf " ") i))) q)
+names-more names row i h p q = puts-one-more (bytesOf " ") (bytesOf " ") (nameIn names) row 0 i h p
+    (puts-same (ap (λ t. t ++ nameIn names (getD row i 0)) (sym (before-all (bytesOf " ") i))) q)
 
 -- nothing stands past the end of a list
 pub past-end : (xs : List Bytes) (n : ℕ) → length xs ≤ n → getD xs n [] ≡ []
@@ -51,7 +54,8 @@ past-end (x ∷ xs) zero h = absurd (omega arith)
 past-end (x ∷ xs) (suc n) h = past-end xs n (omega arith)
 
 -- a number that is no node has no name
-pub no-name : (book : Bytes) (words : List ℕ) (counts : BookCounts) (n : ℕ) → counts .nodes ≤ n → bytesOf " " ≡ bytesOf " " ++ nameIn (nodeNames (bookAt book words counts)) n
+pub no-name : (book : Bytes) (words : List ℕ) (counts : BookCounts) (n : ℕ) → counts .nodes ≤ n
+    → bytesOf " " ≡ bytesOf " " ++ nameIn (nodeNames (bookAt book words counts)) n
 unfolding nameIn namesAt
 no-name book words counts n h =
     let names : nodeNames (bookAt book words counts) ≡ listed (nameOf book words layout.nodeNames) (counts .nodes) = node-names book words counts in

@@ -58,4 +58,5 @@ next-row i width from e = rw (add-one, suc-mul) (ap (λ (n : ℕ). n + width) e)
 pub header-then-rows : (names : List Bytes) (width count : ℕ) (words : List ℕ)
     → headerText count ++ joined (rowText names) (rowsIn width count words) ≡ rowsText names (rowsIn width count words)
 header-then-rows names width count words =
-    ap (λ (n : ℕ). headerText n ++ joined (rowText names) (rowsIn width count words)) (sym (length-rowsIn width count words)) ∙ whole-list names (rowsIn width count words)
+    ap (λ (n : ℕ). headerText n ++ joined (rowText names) (rowsIn width count words)) (sym (length-rowsIn width count words))
+    ∙ whole-list names (rowsIn width count words)

@@ -33,7 +33,8 @@ pub fn put_list(
     at: usize,
 ) -> usize
     requires { ⌜ Fits (now book) (now words) counts × (count * width ≤ length (now rows)) ⌝ }
-    ensures { λ r. ⌜ Puts (now (out .entry)) at (rowsText (nodeNames (bookAt (now (book .entry)) (now (words .entry)) counts)) (rowsIn width count (now (rows .entry)))) (now (out .exit)) r ⌝ }
+    ensures { λ r. ⌜ Puts (now (out .entry)) at
+        (rowsText (nodeNames (bookAt (now (book .entry)) (now (words .entry)) counts)) (rowsIn width count (now (rows .entry)))) (now (out .exit)) r ⌝ }
 {
     let at = put_header(count, out, at);
     put_rows(book, words, counts, rows, count, width, out, at)
@@ -51,7 +52,8 @@ fn put_rows(
     at: usize,
 ) -> usize
     requires { ⌜ Fits (now book) (now words) counts × (count * width ≤ length (now rows)) ⌝ }
-    ensures { λ r. ⌜ Puts (now (out .entry)) at (joined (rowText (nodeNames (bookAt (now (book .entry)) (now (words .entry)) counts))) (rowsIn width count (now (rows .entry)))) (now (out .exit)) r ⌝ }
+    ensures { λ r. ⌜ Puts (now (out .entry)) at
+        (joined (rowText (nodeNames (bookAt (now (book .entry)) (now (words .entry)) counts))) (rowsIn width count (now (rows .entry)))) (now (out .exit)) r ⌝ }
 {
     let mut next = at;
     let mut from = 0;
@@ -97,7 +99,8 @@ pub fn put_row(
     at: usize,
 ) -> usize
     requires { ⌜ Fits (now book) (now words) counts ⌝ }
-    ensures { λ r. ⌜ Puts (now (out .entry)) at (rowText (nodeNames (bookAt (now (book .entry)) (now (words .entry)) counts)) (now (row .entry))) (now (out .exit)) r ⌝ }
+    ensures { λ r. ⌜ Puts (now (out .entry)) at (rowText (nodeNames (bookAt (now (book .entry)) (now (words .entry)) counts)) (now (row .entry)))
+        (now (out .exit)) r ⌝ }
 {
     let at = bytes::put_bytes(b"(row", out, at);
     let at = put_names(book, words, counts, row, out, at);
@@ -114,7 +117,8 @@ fn put_names(
     at: usize,
 ) -> usize
     requires { ⌜ Fits (now book) (now words) counts ⌝ }
-    ensures { λ r. ⌜ Puts (now (out .entry)) at (namesText (nodeNames (bookAt (now (book .entry)) (now (words .entry)) counts)) (now (row .entry)) (length (now (row .entry)))) (now (out .exit)) r ⌝ }
+    ensures { λ r. ⌜ Puts (now (out .entry)) at
+        (namesText (nodeNames (bookAt (now (book .entry)) (now (words .entry)) counts)) (now (row .entry)) (length (now (row .entry)))) (now (out .exit)) r ⌝ }
 {
     let mut next = at;
     let mut i = 0;
@@ -135,7 +139,8 @@ fn put_node(
     at: usize,
 ) -> usize
     requires { ⌜ Fits (now book) (now words) counts ⌝ }
-    ensures { λ r. ⌜ Puts (now (out .entry)) at (bytesOf " " ++ nameIn (nodeNames (bookAt (now (book .entry)) (now (words .entry)) counts)) node) (now (out .exit)) r ⌝ }
+    ensures { λ r. ⌜ Puts (now (out .entry)) at (bytesOf " " ++ nameIn (nodeNames (bookAt (now (book .entry)) (now (words .entry)) counts)) node)
+        (now (out .exit)) r ⌝ }
 {
     let at = bytes::put_bytes(b" ", out, at);
     if node < counts.nodes {

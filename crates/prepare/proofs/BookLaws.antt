@@ -53,7 +53,8 @@ module _ (work : ℕ) (book rules query request : Bytes) (words table : List ℕ
     book-fits = all-ready bookAlone work book rules query request itself words table r given e .rules-ready .fits
 
     pub book-there : withWork work (readBook book) ≡ accepted (bookAt book words (r .book))
-    book-there = itself-is ∙ ready-through bookAlone work book rules query request itself words table r given (all-ready bookAlone work book rules query request itself words table r given e)
+    book-there = itself-is ∙ ready-through bookAlone work book rules query request itself words table r given
+        (all-ready bookAlone work book rules query request itself words table r given e)
 
     pub book-counted : bookAnswer (answer.Counts (r .book .nodes) (r .book .relationships) (r .book .entries)) ≡ bookService work book .answer
     unfolding bookAnswer bookAt

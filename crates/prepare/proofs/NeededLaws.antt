@@ -27,14 +27,16 @@ use Rattle.prepare.specs.Texts.{rulesIf, queryIf}
 use Rattle.prepare.specs.Ready.{noneBeside, RulesGiven, QueryGiven, RequestGiven}
 
 module _ (needed : Bool) (b : Book) (text : Bytes) where
-  pub rules-needed : needed ≡ true → (table : List ℕ) (r : RulesLoad) → Loaded b text table r (readRules b text) → RulesGiven text table (rulesIf needed b text) r
+  pub rules-needed : needed ≡ true → (table : List ℕ) (r : RulesLoad) → Loaded b text table r (readRules b text)
+      → RulesGiven text table (rulesIf needed b text) r
   rules-needed e table r h = subst (λ (t : Bool). RulesGiven text table (rulesIf t b text) r) (sym e) (go r h)
     where
       go : (r : RulesLoad) → Loaded b text table r (readRules b text) → RulesGiven text table (readRules b text) r
       go (load.Loaded c) (is, fits, short) = (is, fits)
       go (load.Refused x) h = h
 
-  pub rules-not-needed : needed ≡ false → (table : List ℕ) → wovenWords ≤ length table → RulesGiven text table (rulesIf needed b text) (load.Loaded (record { categories = 0; policies = 0 }))
+  pub rules-not-needed : needed ≡ false → (table : List ℕ) → wovenWords ≤ length table
+      → RulesGiven text table (rulesIf needed b text) (load.Loaded (record { categories = 0; policies = 0 }))
   rules-not-needed e table room =
       subst (λ (t : Bool). RulesGiven text table (rulesIf t b text) (load.Loaded (record { categories = 0; policies = 0 }))) (sym e)
       (ap accepted (sym (empty-is text table _ refl refl)), empty-fits text table _ refl refl room)
@@ -50,7 +52,8 @@ module _ (needed : Bool) (b : Book) (text : Bytes) where
   pub query-not-needed : needed ≡ false → QueryGiven text (queryIf needed b text) Accepted
   query-not-needed e = rw e
 
-module _ (needed : Bool) (book : Bytes) (words : List ℕ) (k : BookCounts) (rules : Bytes) (table : List ℕ) (m : RulesCounts) (text : Bytes) (r : RequestRead) where
+module _ (needed : Bool) (book : Bytes) (words : List ℕ) (k : BookCounts) (rules : Bytes) (table : List ℕ) (m : RulesCounts) (text : Bytes)
+    (r : RequestRead) where
   pub request-needed : needed ≡ true → RequestReads book words k rules table m text r → RequestGiven needed book words k rules table m text r
   request-needed e h = subst (λ (t : Bool). RequestGiven t book words k rules table m text r) (sym e) h
 

@@ -79,22 +79,30 @@ module _ (n : Needs) (book rules query request : Bytes) (words table : List ℕ)
           needing t = record { rules = n .rules; query = n .query; request = t }
 
           Goal : Bool → RequestRead → Verdict → Type 0
-          Goal t rd v = ByVerdict (needing t) book rules query request words table (afterRules (needing t) query request b theRules accepted) (record { book = k; rules = m; request = rd }) v
+          Goal t rd v = ByVerdict (needing t) book rules query request words table (afterRules (needing t) query request b theRules accepted)
+              (record { book = k; rules = m; request = rd }) v
 
-          by : (v : Verdict) → rd .verdict ≡ v → RequestBy (k .nodes) rules table (m .categories) request (requestIf true b theRules request) rd v → Goal true rd v
+          by : (v : Verdict) → rd .verdict ≡ v → RequestBy (k .nodes) rules table (m .categories) request (requestIf true b theRules request) rd v
+              → Goal true rd v
           by Accepted d a = record { rules-ready = ready; query-read = asked; request-ready = a; is = rw (asked, a .is) }
-          by (Refused x) d a = record { is = rw (asked, a .is); none = λ i. record { verdict = d i; category = a .category i; identities = a .identities i; count = a .count i } }
+          by (Refused x) d a = record {
+            is = rw (asked, a .is);
+            none = λ i.
+                record { verdict = d i; category = a .category i; identities = a .identities i; count = a .count i };
+          }
 
           go : (t : Bool) → RequestGiven t book words k rules table m request rd → Goal t rd (rd .verdict)
           go true h = by (rd .verdict) refl h
-          go false h = subst (λ (z : RequestRead). Goal false z (z .verdict)) (sym h) (record { rules-ready = ready; query-read = asked; request-ready = tt; is = rw asked })
+          go false h = subst (λ (z : RequestRead). Goal false z (z .verdict)) (sym h)
+              (record { rules-ready = ready; query-read = asked; request-ready = tt; is = rw asked })
 
     -- the rules
     module _ (l : RulesLoad) (given : RulesGiven rules table (rulesIf (n .rules) b rules) l) where
       by-load : (z : RulesLoad) → l ≡ z → RulesGiven rules table (rulesIf (n .rules) b rules) z
       by-load z e = subst (RulesGiven rules table (rulesIf (n .rules) b rules)) e given
 
-      pub rules-ready : Fits book words k → readBook book ≡ accepted b → (m : RulesCounts) → l ≡ rules-load.Loaded m → RulesReady (n .rules) book words k rules table m
+      pub rules-ready : Fits book words k → readBook book ≡ accepted b → (m : RulesCounts) → l ≡ rules-load.Loaded m
+          → RulesReady (n .rules) book words k rules table m
       rules-ready fits read m e =
           let h = by-load (rules-load.Loaded m) e in record { fits = fits; book-read = read; rules-fit = h .1; rules-read = h .0 }
 

@@ -56,7 +56,8 @@ module _ {A : Type 0} (n : Needs) (work : ℕ) (book rules query request : Bytes
   of-texts = go (ltb work 16384) (readBook book)
     where
       go : (t : Bool) (o : Outcome Book)
-          → onAccept (pick t (refusal 15 0 0) (onAccept o (λ b. afterBook n rules query request b accepted))) f ≡ pick t (refusal 15 0 0) (onAccept o (λ b. afterBook n rules query request b f))
+          → onAccept (pick t (refusal 15 0 0) (onAccept o (λ b. afterBook n rules query request b accepted))) f
+          ≡ pick t (refusal 15 0 0) (onAccept o (λ b. afterBook n rules query request b f))
       go true o = refl
       go false (accepted b) = of-book b
       go false (refused x) = refl

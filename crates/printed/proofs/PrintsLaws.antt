@@ -50,9 +50,11 @@ module _ (book rules query request : Bytes) {o o′ : Bytes} {n : ℕ} where
   list-refusal-printed r q e a p = refusal-printed (refusalOf q) (list-refused book rules query request r q e a) p
 
   -- the list has rows
-  pub rows-printed : (words : List ℕ) (c : BookCounts) (after : List ℕ) (count width : ℕ) → length after ≡ 16384 → Shown book rules query request (bookAt book words c) after count width
+  pub rows-printed : (words : List ℕ) (c : BookCounts) (after : List ℕ) (count width : ℕ) → length after ≡ 16384
+      → Shown book rules query request (bookAt book words c) after count width
       → Puts o 0 (rowsText (nodeNames (bookAt book words c)) (rowsIn width count after)) o′ n → Prints (printed book rules query request) o o′ n
   rows-printed words c after count width l s p =
       let names = nodeNames (bookAt book words c) in
       let inside : count * width ≤ length after = omega (arith, s .fits) in
-      prints (subst (λ (x : Bytes). length x ≤ 622605) (s .text) (list-short names (names-short book words c) width count after inside (s .few) (s .fits))) (puts-same (s .text) p)
+      prints (subst (λ (x : Bytes). length x ≤ 622605) (s .text) (list-short names (names-short book words c) width count after inside (s .few) (s .fits)))
+      (puts-same (s .text) p)

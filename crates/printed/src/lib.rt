@@ -19,7 +19,8 @@ pub const LIST_BYTES: usize = 622605;
 
 // Puts what is printed for four texts in front of a buffer, as far as the buffer reaches, and answers how long it is.
 pub fn list_text(book: &[u8], rules: &[u8], query: &[u8], request: &[u8], out: &mut [u8]) -> usize
-    ensures { λ r. ⌜ Prints (printed (now (book .entry)) (now (rules .entry)) (now (query .entry)) (now (request .entry))) (now (out .entry)) (now (out .exit)) r ⌝ }
+    ensures { λ r. ⌜ Prints (printed (now (book .entry)) (now (rules .entry)) (now (query .entry)) (now (request .entry))) (now (out .entry))
+        (now (out .exit)) r ⌝ }
 {
     let mut words = [0u32; WORK_WORDS];
     match book::load::load(book, &mut words) {
@@ -43,7 +44,8 @@ fn from_book(
     out: &mut [u8],
 ) -> usize
     requires { ⌜ Fits (now book) (now words) counts × (readBook (now book) ≡ accepted (bookAt (now book) (now words) counts)) ⌝ }
-    ensures { λ r. ⌜ Prints (printed (now (book .entry)) (now (rules .entry)) (now (query .entry)) (now (request .entry))) (now (out .entry)) (now (out .exit)) r ⌝ }
+    ensures { λ r. ⌜ Prints (printed (now (book .entry)) (now (rules .entry)) (now (query .entry)) (now (request .entry))) (now (out .entry))
+        (now (out .exit)) r ⌝ }
 {
     let mut rows = [0u32; ROW_WORDS];
     let mut work = [0u32; WORK_WORDS];

@@ -56,7 +56,8 @@ map-end f [] x = refl
 map-end f (y ∷ xs) x = ap (λ (l : List Bytes). f y ∷ l) (map-end f xs x)
 
 -- A listing with one text more.
-pub listing-end : (first next : Bytes) (ts : List Bytes) (t : Bytes) → listing first next (ts ++ (t ∷ [])) ≡ listing first next ts ++ (before first next (length ts) ++ t)
+pub listing-end : (first next : Bytes) (ts : List Bytes) (t : Bytes)
+    → listing first next (ts ++ (t ∷ [])) ≡ listing first next ts ++ (before first next (length ts) ++ t)
 unfolding listing eachBehind
 listing-end first next [] t = rw (before-first first next 0 refl) (append-nil (first ++ t))
 listing-end first next (u ∷ ts) t =
@@ -71,14 +72,16 @@ listing-more first next f xs d i h =
     ∙ ap (λ l. listing first next (map f l)) (take-suc xs i d h)
     ∙ ap (listing first next) (map-end f (take i xs) (getD xs i d))
     ∙ listing-end first next (map f (take i xs)) (f (getD xs i d))
-    ∙ ap (λ (n : ℕ). listing first next (map f (take i xs)) ++ (before first next n ++ f (getD xs i d))) (length-map (take i xs) f ∙ length-take-le i xs (omega arith))
+    ∙ ap (λ (n : ℕ). listing first next (map f (take i xs)) ++ (before first next n ++ f (getD xs i d)))
+    (length-map (take i xs) f ∙ length-take-le i xs (omega arith))
 
 -- Putting the first elements' texts, and one element's more.
 pub puts-none : (first next : Bytes) (o : Bytes) (a : ℕ) → Puts o a (listing first next []) o a
 unfolding listing
 puts-none first next o a = puts-nothing o a
 
-pub puts-one-more : {A : Type 0} {o : Bytes} {a : ℕ} {o′ : Bytes} {a′ : ℕ} {o″ : Bytes} {a″ : ℕ} (first next : Bytes) (f : A → Bytes) (xs : List A) (d : A) (i : ℕ) → i < length xs
+pub puts-one-more : {A : Type 0} {o : Bytes} {a : ℕ} {o′ : Bytes} {a′ : ℕ} {o″ : Bytes} {a″ : ℕ} (first next : Bytes) (f : A → Bytes) (xs : List A) (d : A)
+    (i : ℕ) → i < length xs
     → Puts o a (listing first next (map f (take i xs))) o′ a′ → Puts o′ a′ (before first next i ++ f (getD xs i d)) o″ a″
     → Puts o a (listing first next (map f (take (i + 1) xs))) o″ a″
 puts-one-more first next f xs d i h p q = puts-same (sym (listing-more first next f xs d i h)) (puts-then p q)

@@ -44,7 +44,8 @@ module _ {A : Type 0} where
   pub taken-listed : {B : Type 0} (f : A → B) (l : List A) (d : A) (n : ℕ) → n ≤ length l → map f (take n l) ≡ listed (λ i. f (getD l i d)) n
   unfolding listed
   taken-listed f l d zero h = refl
-  taken-listed f l d (suc n) h = rw (take-suc l n d) (map-end f (take n l) (getD l n d) ∙ ap (λ z. z ++ (f (getD l n d) ∷ [])) (taken-listed f l d n (omega arith)))
+  taken-listed f l d (suc n) h = rw (take-suc l n d)
+      (map-end f (take n l) (getD l n d) ∙ ap (λ z. z ++ (f (getD l n d) ∷ [])) (taken-listed f l d n (omega arith)))
 
   pub length-taken : {B : Type 0} (f : A → B) (l : List A) (n : ℕ) → n ≤ length l → length (map f (take n l)) ≡ n
   length-taken f l n h = length-map (take n l) f ∙ length-take-le n l h
@@ -53,7 +54,8 @@ module _ {A : Type 0} where
   pub taken-more : {B : Type 0} (f : A → B) (l : List A) (n : ℕ) (x : A) → n < length l → map f (take (n + 1) (set l n x)) ≡ map f (take n l) ++ (f x ∷ [])
   taken-more f l n x h = rw (add-one, take-suc-set l n x) (map-end f (take n l) x)
 
-  pub each-more : (P : A → Type 0) (d : A) (l : List A) (n : ℕ) (x : A) → n < length l → ((i : ℕ) → i < n → P (getD l i d)) → P x → (i : ℕ) → i < n + 1 → P (getD (set l n x) i d)
+  pub each-more : (P : A → Type 0) (d : A) (l : List A) (n : ℕ) (x : A) → n < length l → ((i : ℕ) → i < n → P (getD l i d)) → P x → (i : ℕ) → i < n + 1
+      → P (getD (set l n x) i d)
   each-more P d l n x h each px i less = either (equal-or-not i n)
       (λ e. subst P (sym (ap (λ k. getD (set l n x) k d) e ∙ getD-set-same l n x d h)) px)
       (λ e. subst P (sym (getD-set-other l n i x d (e .1))) (each i (omega arith)))
@@ -66,14 +68,16 @@ module _ {A : Type 0} where
 
   pub blank-padded : (n : ℕ) (d : A) (l : List A) (count : ℕ) → count ≤ length l → Blank n d count l → l ≡ padded n d (take count l)
   unfolding padded
-  blank-padded n d l count h e = sym (take-append-drop count l) ∙ ap (λ r. take count l ++ r) e ∙ ap (λ k. take count l ++ replicate (n - k) d) (sym (length-take-le count l h))
+  blank-padded n d l count h e = sym (take-append-drop count l) ∙ ap (λ r. take count l ++ r) e
+      ∙ ap (λ k. take count l ++ replicate (n - k) d) (sym (length-take-le count l h))
 
 -- what is found, and more of the rest, is no more than all
 pub room-for : {A : Type 0} (found more later : List A) {every : List A} → (found ++ more) ++ later ≡ every → length found + length more ≤ length every
 room-for found more later e = omega (arith, ap length e, length-append (found ++ more) later, length-append found more)
 
 -- a piece that is read leaves fewer pieces to read
-pub fewer-pieces : {s : Bytes} {place : Place} {r : PieceRead} → StepAt s place r → {x : Step} → r ≡ read.Found x → length (foundAt s (x .next)) < length (foundAt s place)
+pub fewer-pieces : {s : Bytes} {place : Place} {r : PieceRead} → StepAt s place r → {x : Step} → r ≡ read.Found x
+    → length (foundAt s (x .next)) < length (foundAt s place)
 fewer-pieces {s} {place} {r} h {x} e = let z = ap length (step-list s place r h x e) in omega arith
 
 -- a test that fails nowhere holds of each element
@@ -88,7 +92,8 @@ neither false false true h = (refl, h)
 
 -- where all that a text names is declared, so are its labels and its returned names
 module _ (b : Book) (ps : List Piece) (ordered : Ordered atStart ps) (h : someWhere (undeclaredAt b ps) [] ps ≡ false) where
-  declared-parts : (any (λ (e : ChainEdge). not (mem (e .label) (b .labels))) (linksFrom [] ps) ≡ false) × (any (λ v. not (mem v (firsts [] (verticesIn ps)))) (returnsIn ps) ≡ false)
+  declared-parts : (any (λ (e : ChainEdge). not (mem (e .label) (b .labels))) (linksFrom [] ps) ≡ false)
+      × (any (λ v. not (mem v (firsts [] (verticesIn ps)))) (returnsIn ps) ≡ false)
   unfolding hasUndeclared
   declared-parts = neither _ _ _ (rw (tree-names ps ordered .edges-same, returns-same ps, vertex-names ps ordered) at (undeclared-found ps ordered b ∙ h))
 

@@ -167,7 +167,8 @@ value-passed s (Text start length) ps = refl
 value-passed s (Truth t) ps = refl
 
 -- one clause told behind others
-all-told-more : (b : Book) (cs : List Clause) (rs : List ClauseData) (c : Clause) (r : ClauseData) → AllTold b cs rs → ToldAs b c (r .condition) → AllTold b (cs ++ (c ∷ [])) (rs ++ (r ∷ []))
+all-told-more : (b : Book) (cs : List Clause) (rs : List ClauseData) (c : Clause) (r : ClauseData) → AllTold b cs rs → ToldAs b c (r .condition)
+    → AllTold b (cs ++ (c ∷ [])) (rs ++ (r ∷ []))
 unfolding AllTold
 all-told-more b [] [] c r h k = (k, tt)
 all-told-more b [] (x ∷ rs) c r h k = absurd h
@@ -175,7 +176,8 @@ all-told-more b (x ∷ cs) [] c r h k = absurd h
 all-told-more b (x ∷ cs) (y ∷ rs) c r h k = (h .0, all-told-more b cs rs c r (h .1) k)
 
 -- clauses that are told are the model's clauses as data, their text values at the same parts
-pub clauses-data : (b : Book) (cs : List Clause) (rs : List ClauseData) → AllTold b cs rs → clausesData b (joined (λ c. conditionParts (c .condition)) rs) cs ≡ rs
+pub clauses-data : (b : Book) (cs : List Clause) (rs : List ClauseData) → AllTold b cs rs
+    → clausesData b (joined (λ c. conditionParts (c .condition)) rs) cs ≡ rs
 unfolding AllTold clausesData joined
 clauses-data b [] [] h = refl
 clauses-data b [] (r ∷ rs) h = absurd h
@@ -183,11 +185,13 @@ clauses-data b (c ∷ cs) [] h = absurd h
 clauses-data b (c ∷ cs) (r ∷ rs) h =
     let later = joined (λ c. conditionParts (c .condition)) rs in
     let told = h .0 later in
-    ap₂ (λ (x : ConditionData) (xs : List ClauseData). record { condition = x } ∷ xs) (told .0) (ap (λ ps. clausesData b ps cs) (told .1) ∙ clauses-data b cs rs (h .1))
+    ap₂ (λ (x : ConditionData) (xs : List ClauseData). record { condition = x } ∷ xs) (told .0)
+    (ap (λ ps. clausesData b ps cs) (told .1) ∙ clauses-data b cs rs (h .1))
 
 -- a condition of what is there, by its numbers
 module _ (b : Book) (m : Limits) (s : Bytes) (vs es : List Bytes) (vertices : length vs ≡ m .vertices) where
-  pub excluded-read : (v u : Bytes) → known b vs es (differ v u) ≡ true → ConditionRead b m s (clauseOf vs es (differ v u)) [] (Excluded (place v vs) (place u vs))
+  pub excluded-read : (v u : Bytes) → known b vs es (differ v u) ≡ true
+      → ConditionRead b m s (clauseOf vs es (differ v u)) [] (Excluded (place v vs) (place u vs))
   unfolding known clauseIn clauseOf clauseData behindClause conditionParts
   excluded-read v u h =
       let p = place-of v vs (both-left (mem v vs) (mem u vs) h) in
@@ -206,21 +210,25 @@ module _ (b : Book) (m : Limits) (s : Bytes) (vs es : List Bytes) (vertices : le
 
     -- a requirement whose attribute is one of these names
     required : (names : List Bytes) (qs : List Part)
-        → record { attribute = place a names; relation = relationData (relationOf (d .relation)); value = valueData (ps ++ qs) (valueOf s (d .value)) } ≡ requirementIn names s d
+        → record { attribute = place a names; relation = relationData (relationOf (d .relation)); value = valueData (ps ++ qs) (valueOf s (d .value)) }
+        ≡ requirementIn names s d
     required names qs = λ i. record { attribute = place a names; relation = relation-told (d .relation) i; value = value-told s (d .value) qs i }
 
-    pub demand-read : known b vs es (demandOf s d) ≡ true → length es ≡ m .edges → length (attrNames (b .vattrs)) ≡ m .vattrs → length (attrNames (b .eattrs)) ≡ m .eattrs
+    pub demand-read : known b vs es (demandOf s d) ≡ true → length es ≡ m .edges → length (attrNames (b .vattrs)) ≡ m .vattrs
+        → length (attrNames (b .eattrs)) ≡ m .eattrs
         → ConditionRead b m s (clauseOf vs es (demandOf s d)) ps (demandIn b s vs es d)
     unfolding known clauseOf demandIn clauseIn clauseData behindClause conditionParts
     demand-read h edges vattrs eattrs = go (mem x vs) refl h
       where
         clause : Bool → Clause
-        clause t = pick t (vertexHas (place x vs) a (relationOf (d .relation)) (valueOf s (d .value))) (edgeHas (place x es) a (relationOf (d .relation)) (valueOf s (d .value)))
+        clause t = pick t (vertexHas (place x vs) a (relationOf (d .relation)) (valueOf s (d .value)))
+            (edgeHas (place x es) a (relationOf (d .relation)) (valueOf s (d .value)))
 
         made : Bool → ConditionData
         made t = pick t (OfVertex (place x vs) (requirementIn (attrNames (b .vattrs)) s d)) (OfEdge (place x es) (requirementIn (attrNames (b .eattrs)) s d))
 
-        go : (t : Bool) → mem x vs ≡ t → pick t (mem a (attrNames (b .vattrs))) (mem x es && mem a (attrNames (b .eattrs))) ≡ true → ConditionRead b m s (clause t) ps (made t)
+        go : (t : Bool) → mem x vs ≡ t → pick t (mem a (attrNames (b .vattrs))) (mem x es && mem a (attrNames (b .eattrs))) ≡ true
+            → ConditionRead b m s (clause t) ps (made t)
         go true e h =
             let v = place-of x vs e in
             let n = place-of a (attrNames (b .vattrs)) h in
@@ -241,7 +249,8 @@ module _ (b : Book) (m : Limits) (s : Bytes) (vs es : List Bytes) (vertices : le
             }
 
 -- the same clause by numbers is the same condition as data
-pub same-demand : (b : Book) (s : Bytes) (vs es ds fs : List Bytes) (d : Demand) → clauseOf ds fs (demandOf s d) ≡ clauseOf vs es (demandOf s d) → demandIn b s ds fs d ≡ demandIn b s vs es d
+pub same-demand : (b : Book) (s : Bytes) (vs es ds fs : List Bytes) (d : Demand) → clauseOf ds fs (demandOf s d) ≡ clauseOf vs es (demandOf s d)
+    → demandIn b s ds fs d ≡ demandIn b s vs es d
 unfolding clauseOf demandIn
 same-demand b s vs es ds fs d = go (mem x ds) (mem x vs)
   where
@@ -249,18 +258,21 @@ same-demand b s vs es ds fs d = go (mem x ds) (mem x vs)
     x = nameAt s (d .subject)
 
     clause : Bool → ℕ → ℕ → Clause
-    clause t i j = pick t (vertexHas i (nameAt s (d .attribute)) (relationOf (d .relation)) (valueOf s (d .value))) (edgeHas j (nameAt s (d .attribute)) (relationOf (d .relation)) (valueOf s (d .value)))
+    clause t i j = pick t (vertexHas i (nameAt s (d .attribute)) (relationOf (d .relation)) (valueOf s (d .value)))
+        (edgeHas j (nameAt s (d .attribute)) (relationOf (d .relation)) (valueOf s (d .value)))
 
     made : Bool → ℕ → ℕ → ConditionData
     made t i j = pick t (OfVertex i (requirementIn (attrNames (b .vattrs)) s d)) (OfEdge j (requirementIn (attrNames (b .eattrs)) s d))
 
-    go : (t u : Bool) → clause t (place x ds) (place x fs) ≡ clause u (place x vs) (place x es) → made t (place x ds) (place x fs) ≡ made u (place x vs) (place x es)
+    go : (t u : Bool) → clause t (place x ds) (place x fs) ≡ clause u (place x vs) (place x es)
+        → made t (place x ds) (place x fs) ≡ made u (place x vs) (place x es)
     go true true e = cc
     go true false e = cc
     go false true e = cc
     go false false e = cc
 
-pub same-exclusion : (vs es ds fs : List Bytes) (v u : Bytes) → clauseOf ds fs (differ v u) ≡ clauseOf vs es (differ v u) → Excluded (place v ds) (place u ds) ≡ Excluded (place v vs) (place u vs)
+pub same-exclusion : (vs es ds fs : List Bytes) (v u : Bytes) → clauseOf ds fs (differ v u) ≡ clauseOf vs es (differ v u)
+    → Excluded (place v ds) (place u ds) ≡ Excluded (place v vs) (place u vs)
 unfolding clauseOf
 same-exclusion vs es ds fs v u e = cc
 
@@ -277,7 +289,8 @@ module _ (b : Book) (m : Limits) (s : Bytes) (old : Clauses) (h : ClausesRead b 
       sized = length-set (old .clauses) (old .count) new ∙ h .sized;
       is = taken-more say (old .clauses) (old .count) new inside ∙ ap (λ z. clausesOf b s old ++ (z ∷ [])) (q .is);
       each = each-more (λ (c : ClauseData). ConditionFits m (c .condition)) noClause (old .clauses) (old .count) new inside (h .each) (q .fits);
-      told = rw (add-one, take-suc-set (old .clauses) (old .count) new inside) (all-told-more b (clausesOf b s old) (take (old .count) (old .clauses)) x new (h .told) (q .told));
+      told = rw (add-one, take-suc-set (old .clauses) (old .count) new inside)
+          (all-told-more b (clausesOf b s old) (take (old .count) (old .clauses)) x new (h .told) (q .told));
       blank = blank-more 32 noClause (old .clauses) (old .count) new room (h .blank);
     };
     parts = rw (add-one, take-suc-set (old .clauses) (old .count) new inside)
@@ -318,7 +331,9 @@ module _ (b : Book) (m : Limits) (s : Bytes) (vs es : List Bytes) (from : Place)
   module _ (h : ClausesSoFar b m s vs es from r) (p : PieceRead) (step : StepAt s from p) where
     pub clauses-all : (t : Bool) → p ≡ read.None t → ClausesRead b m s (map (clauseOf vs es) (conditionsIn (textPieces s))) r
     unfolding joined
-    clauses-all t e = subst (λ z. ClausesRead b m s z r) (sym (append-nil (clausesOf b s r)) ∙ ap (λ l. clausesOf b s r ++ map (clauseOf vs es) (conditionsIn l)) (sym (step-none s from p step t e)) ∙ h .rest) (h .read)
+    clauses-all t e = subst (λ z. ClausesRead b m s z r)
+        (sym (append-nil (clausesOf b s r)) ∙ ap (λ l. clausesOf b s r ++ map (clauseOf vs es) (conditionsIn l)) (sym (step-none s from p step t e))
+        ∙ h .rest) (h .read)
 
     pub value-parts-all : (t : Bool) → p ≡ read.None t → walkAt s textStart .whole ≡ true → valuePartsOf r ≡ valueParts s
     unfolding valueParts
@@ -335,7 +350,8 @@ module _ (b : Book) (m : Limits) (s : Bytes) (vs es : List Bytes) (from : Place)
       unfolding joined
       ahead =
           append-assoc (clausesOf b s r) (map (clauseOf vs es) here) (map (clauseOf vs es) later)
-          ∙ ap (λ z. clausesOf b s r ++ z) (sym (ap (λ l. map (clauseOf vs es) (conditionsIn l)) (step-list s from p step x e) ∙ map-append (clauseOf vs es) here later)) ∙ h .rest
+          ∙ ap (λ z. clausesOf b s r ++ z) (sym (ap (λ l. map (clauseOf vs es) (conditionsIn l)) (step-list s from p step x e)
+          ∙ map-append (clauseOf vs es) here later)) ∙ h .rest
 
       pub clauses-room : length (conditionsIn (textPieces s)) ≤ 32 → r .count + length here ≤ 32
       clauses-room l = omega (
@@ -346,7 +362,8 @@ module _ (b : Book) (m : Limits) (s : Bytes) (vs es : List Bytes) (from : Place)
         length-map (clauseOf vs es) (conditionsIn (textPieces s)),
       )
 
-      pub clauses-on : (more : Clauses) → MoreClauses b m s r (map (clauseOf vs es) here) (joined valuePart (pieceStanding (x .piece))) more → ClausesSoFar b m s vs es (x .next) more
+      pub clauses-on : (more : Clauses) → MoreClauses b m s r (map (clauseOf vs es) here) (joined valuePart (pieceStanding (x .piece))) more
+          → ClausesSoFar b m s vs es (x .next) more
       clauses-on more k = record {
         read = subst (λ z. ClausesRead b m s z more) (sym (k .read .is)) (k .read);
         rest = ap (λ z. z ++ map (clauseOf vs es) later) (k .read .is) ∙ ahead;

@@ -52,7 +52,8 @@ pub record Clear (b : Book) (s : Bytes) : Type 0 where
   pub once : someWhere (twiceAt (textPieces s)) [] (textPieces s) ≡ false
   pub limited : pastLimits (textPieces s) ≡ false
 
-no-number : (w u t m l x : Bool) → _≡_ {A = ℕ} (pick w (pick u 4 (pick t 5 (pick m 6 (pick l 7 (pick x 8 0))))) 3) 0 → (w ≡ true) × (u ≡ false) × (t ≡ false) × (l ≡ false)
+no-number : (w u t m l x : Bool) → _≡_ {A = ℕ} (pick w (pick u 4 (pick t 5 (pick m 6 (pick l 7 (pick x 8 0))))) 3) 0
+    → (w ≡ true) × (u ≡ false) × (t ≡ false) × (l ≡ false)
 no-number false u t m l x h = absurd (omega arith)
 no-number true true t m l x h = absurd (omega arith)
 no-number true false true m l x h = absurd (omega arith)
@@ -62,7 +63,9 @@ no-number true false false false false x h = (refl, refl, refl, refl)
 
 pub clear-pieces : (b : Book) (s : Bytes) → textFault b s ≡ 0 → Clear b s
 unfolding pieceFault
-clear-pieces b s e = let r = no-number (walkAt s textStart .whole) (someWhere (undeclaredAt b (textPieces s)) [] (textPieces s)) (someWhere (twiceAt (textPieces s)) [] (textPieces s)) (someWhere (mistypedAt b) [] (textPieces s)) (pastLimits (textPieces s)) (someWhere fromItselfAt [] (textPieces s)) (number-is b s ∙ e) in record { whole = r .0; declared = r .1; once = r .2; limited = r .3 }
+clear-pieces b s e = let r = no-number (walkAt s textStart .whole) (someWhere (undeclaredAt b (textPieces s)) [] (textPieces s))
+    (someWhere (twiceAt (textPieces s)) [] (textPieces s)) (someWhere (mistypedAt b) [] (textPieces s)) (pastLimits (textPieces s))
+    (someWhere fromItselfAt [] (textPieces s)) (number-is b s ∙ e) in record { whole = r .0; declared = r .1; once = r .2; limited = r .3 }
 
 -- a text without a fault is the query of its pieces
 pub clear-tree : (b : Book) (s : Bytes) → Clear b s → (tree : QueryText) → queryText s ≡ just tree → tree ≡ queryOf s
@@ -100,7 +103,8 @@ unfolding keep
 keep-both q [] = refl
 keep-both q (c ∷ cs) = go (q c) (keep-both q cs)
   where
-    go : (t : Bool) → length cs ≡ length (keep q cs) + length (keep (λ c. not (q c)) cs) → suc (length cs) ≡ length (pick t (c ∷ keep q cs) (keep q cs)) + length (pick (not t) (c ∷ keep (λ c. not (q c)) cs) (keep (λ c. not (q c)) cs))
+    go : (t : Bool) → length cs ≡ length (keep q cs) + length (keep (λ c. not (q c)) cs)
+        → suc (length cs) ≡ length (pick t (c ∷ keep q cs) (keep q cs)) + length (pick (not t) (c ∷ keep (λ c. not (q c)) cs) (keep (λ c. not (q c)) cs))
     go true h = omega arith
     go false h = omega arith
 
@@ -108,17 +112,25 @@ pub few-pieces : (ps : List Piece) → Ordered atStart ps → pastLimits ps ≡ 
 unfolding tooMany
 few-pieces ps h e =
     let q = tailOf ps .later in
-    let n = none-of (ltb 8 (length (vertexNames q))) (ltb 16 (length (edgesOf q))) (ltb 16 (length (keep isDiffer (conditionsOf q)))) (ltb 16 (length (keep (λ c. not (isDiffer c)) (conditionsOf q)))) (ltb 4 (length (q .returns))) (limits-same ps h ∙ e) in
+    let n = none-of (ltb 8 (length (vertexNames q))) (ltb 16 (length (edgesOf q))) (ltb 16 (length (keep isDiffer (conditionsOf q))))
+    (ltb 16 (length (keep (λ c. not (isDiffer c)) (conditionsOf q)))) (ltb 4 (length (q .returns))) (limits-same ps h ∙ e) in
     record {
       vertices = subst (λ l. length l ≤ 8) (vertex-names ps h) (ltb-false 8 (length (vertexNames q)) (n .0));
       links = subst (λ l. length l ≤ 16) (tree-names ps h .edges-same) (ltb-false 16 (length (edgesOf q)) (n .1));
       conditions = subst (λ l. length l ≤ 32) (tree-names ps h .conditions-same)
-          (omega (arith, keep-both isDiffer (conditionsOf q), ltb-false 16 (length (keep isDiffer (conditionsOf q))) (n .2), ltb-false 16 (length (keep (λ c. not (isDiffer c)) (conditionsOf q))) (n .3)));
+          (omega (
+            arith,
+            keep-both isDiffer (conditionsOf q),
+            ltb-false 16 (length (keep isDiffer (conditionsOf q))) (n .2),
+            ltb-false 16
+                (length (keep (λ c. not (isDiffer c)) (conditionsOf q))) (n .3),
+          ));
       returns = subst (λ l. length l ≤ 4) (returns-same ps) (ltb-false 4 (length (q .returns)) (n .4));
     }
 
 -- an edge variable is no vertex
-pub edge-no-vertex : (ps : List Piece) → Ordered atStart ps → someWhere (twiceAt ps) [] ps ≡ false → (w : Bytes) → mem w (edgesIn ps) ≡ true → mem w (firsts [] (verticesIn ps)) ≡ false
+pub edge-no-vertex : (ps : List Piece) → Ordered atStart ps → someWhere (twiceAt ps) [] ps ≡ false → (w : Bytes) → mem w (edgesIn ps) ≡ true
+    → mem w (firsts [] (verticesIn ps)) ≡ false
 unfolding hasTwice
 edge-no-vertex ps h e w m = go (mem w (firsts [] (verticesIn ps))) refl
   where
@@ -126,10 +138,13 @@ edge-no-vertex ps h e w m = go (mem w (firsts [] (verticesIn ps))) refl
     q = tailOf ps .later
 
     none : any (λ e. mem e (firsts [] (verticesIn ps))) (edgesIn ps) ≡ false
-    none = rw (edge-names ps h, vertex-names ps h) at (not-second (twice (edgeNames q)) (any (λ e. mem e (vertexNames q)) (edgeNames q)) (twice (q .returns)) (twice-found ps h ∙ e))
+    none = rw (edge-names ps h, vertex-names ps h) at
+        (not-second (twice (edgeNames q)) (any (λ e. mem e (vertexNames q)) (edgeNames q)) (twice (q .returns)) (twice-found ps h ∙ e))
 
     go : (t : Bool) → mem w (firsts [] (verticesIn ps)) ≡ t → t ≡ false
-    go true k = absurd (true-not-false (any (λ e. mem e (firsts [] (verticesIn ps))) (edgesIn ps)) (is-true (any (λ e. mem e (firsts [] (verticesIn ps))) (edgesIn ps)) (any-i (λ e. mem e (firsts [] (verticesIn ps))) (edgesIn ps) w (mem-e w (edgesIn ps) (subst T (sym m) tt)) (subst T (sym k) tt))) none)
+    go true k = absurd (true-not-false (any (λ e. mem e (firsts [] (verticesIn ps))) (edgesIn ps))
+        (is-true (any (λ e. mem e (firsts [] (verticesIn ps))) (edgesIn ps))
+        (any-i (λ e. mem e (firsts [] (verticesIn ps))) (edgesIn ps) w (mem-e w (edgesIn ps) (subst T (sym m) tt)) (subst T (sym k) tt))) none)
     go false k = refl
 
 -- what a condition names stands among ds and fs, the names found before it, and is numbered there as among all
@@ -155,7 +170,11 @@ module _ (b : Book) (vs es ds fs : List Bytes) (vertices : Begins ds vs) (edges 
       let k = not-false _ h in
       let p = both-left (mem v ds) (mem u ds) k in
       let q = both-right (mem v ds) (mem u ds) k in
-      record { named = rw (begun-mem ds vs vertices v p, begun-mem ds vs vertices u q); same = sym (ap₂ excluded (begun-place ds vs vertices v p) (begun-place ds vs vertices u q)) }
+      record {
+        named = rw (begun-mem ds vs vertices v p, begun-mem ds vs vertices u q);
+        same = sym
+            (ap₂ excluded (begun-place ds vs vertices v p) (begun-place ds vs vertices u q));
+      }
   scoped-one (demand x a r v) h = ⊎-elim
       (λ k. let p = both-left (mem x ds) (mem a (attrNames (b .vattrs))) k in
       let m = begun-mem ds vs vertices x p in
@@ -185,7 +204,8 @@ module _ (b : Book) (text : List Piece) (apart : (w : Bytes) → mem w (edgesIn 
   module _ (done ps : List Piece) (e : done ++ ps ≡ text) where
     before-vertex : Begins (firsts [] (verticesIn done)) vs
     before-vertex = subst (Begins (firsts [] (verticesIn done)))
-        (sym (firsts-append [] (verticesIn done) (verticesIn ps)) ∙ ap (firsts []) (sym (joined-append vertexIn done ps)) ∙ ap (λ l. firsts [] (verticesIn l)) e)
+        (sym (firsts-append [] (verticesIn done) (verticesIn ps)) ∙ ap (firsts []) (sym (joined-append vertexIn done ps))
+        ∙ ap (λ l. firsts [] (verticesIn l)) e)
         (firsts-begun (firsts [] (verticesIn done)) (verticesIn ps))
 
     before-edge : Begins (edgesIn done) es
@@ -196,7 +216,8 @@ module _ (b : Book) (text : List Piece) (apart : (w : Bytes) → mem w (edgesIn 
     unknown-once (differ v u) = rw (mem-firsts v (verticesIn done), mem-firsts u (verticesIn done))
     unknown-once (demand x a r v) = rw (mem-firsts x (verticesIn done))
 
-    scoped-here : (p : Piece) (rest : List Piece) → undeclaredAt b text done p rest ≡ false → Each (Scoped b vs es (firsts [] (verticesIn done)) (edgesIn done)) (conditionIn p)
+    scoped-here : (p : Piece) (rest : List Piece) → undeclaredAt b text done p rest ≡ false
+        → Each (Scoped b vs es (firsts [] (verticesIn done)) (edgesIn done)) (conditionIn p)
     unfolding undeclaredAt conditionIn
     scoped-here (start v) rest h = tt
     scoped-here (goes x l v) rest h = tt
@@ -204,13 +225,17 @@ module _ (b : Book) (text : List Piece) (apart : (w : Bytes) → mem w (edgesIn 
     scoped-here (asks c) rest h = (scoped-one b vs es (firsts [] (verticesIn done)) (edgesIn done) before-vertex before-edge apart c (unknown-once c ∙ h), tt)
     scoped-here (returns v) rest h = tt
 
-  scoped-behind : (done ps : List Piece) → done ++ ps ≡ text → someWhere (undeclaredAt b text) done ps ≡ false → ScopedFrom b vs es (firsts [] (verticesIn done)) (edgesIn done) ps
+  scoped-behind : (done ps : List Piece) → done ++ ps ≡ text → someWhere (undeclaredAt b text) done ps ≡ false
+      → ScopedFrom b vs es (firsts [] (verticesIn done)) (edgesIn done) ps
   unfolding someWhere ScopedFrom
   scoped-behind done [] e h = tt
   scoped-behind done (p ∷ ps) e h =
       let n = not-here (undeclaredAt b text done p ps) (someWhere (undeclaredAt b text) (done ++ (p ∷ [])) ps) h in
-      let later = scoped-behind (done ++ (p ∷ [])) ps (append-assoc done (p ∷ []) ps ∙ e) (n .1) in
-      (scoped-here done (p ∷ ps) e p ps (n .0), rw (joined-end vertexIn done p, firsts-append [] (verticesIn done) (vertexIn p), joined-end edgeIn done p) at later)
+      let later = scoped-behind (done ++ (p ∷ [])) ps (append-assoc done (p ∷ []) ps ∙ e) (n .1) in (
+        scoped-here done (p ∷ ps) e p ps (n .0),
+        rw (joined-end vertexIn done p, firsts-append [] (verticesIn done) (vertexIn p), joined-end edgeIn done p)
+            at later,
+      )
 
 pub clear-scoped : (b : Book) (s : Bytes) → Clear b s → ScopedFrom b (vertexNamesIn s) (textEdges s) [] [] (textPieces s)
 unfolding joined firstsBy
@@ -231,9 +256,11 @@ some-behind p k [] h = inl h
 some-behind p (suc k) (t ∷ ts) h = some-behind p k ts h
 some-behind p zero (t ∷ ts) h = go (pieceAt p t ts) (λ g. some-behind (spotAfter (g .got)) (g .size - 1) ts) h
   where
-    go : (m : Maybe (Got Piece)) → ((g : Got Piece) → walk (spotAfter (g .got)) (g .size - 1) ts .whole ≡ true → (endsWell (spotAfter (g .got)) ≡ true) ⊎ (0 < length (returnsIn (walk (spotAfter (g .got)) (g .size - 1) ts .found))))
+    go : (m : Maybe (Got Piece)) → ((g : Got Piece) → walk (spotAfter (g .got)) (g .size - 1) ts .whole ≡ true
+        → (endsWell (spotAfter (g .got)) ≡ true) ⊎ (0 < length (returnsIn (walk (spotAfter (g .got)) (g .size - 1) ts .found))))
         → orStopped (andThen m (λ g. just (ahead (g .got) (walk (spotAfter (g .got)) (g .size - 1) ts)))) .whole ≡ true
-        → (endsWell p ≡ true) ⊎ (0 < length (returnsIn (orStopped (andThen m (λ g. just (ahead (g .got) (walk (spotAfter (g .got)) (g .size - 1) ts)))) .found)))
+        → (endsWell p ≡ true) ⊎ (0 < length (returnsIn
+        (orStopped (andThen m (λ g. just (ahead (g .got) (walk (spotAfter (g .got)) (g .size - 1) ts)))) .found)))
     go nothing k h = absurd (true-not-false false h refl)
     go (just g) k h = inr (more-returns (g .got) (walk (spotAfter (g .got)) (g .size - 1) ts .found) (k g h))
 
@@ -283,7 +310,8 @@ module _ (b : Book) (s : Bytes) (clear : Clear b s) (allowed : T (all isAllowed 
   writable : Each WritablePiece (textPieces s)
   unfolding walkAt spotOf chainAt signsOf
   writable = subst (λ t. IfThere (Each WritablePiece) (pick t (just (textPieces s)) nothing)) (clear .whole)
-      (subst (IfThere (Each WritablePiece)) (pieces-are-walked atStart 0 (signsOf s)) (pieces-writable atStart 0 (signsOf s) (signs-writable false false 0 s allowed)))
+      (subst (IfThere (Each WritablePiece)) (pieces-are-walked atStart 0 (signsOf s))
+      (pieces-writable atStart 0 (signsOf s) (signs-writable false false 0 s allowed)))
 
   vertex-in : (p : Piece) → WritablePiece p → (w : Bytes) → w ∈ vertexIn p → IsName w
   unfolding vertexIn
@@ -302,10 +330,13 @@ module _ (b : Book) (s : Bytes) (clear : Clear b s) (allowed : T (all isAllowed 
   edge-in (returns v) h w m = elim m [ ]
 
   pub vertex-short : (w : Bytes) → w ∈ vertexNamesIn s → Short w
-  vertex-short w m = ⊎-elim (λ z. elim z [ ]) (λ k. let r = joined-e vertexIn (textPieces s) w k in name-short w (vertex-in (r .0) (each-e WritablePiece (textPieces s) writable (r .0) (r .1)) w (r .2))) (firsts-e [] (verticesIn (textPieces s)) w m)
+  vertex-short w m = ⊎-elim (λ z. elim z [ ])
+      (λ k. let r = joined-e vertexIn (textPieces s) w k in
+      name-short w (vertex-in (r .0) (each-e WritablePiece (textPieces s) writable (r .0) (r .1)) w (r .2))) (firsts-e [] (verticesIn (textPieces s)) w m)
 
   pub edge-short : (w : Bytes) → w ∈ edgesIn (textPieces s) → Short w
-  edge-short w m = let r = joined-e edgeIn (textPieces s) w m in name-short w (edge-in (r .0) (each-e WritablePiece (textPieces s) writable (r .0) (r .1)) w (r .2))
+  edge-short w m = let r = joined-e edgeIn (textPieces s) w m in
+      name-short w (edge-in (r .0) (each-e WritablePiece (textPieces s) writable (r .0) (r .1)) w (r .2))
 
   condition-in : (p : Piece) → WritablePiece p → (c : Condition) → c ∈ conditionIn p → WritableCondition c
   unfolding conditionIn
@@ -319,4 +350,5 @@ module _ (b : Book) (s : Bytes) (clear : Clear b s) (allowed : T (all isAllowed 
   clause-short vs es k m =
       let r = map-e (clauseOf vs es) (conditionsIn (textPieces s)) k m in
       let q = joined-e conditionIn (textPieces s) (r .0) (r .1) in
-      subst ShortClause (sym (r .2)) (condition-short vs es (r .0) (condition-in (q .0) (each-e WritablePiece (textPieces s) writable (q .0) (q .1)) (r .0) (q .2)))
+      subst ShortClause (sym (r .2)) (condition-short vs es (r .0)
+      (condition-in (q .0) (each-e WritablePiece (textPieces s) writable (q .0) (q .1)) (r .0) (q .2)))

@@ -121,7 +121,8 @@ module _ (s : Bytes) (edges : Edges) (h : Stored edges) where
   }
 
   pub link-more : (b : Book) (link : Link) (from to : ℕ) (x : EdgeData) → x ≡ edgeMade b s link from to → edges .count < 16
-      → MoreEdges s edges (numbered b (nameAt s (link .edge)) (nameAt s (link .label)) from to ∷ []) (link .edge ∷ []) (record { edges = set (edges .edges) (edges .count) x; count = edges .count + 1 })
+      → MoreEdges s edges (numbered b (nameAt s (link .edge)) (nameAt s (link .label)) from to ∷ []) (link .edge ∷ [])
+      (record { edges = set (edges .edges) (edges .count) x; count = edges .count + 1 })
   unfolding numberedIn numbered
   link-more b link from to x e room = let inside : edges .count < length (edges .edges) = omega (arith, h .room) in record {
     stored = record {
@@ -131,7 +132,8 @@ module _ (s : Bytes) (edges : Edges) (h : Stored edges) where
     };
     is = taken-more (numberedIn s) (edges .edges) (edges .count) x inside ∙ ap (λ (y : EdgeData). numberedOf s edges ++ (numberedIn s y ∷ [])) e;
     parts = taken-more (λ (y : EdgeData). y .name) (edges .edges) (edges .count) x inside ∙ ap (λ (y : EdgeData). edgePartsOf edges ++ (y .name ∷ [])) e;
-    names = taken-more (λ (y : EdgeData). nameAt s (y .name)) (edges .edges) (edges .count) x inside ∙ ap (λ (y : EdgeData). edgeNamesOf s edges ++ (nameAt s (y .name) ∷ [])) e;
+    names = taken-more (λ (y : EdgeData). nameAt s (y .name)) (edges .edges) (edges .count) x inside
+        ∙ ap (λ (y : EdgeData). edgeNamesOf s edges ++ (nameAt s (y .name) ∷ [])) e;
   }
 
 -- the edges of pieces behind the last vertex
@@ -169,16 +171,19 @@ pub record EdgesSoFar (b : Book) (s : Bytes) (vs : List Bytes) (from : Place) (l
   pub rest : numberedOf s edges ++ edgesFrom b vs last (foundAt s from) ≡ map (linkNumbered b vs) (linksFrom [] (textPieces s))
   pub parts : PartsSoFar edgePart s from (edgePartsOf edges)
 
-pub edges-start : (b : Book) (s : Bytes) (vs : List Bytes) (from : Place) (last : ℕ) (edges : Edges) → from ≡ textStart → edges ≡ noEdges → EdgesSoFar b s vs from last edges
+pub edges-start : (b : Book) (s : Bytes) (vs : List Bytes) (from : Place) (last : ℕ) (edges : Edges) → from ≡ textStart → edges ≡ noEdges
+    → EdgesSoFar b s vs from last edges
 edges-start b s vs from last edges e f = subst (λ (r : Edges). EdgesSoFar b s vs from last r) (sym f) (record {
   stored = record { room = refl; few = omega arith; blank = refl };
   rest = ap (λ (q : Place). edgesFrom b vs last (foundAt s q)) e ∙ links-all b vs last (textPieces s) (text-ordered s);
   parts = parts-start edgePart s from e;
 })
 
-module _ (b : Book) (s : Bytes) (vs : List Bytes) (from : Place) (last : ℕ) (edges : Edges) (so : EdgesSoFar b s vs from last edges) (r : PieceRead) (h : StepAt s from r) where
+module _ (b : Book) (s : Bytes) (vs : List Bytes) (from : Place) (last : ℕ) (edges : Edges) (so : EdgesSoFar b s vs from last edges) (r : PieceRead)
+    (h : StepAt s from r) where
   module _ (x : Step) (e : r ≡ read.Found x) (own : ℕ) (f : own ≡ numberAfter vs last (vertexIn (pieceOf s (x .piece)))) where
-    ahead : (numberedOf s edges ++ edgesBetween b last own (pieceOf s (x .piece))) ++ edgesFrom b vs own (foundAt s (x .next)) ≡ map (linkNumbered b vs) (linksFrom [] (textPieces s))
+    ahead : (numberedOf s edges ++ edgesBetween b last own (pieceOf s (x .piece))) ++ edgesFrom b vs own (foundAt s (x .next))
+        ≡ map (linkNumbered b vs) (linksFrom [] (textPieces s))
     unfolding edgesFrom
     ahead =
         append-assoc (numberedOf s edges) (edgesBetween b last own (pieceOf s (x .piece))) (edgesFrom b vs own (foundAt s (x .next)))
@@ -193,7 +198,8 @@ module _ (b : Book) (s : Bytes) (vs : List Bytes) (from : Place) (last : ℕ) (e
       length-taken (numberedIn s) (edges .edges) (edges .count) (omega (arith, so .stored .few, so .stored .room)),
     )
 
-    pub edges-on : (more : Edges) → MoreEdges s edges (edgesBetween b last own (pieceOf s (x .piece))) (joined edgePart (pieceStanding (x .piece))) more → EdgesSoFar b s vs (x .next) own more
+    pub edges-on : (more : Edges) → MoreEdges s edges (edgesBetween b last own (pieceOf s (x .piece))) (joined edgePart (pieceStanding (x .piece))) more
+        → EdgesSoFar b s vs (x .next) own more
     edges-on more m = record {
       stored = m .stored;
       rest = ap (λ l. l ++ edgesFrom b vs own (foundAt s (x .next))) (m .is) ∙ ahead;
@@ -242,7 +248,8 @@ labels-counted : (book : Bytes) (words : List ℕ) (c : BookCounts) → length (
 unfolding bookAt
 labels-counted book words c = length-names book words labelNames (c .labels)
 
-edge-data : (b : Book) (s : Bytes) (vs : List Bytes) (e : EdgeData) (l : ChainEdge) → numberedIn s e ≡ linkNumbered b vs l → edgeData b (e .name) (edgeOf vs l) ≡ e
+edge-data : (b : Book) (s : Bytes) (vs : List Bytes) (e : EdgeData) (l : ChainEdge) → numberedIn s e ≡ linkNumbered b vs l
+    → edgeData b (e .name) (edgeOf vs l) ≡ e
 unfolding edgeData edgeOf numberedIn linkNumbered numbered
 edge-data b s vs e l h = let k = sym h in λ i. record { name = e .name; label = k i .label; from = k i .from; to = k i .to }
 
@@ -261,7 +268,8 @@ edges-data b s vs (e ∷ es) (l ∷ ls) h =
 -- the edges found in a whole text are its edges
 module _ (book : Bytes) (words : List ℕ) (c : BookCounts) (s : Bytes) (vertices : Vertices) (found : Found s vertices (vertexNamesIn s))
     (declared : someWhere (undeclaredAt (bookAt book words c) (textPieces s)) [] (textPieces s) ≡ false) (edges : Edges) (stored : Stored edges)
-    (all-numbered : numberedOf s edges ≡ map (linkNumbered (bookAt book words c) (vertexNamesIn s)) (linksFrom [] (textPieces s))) (parts : walkAt s textStart .whole ≡ true → edgePartsOf edges ≡ edgeParts s) where
+    (all-numbered : numberedOf s edges ≡ map (linkNumbered (bookAt book words c) (vertexNamesIn s)) (linksFrom [] (textPieces s)))
+    (parts : walkAt s textStart .whole ≡ true → edgePartsOf edges ≡ edgeParts s) where
   abbrev b : Book
   b = bookAt book words c
 
@@ -281,7 +289,9 @@ module _ (book : Bytes) (words : List ℕ) (c : BookCounts) (s : Bytes) (vertice
   unfolding edgeNamed edgeIn numberedIn linkNumbered numbered edgeOf
   all-named =
       sym (map-to (edgeNamed b) (numberedIn s) (edgeIn b s) (take (edges .count) (edges .edges)) (λ x m. refl)) ∙ ap (map (edgeNamed b)) all-numbered
-      ∙ map-to (edgeNamed b) (linkNumbered b vs) (edgeOf vs) links (λ e m. ap (λ l. record { name = e .name; label = l; from = place (e .from) vs; to = place (e .to) vs }) (at-place (b .labels) (e .label) (label-there e m) .1))
+      ∙ map-to (edgeNamed b) (linkNumbered b vs) (edgeOf vs) links
+      (λ e m. ap (λ l. record { name = e .name; label = l; from = place (e .from) vs; to = place (e .to) vs })
+      (at-place (b .labels) (e .label) (label-there e m) .1))
 
   in-array : edges .count ≤ length (edges .edges)
   in-array = omega (arith, stored .few, stored .room)
@@ -298,15 +308,23 @@ module _ (book : Bytes) (words : List ℕ) (c : BookCounts) (s : Bytes) (vertice
 
     link-at : numberedIn s (getD (edges .edges) i noEdge) ≡ linkNumbered b vs link
     link-at =
-        sym (getD-map (numberedIn s) (take (edges .count) (edges .edges)) i noEdge (numberedIn s noEdge) (omega (arith, length-take-le (edges .count) (edges .edges) in-array)) ∙ ap (numberedIn s) (getD-take (edges .count) (edges .edges) i noEdge l))
-        ∙ ap (λ z. getD z i (numberedIn s noEdge)) all-numbered ∙ getD-map (linkNumbered b vs) links i noLink (numberedIn s noEdge) (omega (arith, edges-counted))
+        sym (getD-map (numberedIn s) (take (edges .count) (edges .edges)) i noEdge (numberedIn s noEdge)
+        (omega (arith, length-take-le (edges .count) (edges .edges) in-array)) ∙ ap (numberedIn s) (getD-take (edges .count) (edges .edges) i noEdge l))
+        ∙ ap (λ z. getD z i (numberedIn s noEdge)) all-numbered
+        ∙ getD-map (linkNumbered b vs) links i noLink (numberedIn s noEdge) (omega (arith, edges-counted))
 
     edge-stands : EdgeStands c vertices (getD (edges .edges) i noEdge)
     unfolding numberedIn linkNumbered numbered
     edge-stands =
         let ends = ends-all (textPieces s) (text-ordered s) link link-in in
         record {
-          label = omega (arith, ap (λ (n : Numbered). n .label) link-at, at-place (b .labels) (link .label) (label-there link link-in) .0, labels-counted book words c);
+          label = omega (
+            arith,
+            ap (λ (n : Numbered). n .label) link-at,
+            at-place (b .labels) (link .label) (label-there link link-in) .0,
+            labels-counted
+                book words c,
+          );
           from = omega (arith, ap (λ (n : Numbered). n .from) link-at, inside (link .from) (ends .0));
           to = omega (arith, ap (λ (n : Numbered). n .to) link-at, inside (link .to) (ends .1));
         }

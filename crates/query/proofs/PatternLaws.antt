@@ -33,7 +33,8 @@ use Rattle.query_faults.specs.Names.{textPieces}
 use Rattle.query_signs.specs.Expected.{valueStanding}
 use Rattle.query_faults.proofs.FaultLaws.{queryOf, text-ordered}
 use Rattle.query_writer.specs.Writable.{Limits, countLimits, ConditionFits}
-use Rattle.model.specs.PlainData.{noPart, noEdge, noClause, NameFits, ValueFits, ConditionFits as WordsHold, PatternFits as WordsFit, ValueWithin, ConditionWithin}
+use Rattle.model.specs.PlainData.{noPart, noEdge, noClause, NameFits, ValueFits, ConditionFits as WordsHold, PatternFits as WordsFit, ValueWithin}
+use Rattle.model.specs.PlainData.{ConditionWithin}
 use Rattle.query.specs.declared.vertices.Vertices.{Vertices}
 use Rattle.query.specs.declared.edges.Edges.{Edges}
 use Rattle.query.specs.declared.clauses.Clauses.{Clauses}
@@ -50,7 +51,8 @@ use Rattle.query.proofs.ClearLaws.{Clear, clear-pieces, clear-tree, som
 
 -- f of a counted element is among f of those counted
 taken-in : {A B : Type 0} (f : A → B) (l : List A) (n i : ℕ) (d : A) → n ≤ length l → i < n → f (getD l i d) ∈ map f (take n l)
-taken-in f l n i d h k = subst (λ x. f x ∈ map f (take n l)) (getD-take n l i d k) (map-i f (take n l) (getD (take n l) i d) (getD-in (take n l) i d (omega (arith, length-take-le n l h))))
+taken-in f l n i d h k = subst (λ x. f x ∈ map f (take n l)) (getD-take n l i d k)
+    (map-i f (take n l) (getD (take n l) i d) (getD-in (take n l) i d (omega (arith, length-take-le n l h))))
 
 -- what holds of f of each element holds so of each
 each-of : {A B : Type 0} (P : B → Type 0) (f : A → B) (l : List A) → Each P (map f l) → Each (λ x. P (f x)) l
@@ -68,7 +70,8 @@ module _ (s : Bytes) (base : ℕ) (fit : base + length s ≤ 65536) where
   value-fits (Text start size) h m = (omega (arith, h .0), omega (arith, m, length-take size (drop start s), length-drop start s))
   value-fits (Truth t) h m = tt
 
-  condition-fits : (b : Book) (m : Limits) (k : Condition) → m .vattrs ≤ 32 → m .eattrs ≤ 32 → ConditionFits m k → Each (EndsBefore s) (conditionParts k) → ShortClause (clauseIn b s k)
+  condition-fits : (b : Book) (m : Limits) (k : Condition) → m .vattrs ≤ 32 → m .eattrs ≤ 32 → ConditionFits m k → Each (EndsBefore s) (conditionParts k)
+      → ShortClause (clauseIn b s k)
       → WordsHold base (m .vertices) (m .edges) k
   unfolding clauseIn conditionParts
   condition-fits b m (Excluded u v) va ea f w h = f
@@ -99,7 +102,8 @@ module _ (book : Bytes) (words : List ℕ) (c : BookCounts) (s : Bytes) (asked :
     found : Found s v (vertexNamesIn s)
     found = vertices .found
 
-    module _ (e : Edges) (k : Clauses) (r : Returns) (links : EdgesRead b c s v e) (clauses : TextClausesRead b (textLimits c s) s k) (returned : ReturnsRead s v r) where
+    module _ (e : Edges) (k : Clauses) (r : Returns) (links : EdgesRead b c s v e) (clauses : TextClausesRead b (textLimits c s) s k)
+        (returned : ReturnsRead s v r) where
       conditions : ClausesRead b (textLimits c s) s (textClauses s) k
       conditions = clauses .read
 
@@ -116,8 +120,14 @@ module _ (book : Bytes) (words : List ℕ) (c : BookCounts) (s : Bytes) (asked :
           same-edges : map (edgeIn b s) (take (e .count) (e .edges)) ≡ map (edgeOf (vertexNames (queryOf s))) (edgesOf (queryOf s))
           same-edges = rw (vertex-names (textPieces s) (text-ordered s), tree-names (textPieces s) (text-ordered s) .edges-same) (links .is)
 
-          same-clauses : map (λ c. clauseIn b s (c .condition)) (take (k .count) (k .clauses)) ≡ map (clauseOf (vertexNames (queryOf s)) (edgeNames (queryOf s))) (conditionsOf (queryOf s))
-          same-clauses = rw (vertex-names (textPieces s) (text-ordered s), edge-names (textPieces s) (text-ordered s), tree-names (textPieces s) (text-ordered s) .conditions-same) (conditions .is)
+          same-clauses : map (λ c. clauseIn b s (c .condition)) (take (k .count) (k .clauses))
+              ≡ map (clauseOf (vertexNames (queryOf s)) (edgeNames (queryOf s))) (conditionsOf (queryOf s))
+          same-clauses = rw (
+            vertex-names (textPieces s) (text-ordered s),
+            edge-names (textPieces s) (text-ordered s),
+            tree-names (textPieces s)
+                (text-ordered s) .conditions-same,
+          ) (conditions .is)
 
           same-returns : take (r .count) (r .numbers) ≡ map (λ x. Rattle.model.specs.Names.place x (vertexNames (queryOf s))) (queryOf s .returns)
           same-returns = rw (vertex-names (textPieces s) (text-ordered s), returns-same (textPieces s)) (returned .is)
@@ -130,17 +140,23 @@ module _ (book : Bytes) (words : List ℕ) (c : BookCounts) (s : Bytes) (asked :
       clause-fits i l = rw (found-counted s v (vertexNamesIn s) found, edge-count) at (conditions .each i l)
 
       vertex-named : (i : ℕ) → i < v .count → Short (nameAt s (getD (v .parts) i noPart))
-      vertex-named i l = vertex-short b s clear (asked .allowed) _ (subst (λ x. nameAt s (getD (v .parts) i noPart) ∈ x) (found .named) (taken-in (nameAt s) (v .parts) (v .count) i noPart (omega (arith, found .within, found .size)) l))
+      vertex-named i l = vertex-short b s clear (asked .allowed) _
+          (subst (λ x. nameAt s (getD (v .parts) i noPart) ∈ x) (found .named)
+          (taken-in (nameAt s) (v .parts) (v .count) i noPart (omega (arith, found .within, found .size)) l))
 
       edge-named : (i : ℕ) → i < e .count → Short (nameAt s (getD (e .edges) i noEdge .name))
       unfolding edgeIn edgeOf
       edge-named i l =
-          let m = map-e (edgeOf (vertexNamesIn s)) (linksFrom [] (textPieces s)) _ (subst (λ x. edgeIn b s (getD (e .edges) i noEdge) ∈ x) (links .is) (taken-in (edgeIn b s) (e .edges) (e .count) i noEdge (omega (arith, links .few, links .stored .room)) l)) in
+          let m = map-e (edgeOf (vertexNamesIn s)) (linksFrom [] (textPieces s)) _
+          (subst (λ x. edgeIn b s (getD (e .edges) i noEdge) ∈ x) (links .is)
+          (taken-in (edgeIn b s) (e .edges) (e .count) i noEdge (omega (arith, links .few, links .stored .room)) l)) in
           let n = subst (λ x. m .0 .name ∈ x) (link-names [] (textPieces s)) (map-i (λ (x : ChainEdge). x .name) (linksFrom [] (textPieces s)) (m .0) (m .1)) in
           edge-short b s clear (asked .allowed) _ (subst (λ x. x ∈ edgesIn (textPieces s)) (sym (ap (λ (x : Edge). x .name) (m .2))) n)
 
       clause-named : (i : ℕ) → i < k .count → ShortClause (clauseIn b s (getD (k .clauses) i noClause .condition))
-      clause-named i l = clause-short b s clear (asked .allowed) (vertexNamesIn s) (textEdges s) _ (subst (λ x. clauseIn b s (getD (k .clauses) i noClause .condition) ∈ x) (conditions .is) (taken-in (λ (x : Clause). clauseIn b s (x .condition)) (k .clauses) (k .count) i noClause (omega (arith, conditions .few, conditions .sized)) l))
+      clause-named i l = clause-short b s clear (asked .allowed) (vertexNamesIn s) (textEdges s) _
+          (subst (λ x. clauseIn b s (getD (k .clauses) i noClause .condition) ∈ x) (conditions .is)
+          (taken-in (λ (x : Clause). clauseIn b s (x .condition)) (k .clauses) (k .count) i noClause (omega (arith, conditions .few, conditions .sized)) l))
 
       -- names and text values stand inside the text
       vertex-inside : (i : ℕ) → i < v .count → Inside s (getD (v .parts) i noPart)
@@ -151,15 +167,19 @@ module _ (book : Bytes) (words : List ℕ) (c : BookCounts) (s : Bytes) (asked :
 
       edge-inside : (i : ℕ) → i < e .count → Inside s (getD (e .edges) i noEdge .name)
       edge-inside i l =
-          let in-taken : i < length (take (e .count) (e .edges)) = omega (arith, length-take-le (e .count) (e .edges) (omega (arith, links .few, links .stored .room))) in
-          let ends = each-of (Ends s) (λ (x : EdgeData). x .name) (take (e .count) (e .edges)) (subst (Each (Ends s)) (sym (links .parts (clear .whole))) (edges-end s)) in
+          let in-taken : i < length (take (e .count) (e .edges)) = omega
+          (arith, length-take-le (e .count) (e .edges) (omega (arith, links .few, links .stored .room))) in
+          let ends = each-of (Ends s) (λ (x : EdgeData). x .name) (take (e .count) (e .edges))
+          (subst (Each (Ends s)) (sym (links .parts (clear .whole))) (edges-end s)) in
           part-inside s (getD (e .edges) i noEdge .name) (subst (λ (x : EdgeData). Ends s (x .name)) (getD-take (e .count) (e .edges) i noEdge l)
           (each-at (λ (x : EdgeData). Ends s (x .name)) noEdge (take (e .count) (e .edges)) ends i in-taken))
 
       clause-ends : (i : ℕ) → i < k .count → Each (EndsBefore s) (conditionParts (getD (k .clauses) i noClause .condition))
       clause-ends i l =
-          let in-taken : i < length (take (k .count) (k .clauses)) = omega (arith, length-take-le (k .count) (k .clauses) (omega (arith, conditions .few, conditions .sized))) in
-          let ends = each-joined (EndsBefore s) (λ (x : Clause). conditionParts (x .condition)) (take (k .count) (k .clauses)) (subst (Each (EndsBefore s)) (sym (clauses .parts (clear .whole))) (values-end s)) in
+          let in-taken : i < length (take (k .count) (k .clauses)) = omega
+          (arith, length-take-le (k .count) (k .clauses) (omega (arith, conditions .few, conditions .sized))) in
+          let ends = each-joined (EndsBefore s) (λ (x : Clause). conditionParts (x .condition)) (take (k .count) (k .clauses))
+          (subst (Each (EndsBefore s)) (sym (clauses .parts (clear .whole))) (values-end s)) in
           subst (λ (x : Clause). Each (EndsBefore s) (conditionParts (x .condition))) (getD-take (k .count) (k .clauses) i noClause l)
           (each-at (λ (x : Clause). Each (EndsBefore s) (conditionParts (x .condition))) noClause (take (k .count) (k .clauses)) ends i in-taken)
 
@@ -175,7 +195,8 @@ module _ (book : Bytes) (words : List ℕ) (c : BookCounts) (s : Bytes) (asked :
       }
         where
           all-vertices : v .parts ≡ padded 8 noPart (vertexParts s)
-          all-vertices = blank-padded 8 noPart (v .parts) (v .count) (omega (arith, found .within, found .size)) (found .blank) ∙ ap (padded 8 noPart) (vertices .parts (clear .whole))
+          all-vertices = blank-padded 8 noPart (v .parts) (v .count) (omega (arith, found .within, found .size)) (found .blank)
+              ∙ ap (padded 8 noPart) (vertices .parts (clear .whole))
 
           all-edges : e .edges ≡ padded 16 noEdge (edgesData b (edgeParts s) (map (edgeIn b s) (take (e .count) (e .edges))))
           all-edges =
@@ -185,7 +206,8 @@ module _ (book : Bytes) (words : List ℕ) (c : BookCounts) (s : Bytes) (asked :
           all-clauses : k .clauses ≡ padded 32 noClause (clausesData b (valueParts s) (map (λ c. clauseIn b s (c .condition)) (take (k .count) (k .clauses))))
           all-clauses =
               blank-padded 32 noClause (k .clauses) (k .count) (omega (arith, conditions .few, conditions .sized)) (conditions .blank)
-              ∙ ap (padded 32 noClause) (sym (clauses-data b (textClauses s) (take (k .count) (k .clauses)) (conditions .told)) ∙ ap₂ (clausesData b) (clauses .parts (clear .whole)) (sym (conditions .is)))
+              ∙ ap (padded 32 noClause) (sym (clauses-data b (textClauses s) (take (k .count) (k .clauses)) (conditions .told))
+              ∙ ap₂ (clausesData b) (clauses .parts (clear .whole)) (sym (conditions .is)))
 
           all-counts : patternMade v e k r .counts ≡ queryData b s (patternIn b s (patternMade v e k r)) .counts
           all-counts = λ i. record {
@@ -208,14 +230,16 @@ module _ (book : Bytes) (words : List ℕ) (c : BookCounts) (s : Bytes) (asked :
           from = x .from;
           to = x .to;
         };
-        clauses = λ i l. condition-fits s base fit b (countLimits c (patternMade v e k r)) (getD (k .clauses) i noClause .condition) (asked .fits .within .vattrs) (asked .fits .within .eattrs) (clause-fits i l) (clause-ends i l) (clause-named i l);
+        clauses = λ i l. condition-fits s base fit b (countLimits c (patternMade v e k r)) (getD (k .clauses) i noClause .condition)
+            (asked .fits .within .vattrs) (asked .fits .within .eattrs) (clause-fits i l) (clause-ends i l) (clause-named i l);
         returns = returned .each;
       }
 
       pub pattern-read : PatternRead b c s (patternMade v e k r)
       pattern-read = record {
         is = λ tree q. subst (λ t. patternIn b s (patternMade v e k r) ≡ patternOf t) (sym (clear-tree b s clear tree q)) same-pattern;
-        whole = λ tree q. whole-pattern ∙ ap (queryData b s) (subst (λ t. patternIn b s (patternMade v e k r) ≡ patternOf t) (sym (clear-tree b s clear tree q)) same-pattern);
+        whole = λ tree q. whole-pattern ∙ ap (queryData b s)
+            (subst (λ t. patternIn b s (patternMade v e k r) ≡ patternOf t) (sym (clear-tree b s clear tree q)) same-pattern);
         fits = record {
           vertices = found .within;
           edges = record { few = links .few; each = λ i l. let x = links .each i l in record { label = x .label; from = x .from; to = x .to } };

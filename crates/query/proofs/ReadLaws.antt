@@ -57,7 +57,8 @@ module _ (b : Book) (s : Bytes) (h : bytesOf 2048 s ≡ Allowed) where
   by-faults = by-bytes b s Allowed (sym h)
 
   -- a table without a number, and with one
-  none-lowest : (t u v w x : Bool) → numberOr (lowest ((4 if t) ∷ (5 if u) ∷ (6 if v) ∷ (7 if w) ∷ (8 if x) ∷ [])) ≡ 0 → lowest ((4 if t) ∷ (5 if u) ∷ (6 if v) ∷ (7 if w) ∷ (8 if x) ∷ []) ≡ nothing
+  none-lowest : (t u v w x : Bool) → numberOr (lowest ((4 if t) ∷ (5 if u) ∷ (6 if v) ∷ (7 if w) ∷ (8 if x) ∷ [])) ≡ 0
+      → lowest ((4 if t) ∷ (5 if u) ∷ (6 if v) ∷ (7 if w) ∷ (8 if x) ∷ []) ≡ nothing
   unfolding numberOr lowest
   none-lowest true u v w x k = absurd (omega arith)
   none-lowest false true v w x k = absurd (omega arith)
@@ -95,7 +96,8 @@ module _ (b : Book) (s : Bytes) (h : bytesOf 2048 s ≡ Allowed) where
     query-refused z v k = refused-given b s n 1 v (by-faults ∙ tree-faulty (queryText s) n e z) k
 
 -- the pattern of an accepted query can be read
-pub pattern-asked : (book : Bytes) (words : List ℕ) (c : BookCounts) (s : Bytes) (tree : QueryText) → Fits book words c → readQuery (bookAt book words c) s ≡ accepted tree → PatternAsked book words c s
+pub pattern-asked : (book : Bytes) (words : List ℕ) (c : BookCounts) (s : Bytes) (tree : QueryText) → Fits book words c
+    → readQuery (bookAt book words c) s ≡ accepted tree → PatternAsked book words c s
 unfolding textFault treeFault numberOr
 pattern-asked book words c s tree fits e =
     let q = query-accepted (bookAt book words c) s tree e in

@@ -59,7 +59,8 @@ module _ (returns : Returns) (h : Listed returns) where
   pub returns-same : MoreReturns returns [] returns
   returns-same = record { listed = h; is = sym (append-nil (numbersIn returns)) }
 
-  pub return-more : (n : ℕ) → returns .count < 4 → MoreReturns returns (n ∷ []) (record { numbers = set (returns .numbers) (returns .count) n; count = returns .count + 1 })
+  pub return-more : (n : ℕ) → returns .count < 4
+      → MoreReturns returns (n ∷ []) (record { numbers = set (returns .numbers) (returns .count) n; count = returns .count + 1 })
   return-more n l =
       let m : returns .count < length (returns .numbers) = omega (arith, h .room) in
       record {
@@ -77,7 +78,8 @@ pub record ReturnsSoFar (s : Bytes) (vs : List Bytes) (from : Place) (returns : 
   pub rest : numbersIn returns ++ numbersOf vs (returnsIn (foundAt s from)) ≡ numbersOf vs (returnsIn (textPieces s))
 
 pub returns-start : (s : Bytes) (vs : List Bytes) (from : Place) (returns : Returns) → from ≡ textStart → returns ≡ noReturns → ReturnsSoFar s vs from returns
-returns-start s vs from returns e f = subst (λ (p : Place). ReturnsSoFar s vs p returns) (sym e) (subst (λ (r : Returns). ReturnsSoFar s vs textStart r) (sym f) none-yet)
+returns-start s vs from returns e f = subst (λ (p : Place). ReturnsSoFar s vs p returns) (sym e)
+    (subst (λ (r : Returns). ReturnsSoFar s vs textStart r) (sym f) none-yet)
   where
     none-yet : ReturnsSoFar s vs textStart noReturns
     none-yet = record { listed = record { room = refl; few = omega arith; blank = refl }; rest = refl }
@@ -108,10 +110,12 @@ module _ (s : Bytes) (vs : List Bytes) (from : Place) (returns : Returns) (so : 
 
   pub returns-all : (w : Bool) → r ≡ read.None w → numbersIn returns ≡ numbersOf vs (returnsIn (textPieces s))
   unfolding joined
-  returns-all w e = sym (append-nil (numbersIn returns)) ∙ ap (λ ps. numbersIn returns ++ numbersOf vs (returnsIn ps)) (sym (step-none s from r h w e)) ∙ so .rest
+  returns-all w e = sym (append-nil (numbersIn returns)) ∙ ap (λ ps. numbersIn returns ++ numbersOf vs (returnsIn ps)) (sym (step-none s from r h w e))
+      ∙ so .rest
 
 -- the returned vertices found in a whole text are its own
-module _ (b : Book) (s : Bytes) (vertices : Vertices) (found : Found s vertices (vertexNamesIn s)) (declared : someWhere (undeclaredAt b (textPieces s)) [] (textPieces s) ≡ false)
+module _ (b : Book) (s : Bytes) (vertices : Vertices) (found : Found s vertices (vertexNamesIn s))
+    (declared : someWhere (undeclaredAt b (textPieces s)) [] (textPieces s) ≡ false)
     (returns : Returns) (listed : Listed returns) (all-numbered : numbersIn returns ≡ numbersOf (vertexNamesIn s) (returnsIn (textPieces s))) where
   abbrev vs : List Bytes
   vs = vertexNamesIn s
@@ -129,7 +133,8 @@ module _ (b : Book) (s : Bytes) (vertices : Vertices) (found : Found s vertices 
   return-stands i l =
       let m : i < length all-names = omega (arith, returns-counted) in
       let n = sym (getD-take (returns .count) (returns .numbers) i 0 l) ∙ ap (λ z. getD z i 0) all-numbered ∙ getD-map (λ v. place v vs) all-names i [] 0 m in
-      let p = at-place vs (getD all-names i []) (return-declared b (textPieces s) (text-ordered s) declared (getD all-names i []) (getD-in all-names i [] m)) .0 in
+      let p = at-place vs (getD all-names i [])
+      (return-declared b (textPieces s) (text-ordered s) declared (getD all-names i []) (getD-in all-names i [] m)) .0 in
       omega (arith, found-counted s vertices vs found)
 
   pub returns-are : ReturnsRead s vertices returns

@@ -14,7 +14,8 @@ use Rattle.model.specs.Signs.{Sign}
 use Rattle.model.specs.Graph.{Each}
 use Rattle.model.specs.Grammar.{Piece, Spot, spotAfter, pieceAt}
 use Rattle.model.specs.Answers.{nameAt, partOf}
-use Rattle.model.specs.Places.{placed, none, Standing, vertex, edge, value, standings, standingIn, vertexPart, edgePart, valuePart, addPart, firstParts, vertexParts, edgeParts, valueParts}
+use Rattle.model.specs.Places.{placed, none, Standing, vertex, edge, value, standings, standingIn, vertexPart, edgePart, valuePart, addPart}
+use Rattle.model.specs.Places.{firstParts, vertexParts, edgeParts, valueParts}
 use Rattle.model.specs.declared.Part.{Part}
 use Rattle.model.proofs.Standings.{none-placed, EndsBy, standings-end}
 use Rattle.query_signs.specs.Reads.{signsFrom}
@@ -54,11 +55,14 @@ text-standing s = refl
 module _ (s : Bytes) (from : Place) where
   no-standing : walkAt s from .found ≡ [] → walkAt s from .whole ≡ true → standingsAt s from ≡ []
   unfolding walkAt standings
-  no-standing e w = ap (standings none) (none-placed (chainAt (from .spot)) (from .close) 0 (from .at) (drop (from .at) s) (no-signs-more (spotOf (from .spot)) (signsFrom (chainAt (from .spot)) (from .close) s (from .at)) e w))
+  no-standing e w = ap (standings none) (none-placed (chainAt (from .spot)) (from .close) 0 (from .at) (drop (from .at) s)
+      (no-signs-more (spotOf (from .spot)) (signsFrom (chainAt (from .spot)) (from .close) s (from .at)) e w))
 
   module _ (r : PieceRead) (h : StepAt s from r) where
-    pub parts-found : (f : Standing → List Part) (x : Step) → r ≡ read.Found x → joined f (standingsAt s from) ≡ joined f (pieceStanding (x .piece)) ++ joined f (standingsAt s (x .next))
-    parts-found f x e = ap (joined f) (subst (StepStands (standingsAt s from) s) e (h .stands)) ∙ joined-append f (pieceStanding (x .piece)) (standingsAt s (x .next))
+    pub parts-found : (f : Standing → List Part) (x : Step) → r ≡ read.Found x
+        → joined f (standingsAt s from) ≡ joined f (pieceStanding (x .piece)) ++ joined f (standingsAt s (x .next))
+    parts-found f x e = ap (joined f) (subst (StepStands (standingsAt s from) s) e (h .stands))
+        ∙ joined-append f (pieceStanding (x .piece)) (standingsAt s (x .next))
 
     pub parts-none : (f : Standing → List Part) (w : Bool) → r ≡ read.None w → walkAt s from .whole ≡ true → joined f (standingsAt s from) ≡ []
     unfolding joined
@@ -133,7 +137,8 @@ EndsBefore s p = p .start + p .length < length s
 module _ (s : Bytes) where
   all-end : Each (EndsBy (length s)) (standingIn s)
   unfolding standingIn
-  all-end = let e : 0 + length s ≡ length s = omega arith in subst (λ n. Each (EndsBy n) (standings none (placed false false 0 0 s))) e (standings-end false false 0 0 s none)
+  all-end = let e : 0 + length s ≡ length s = omega arith in
+      subst (λ n. Each (EndsBy n) (standings none (placed false false 0 0 s))) e (standings-end false false 0 0 s none)
 
   pub vertices-end : Each (Ends s) (vertexParts s)
   unfolding vertexParts vertexPart

@@ -120,7 +120,8 @@ unfolding firstsBy addNewBy
 firsts-begun seen [] = ([], sym (append-nil seen))
 firsts-begun seen (x ∷ l) = go (any (same x) seen) (firsts-begun (addNew seen x) l)
   where
-    go : (t : Bool) → Begins (pick t seen (seen ++ (x ∷ []))) (firsts (pick t seen (seen ++ (x ∷ []))) l) → Begins seen (firsts (pick t seen (seen ++ (x ∷ []))) l)
+    go : (t : Bool) → Begins (pick t seen (seen ++ (x ∷ []))) (firsts (pick t seen (seen ++ (x ∷ []))) l)
+        → Begins seen (firsts (pick t seen (seen ++ (x ∷ []))) l)
     go true h = h
     go false h = (x ∷ h .0, h .1 ∙ append-assoc seen (x ∷ []) (h .0))
 
@@ -142,7 +143,8 @@ pub vertices-same : (s : Bytes) (v : Vertices) → Found s v (namesOf s v) → M
 unfolding firstParts
 vertices-same s v h = record { found = h; parts = refl }
 
-module _ (s : Bytes) (v : Vertices) (h : Found s v (namesOf s v)) (name : Part) (n : ℕ) (e : n ≡ place (nameAt s name) (namesOf s v)) (few : length (addNew (namesOf s v) (nameAt s name)) ≤ 8) where
+module _ (s : Bytes) (v : Vertices) (h : Found s v (namesOf s v)) (name : Part) (n : ℕ) (e : n ≡ place (nameAt s name) (namesOf s v))
+    (few : length (addNew (namesOf s v) (nameAt s name)) ≤ 8) where
   abbrev ws : List Bytes
   ws = namesOf s v
 
@@ -154,7 +156,8 @@ module _ (s : Bytes) (v : Vertices) (h : Found s v (namesOf s v)) (name : Part) 
 
   vertex-known : n < v .count → MoreVertices s v (name ∷ []) (addNew ws w) v
   unfolding addNewBy mem addPart firstParts
-  vertex-known l = let t = place-known w ws (omega (arith, counted)) in record { found = record { size = h .size; within = h .within; named = rw t; blank = h .blank }; parts = rw t }
+  vertex-known l = let t = place-known w ws (omega (arith, counted)) in
+      record { found = record { size = h .size; within = h .within; named = rw t; blank = h .blank }; parts = rw t }
 
   module _ (l : v .count ≤ n) where
     grown : addNew ws w ≡ ws ++ (w ∷ [])
@@ -220,17 +223,21 @@ module _ (s : Bytes) (from : Place) (v : Vertices) (so : VerticesSoFar s from v)
   module _ (x : Step) (e : r ≡ read.Found x) where
     pub vertices-ahead : firsts (firsts (namesOf s v) (vertexIn (pieceOf s (x .piece)))) (verticesIn (foundAt s (x .next))) ≡ vertexNamesIn s
     unfolding joined
-    vertices-ahead = sym (firsts-append (namesOf s v) (vertexIn (pieceOf s (x .piece))) (verticesIn (foundAt s (x .next)))) ∙ ap (λ ps. firsts (namesOf s v) (verticesIn ps)) (sym (step-list s from r h x e)) ∙ so .rest
+    vertices-ahead = sym (firsts-append (namesOf s v) (vertexIn (pieceOf s (x .piece))) (verticesIn (foundAt s (x .next))))
+        ∙ ap (λ ps. firsts (namesOf s v) (verticesIn ps)) (sym (step-list s from r h x e)) ∙ so .rest
 
-    parts-ahead : firstParts s (firstParts s (partsOf v) (joined vertexPart (pieceStanding (x .piece)))) (joined vertexPart (standingsAt s (x .next))) ≡ vertexParts s
+    parts-ahead : firstParts s (firstParts s (partsOf v) (joined vertexPart (pieceStanding (x .piece)))) (joined vertexPart (standingsAt s (x .next)))
+        ≡ vertexParts s
     parts-ahead =
         sym (firstParts-append s (partsOf v) (joined vertexPart (pieceStanding (x .piece))) (joined vertexPart (standingsAt s (x .next))))
         ∙ ap (firstParts s (partsOf v)) (sym (parts-found s from r h vertexPart x e)) ∙ so .parts
 
     pub vertices-room : length (vertexNamesIn s) ≤ 8 → length (firsts (namesOf s v) (vertexIn (pieceOf s (x .piece)))) ≤ 8
-    vertices-room few = let a = ap length vertices-ahead in omega (arith, firsts-grow (firsts (namesOf s v) (vertexIn (pieceOf s (x .piece)))) (verticesIn (foundAt s (x .next))))
+    vertices-room few = let a = ap length vertices-ahead in
+        omega (arith, firsts-grow (firsts (namesOf s v) (vertexIn (pieceOf s (x .piece)))) (verticesIn (foundAt s (x .next))))
 
-    pub vertices-on : (u : Vertices) → MoreVertices s v (joined vertexPart (pieceStanding (x .piece))) (firsts (namesOf s v) (vertexIn (pieceOf s (x .piece)))) u → VerticesSoFar s (x .next) u
+    pub vertices-on : (u : Vertices) → MoreVertices s v (joined vertexPart (pieceStanding (x .piece)))
+        (firsts (namesOf s v) (vertexIn (pieceOf s (x .piece)))) u → VerticesSoFar s (x .next) u
     vertices-on u f = record {
       stored = record { size = f .found .size; within = f .found .within; named = refl; blank = f .found .blank };
       rest = ap (λ l. firsts l (verticesIn (foundAt s (x .next)))) (f .found .named) ∙ vertices-ahead;

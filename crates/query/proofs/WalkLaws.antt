@@ -50,15 +50,21 @@ use Rattle.query.specs.Edges.{edgeNamesOf, noEdges, edgeMade}
 use Rattle.query.specs.Returns.{noReturns}
 use Rattle.query.specs.Clauses.{demandIn, noClauses}
 use Rattle.query.specs.PatternRead.{PatternAsked, PatternRead, patternMade}
-use Rattle.query.proofs.VertexLaws.{vertexNamesIn, MoreVertices, number-later, number-room, vertices-same, vertex-placed, VerticesSoFar, vertices-start, vertices-ahead, vertices-room, vertices-on, vertices-end}
-use Rattle.query.proofs.EdgeLaws.{numberAfter, edgesBetween, MoreEdges, edges-same, link-more, EdgesSoFar, edges-start, edges-room, edges-on, edges-all, edge-parts-all, edges-are}
-use Rattle.query.proofs.ReturnLaws.{numbersOf, MoreReturns, returns-same, return-more, ReturnsSoFar, returns-start, returns-room, returns-on, returns-all, returns-are}
-use Rattle.query.proofs.ClauseLaws.{textEdges, textLimits, MoreClauses, count-vattrs, count-eattrs, excluded-read, demand-read, same-exclusion, same-demand, clauses-same, clause-more, ClausesSoFar, clauses-start, clauses-room, clauses-on, clauses-all, value-parts-all}
+use Rattle.query.proofs.VertexLaws.{vertexNamesIn, MoreVertices, number-later, number-room, vertices-same, vertex-placed, VerticesSoFar}
+use Rattle.query.proofs.VertexLaws.{vertices-start, vertices-ahead, vertices-room, vertices-on, vertices-end}
+use Rattle.query.proofs.EdgeLaws.{numberAfter, edgesBetween, MoreEdges, edges-same, link-more, EdgesSoFar, edges-start, edges-room, edges-on}
+use Rattle.query.proofs.EdgeLaws.{edges-all, edge-parts-all, edges-are}
+use Rattle.query.proofs.ReturnLaws.{numbersOf, MoreReturns, returns-same, return-more, ReturnsSoFar, returns-start, returns-room, returns-on}
+use Rattle.query.proofs.ReturnLaws.{returns-all, returns-are}
+use Rattle.query.proofs.ClauseLaws.{textEdges, textLimits, MoreClauses, count-vattrs, count-eattrs, excluded-read, demand-read, same-exclusion}
+use Rattle.query.proofs.ClauseLaws.{same-demand, clauses-same, clause-more, ClausesSoFar, clauses-start, clauses-room, clauses-on, clauses-all}
+use Rattle.query.proofs.ClauseLaws.{value-parts-all}
 use Rattle.query.proofs.ClearLaws.{Clear, clear-pieces, Scoped, ScopedFrom, clear-scoped, Few, few-pieces}
 use Rattle.query.proofs.PatternLaws.{pattern-read}
 
 -- what is found from the text's start to a place
-pub record PatternSoFar (book : Bytes) (words : List ℕ) (c : BookCounts) (s : Bytes) (from : Place) (last : ℕ) (v : Vertices) (e : Edges) (k : Clauses) (r : Returns) : Type 0 where
+pub record PatternSoFar (book : Bytes) (words : List ℕ) (c : BookCounts) (s : Bytes) (from : Place) (last : ℕ) (v : Vertices) (e : Edges) (k : Clauses)
+    (r : Returns) : Type 0 where
   pub asked : PatternAsked book words c s
   pub vertices : VerticesSoFar s from v
   pub edges : EdgesSoFar (bookAt book words c) s (vertexNamesIn s) from last e
@@ -83,7 +89,8 @@ edge-named s (piece.Differ v u) = refl
 edge-named s (piece.Asks d) = ap (map (nameAt s)) (no-variable (d .value) .1)
 edge-named s (piece.Returns v) = refl
 
-pub pattern-start : {book : Bytes} {words : List ℕ} {c : BookCounts} {s : Bytes} → PatternAsked book words c s → {from : Place} → from ≡ textStart → {v : Vertices} → v ≡ noVertices
+pub pattern-start : {book : Bytes} {words : List ℕ} {c : BookCounts} {s : Bytes} → PatternAsked book words c s → {from : Place} → from ≡ textStart
+    → {v : Vertices} → v ≡ noVertices
     → {e : Edges} → e ≡ noEdges → {k : Clauses} → k ≡ noClauses → {r : Returns} → r ≡ noReturns → PatternSoFar book words c s from 0 v e k r
 pattern-start {book} {words} {c} {s} asked {from} f {v} vn {e} en {k} kn {r} rn = let b = bookAt book words c in record {
   asked = asked;
@@ -118,7 +125,8 @@ module _ {book : Bytes} {words : List ℕ} {c : BookCounts} {s : Bytes} {from : 
   pattern-end {w} f =
       let found = vertices-end s from v (so .vertices) p step w f in
       pattern-read book words c s (so .asked) v found e k r
-      (edges-are book words c s v (found .found) (clear .declared) e (so .edges .stored) (edges-all b s vs from last e (so .edges) p step w f) (edge-parts-all b s vs from last e (so .edges) p step w f))
+      (edges-are book words c s v (found .found) (clear .declared) e (so .edges .stored) (edges-all b s vs from last e (so .edges) p step w f)
+      (edge-parts-all b s vs from last e (so .edges) p step w f))
       (record { read = clauses-all b m s vs es from k (so .clauses) p step w f; parts = value-parts-all b m s vs es from k (so .clauses) p step w f })
       (returns-are b s v (found .found) (clear .declared) r (so .returns .listed) (returns-all s vs from r (so .returns) p step w f))
 
@@ -154,7 +162,8 @@ module _ {book : Bytes} {words : List ℕ} {c : BookCounts} {s : Bytes} {from : 
     scopes = rw (step-list s from p step x f) at (so .scoped)
 
     pattern-on : {own : ℕ} {u : Vertices} {d : Edges} {l : Clauses} {t : Returns} → own ≡ numberAfter vs last (vertexIn here)
-        → MoreVertices s v (joined vertexPart (pieceStanding q)) (firsts ws (vertexIn here)) u → MoreEdges s e (edgesBetween b last own here) (joined edgePart (pieceStanding q)) d
+        → MoreVertices s v (joined vertexPart (pieceStanding q)) (firsts ws (vertexIn here)) u
+        → MoreEdges s e (edgesBetween b last own here) (joined edgePart (pieceStanding q)) d
         → MoreClauses b m s k (map (clauseOf vs es) (conditionIn here)) (joined valuePart (pieceStanding q)) l → MoreReturns r (numbersOf vs (returnIn here)) t
         → PatternSoFar book words c s next own u d l t
     pattern-on {own} {u} {d} {l} {t} n mv me mk mr = record {
@@ -224,7 +233,8 @@ module _ {book : Bytes} {words : List ℕ} {c : BookCounts} {s : Bytes} {from : 
             → PatternSoFar book words c s (x .next) own u (record { edges = set (e .edges) (e .count) y; count = e .count + 1 }) k r
         unfolding vertexIn edgesBetween conditionIn returnIn pieceOf pieceStanding vertexPart edgePart valuePart joined numberAfter firstsBy
         goes-on h {y} made =
-            pattern-on (turn g) (own-later (turn g) (link .vertex) refl n) (vertex-more (turn g) (link .vertex) refl n h) (link-more s e (so .edges .stored) b link last own y made goes-room) clauses-kept returns-kept
+            pattern-on (turn g) (own-later (turn g) (link .vertex) refl n) (vertex-more (turn g) (link .vertex) refl n h)
+            (link-more s e (so .edges .stored) b link last own y made goes-room) clauses-kept returns-kept
 
     -- a link, from its own vertex to the last
     module _ {link : Link} (g : x .piece ≡ piece.Comes link) where
@@ -241,7 +251,8 @@ module _ {book : Bytes} {words : List ℕ} {c : BookCounts} {s : Bytes} {from : 
             → PatternSoFar book words c s (x .next) own u (record { edges = set (e .edges) (e .count) y; count = e .count + 1 }) k r
         unfolding vertexIn edgesBetween conditionIn returnIn pieceOf pieceStanding vertexPart edgePart valuePart joined numberAfter firstsBy
         comes-on h {y} made =
-            pattern-on (turn g) (own-later (turn g) (link .vertex) refl n) (vertex-more (turn g) (link .vertex) refl n h) (link-more s e (so .edges .stored) b link own last y made comes-room) clauses-kept returns-kept
+            pattern-on (turn g) (own-later (turn g) (link .vertex) refl n) (vertex-more (turn g) (link .vertex) refl n h)
+            (link-more s e (so .edges .stored) b link own last y made comes-room) clauses-kept returns-kept
 
     -- an exclusion
     module _ {one other : Part} (g : x .piece ≡ piece.Differ one other) where
@@ -272,7 +283,8 @@ module _ {book : Bytes} {words : List ℕ} {c : BookCounts} {s : Bytes} {from : 
           let none = no-variable (d .value) in
           let same = made ∙ same-demand b s vs es ws fs d (scope .same) in
           let read = demand-read b m s vs es refl d (scope .named) refl (count-vattrs book words c) (count-eattrs book words c) in
-          pattern-on (turn g) refl (rw (none .0) vertices-kept) (rw (none .1) edges-kept) (clause-more b m s k (so .clauses .read) asks-room same read) returns-kept
+          pattern-on (turn g) refl (rw (none .0) vertices-kept) (rw (none .1) edges-kept) (clause-more b m s k (so .clauses .read) asks-room same read)
+          returns-kept
 
     -- a returned vertex: no vertex stands behind it
     module _ {name : Part} (g : x .piece ≡ piece.Returns name) where
@@ -284,12 +296,15 @@ module _ {book : Bytes} {words : List ℕ} {c : BookCounts} {s : Bytes} {from : 
       unfolding walkAt Ordered spotAfter pieceOf firstsBy
       names-all =
           let list = step-list s from p step _ (turn g) in
-          let order = subst (Ordered (spotOf (from .spot))) list (walk-ordered (spotOf (from .spot)) 0 (signsFrom (chainAt (from .spot)) (from .close) s (from .at))) in
+          let order = subst (Ordered (spotOf (from .spot))) list
+          (walk-ordered (spotOf (from .spot)) 0 (signsFrom (chainAt (from .spot)) (from .close) s (from .at))) in
           sym (ap (firsts ws) (ap verticesIn list ∙ none-behind (nameAt s name) (foundAt s (x .next)) (order .1))) ∙ so .vertices .rest
 
-      pub returned-on : {n : ℕ} → n ≡ place (nameAt s name) ws → PatternSoFar book words c s (x .next) last v e k (record { numbers = set (r .numbers) (r .count) n; count = r .count + 1 })
+      pub returned-on : {n : ℕ} → n ≡ place (nameAt s name) ws
+          → PatternSoFar book words c s (x .next) last v e k (record { numbers = set (r .numbers) (r .count) n; count = r .count + 1 })
       unfolding vertexIn edgesBetween conditionIn returnIn pieceOf pieceStanding vertexPart edgePart valuePart joined numberAfter firstsBy
       returned-on {n} h =
           let more = return-more r (so .returns .listed) n returned-room in
           pattern-on (turn g) refl vertices-kept edges-kept clauses-kept
-          (subst (λ i. MoreReturns r (i ∷ []) (record { numbers = set (r .numbers) (r .count) n; count = r .count + 1 })) (h ∙ ap (place (nameAt s name)) names-all) more)
+          (subst (λ i. MoreReturns r (i ∷ []) (record { numbers = set (r .numbers) (r .count) n; count = r .count + 1 }))
+          (h ∙ ap (place (nameAt s name)) names-all) more)

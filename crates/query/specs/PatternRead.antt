@@ -42,7 +42,8 @@ pub record PatternAsked (book : Bytes) (words : List ℕ) (c : BookCounts) (s : 
   pub clear : textFault (bookAt book words c) s ≡ 0
   pub allowed : T (all isAllowed s)
 
--- p is the pattern of a text, every slot of it: its numbers are below the counts, its names stand inside the text and fit their words, and something is returned
+-- p is the pattern of a text, every slot of it: its numbers are below the counts, its names stand inside the text and fit their words, and something is
+-- returned
 pub record PatternRead (b : Book) (c : BookCounts) (s : Bytes) (p : Pattern) : Type 0 where
   pub is : (tree : QueryText) → queryText s ≡ just tree → patternIn b s p ≡ patternOf tree
   pub whole : (tree : QueryText) → queryText s ≡ just tree → p ≡ queryData b s (patternOf tree)

@@ -42,13 +42,15 @@ seen done = length (firsts [] (verticesIn done))
 module _ (done : List Piece) (p : Piece) (ps : List Piece) (n : ℕ) (ih : seen (done ++ (p ∷ [])) + n ≡ seen ((done ++ (p ∷ [])) ++ ps)) where
   vertex-more : (v : Bytes) → vertexIn p ≡ v ∷ [] → seen done + (pick (not (mem v (verticesIn done))) 1 0 + n) ≡ seen (done ++ (p ∷ ps))
   vertex-more v e =
-      let a : seen (done ++ (p ∷ [])) ≡ seen done + pick (not (mem v (verticesIn done))) 1 0 = ap (λ l. length (firsts [] l)) (joined-end vertexIn done p ∙ ap (λ l. verticesIn done ++ l) e) ∙ firsts-more (verticesIn done) v in
+      let a : seen (done ++ (p ∷ [])) ≡ seen done + pick (not (mem v (verticesIn done))) 1 0 = ap (λ l. length (firsts [] l))
+      (joined-end vertexIn done p ∙ ap (λ l. verticesIn done ++ l) e) ∙ firsts-more (verticesIn done) v in
       let b : seen ((done ++ (p ∷ [])) ++ ps) ≡ seen (done ++ (p ∷ ps)) = ap seen (append-assoc done (p ∷ []) ps) in
       omega arith
 
   other-more : vertexIn p ≡ [] → seen done + (0 + n) ≡ seen (done ++ (p ∷ ps))
   other-more e =
-      let a : seen (done ++ (p ∷ [])) ≡ seen done = ap (λ l. length (firsts [] l)) (joined-end vertexIn done p ∙ ap (λ l. verticesIn done ++ l) e ∙ append-nil (verticesIn done)) in
+      let a : seen (done ++ (p ∷ [])) ≡ seen done = ap (λ l. length (firsts [] l))
+      (joined-end vertexIn done p ∙ ap (λ l. verticesIn done ++ l) e ∙ append-nil (verticesIn done)) in
       let b : seen ((done ++ (p ∷ [])) ++ ps) ≡ seen (done ++ (p ∷ ps)) = ap seen (append-assoc done (p ∷ []) ps) in
       omega arith
 

@@ -73,7 +73,8 @@ module _ (text : Bytes) (words : List ℕ) (offset count : ℕ) (h : NamesFit te
         named : nameOf text words offset k ≡ w
         named = ap (nameOf text words offset) at-place ∙ place-named text words offset count w (rw at-place at l)
 
-        others : suits (kindOf k) r v ≡ false → (i : ℕ) → i < count → (t : Bool) → same (nameOf text words offset i) w ≡ t → asked (attrOf text words offset i) ≡ false
+        others : suits (kindOf k) r v ≡ false → (i : ℕ) → i < count → (t : Bool) → same (nameOf text words offset i) w ≡ t
+            → asked (attrOf text words offset i) ≡ false
         others f i m true q = let z : i ≡ k = h .differ i k m l (same-equal (nameOf text words offset i) w q ∙ sym named) in rw z (this-name k named ∙ f)
         others f i m false q = other-name i q
 

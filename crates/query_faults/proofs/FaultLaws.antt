@@ -45,7 +45,8 @@ text-read s = ap (λ m. andThen m (λ ps. just (tailOf ps .later))) (pieces-are-
 
 -- the tests of the pieces are those of the query text
 module _ (b : Book) (s : Bytes) where
-  fault-table : (t u v w x : Bool) → pick t 4 (pick u 5 (pick v 6 (pick w 7 (pick x 8 0)))) ≡ numberOr (lowest ((4 if t) ∷ (5 if u) ∷ (6 if v) ∷ (7 if w) ∷ (8 if x) ∷ []))
+  fault-table : (t u v w x : Bool) → pick t 4 (pick u 5 (pick v 6 (pick w 7 (pick x 8 0))))
+      ≡ numberOr (lowest ((4 if t) ∷ (5 if u) ∷ (6 if v) ∷ (7 if w) ∷ (8 if x) ∷ []))
   unfolding numberOr lowest
   fault-table true u v w x = refl
   fault-table false true v w x = refl
@@ -54,15 +55,27 @@ module _ (b : Book) (s : Bytes) where
   fault-table false false false false true = refl
   fault-table false false false false false = refl
 
-  tests-same : queryFault b (queryOf s) ≡ lowest ((4 if someWhere (undeclaredAt b (textPieces s)) [] (textPieces s)) ∷ (5 if someWhere (twiceAt (textPieces s)) [] (textPieces s)) ∷ (6 if someWhere (mistypedAt b) [] (textPieces s)) ∷ (7 if pastLimits (textPieces s)) ∷ (8 if someWhere fromItselfAt [] (textPieces s)) ∷ [])
-  tests-same = unfold queryFault in rw (undeclared-found (textPieces s) (text-ordered s) b, twice-found (textPieces s) (text-ordered s), mistyped-found (textPieces s) (text-ordered s) b, limits-same (textPieces s) (text-ordered s), itself-found (textPieces s) (text-ordered s))
+  tests-same : queryFault b (queryOf s) ≡ lowest
+      ((4 if someWhere (undeclaredAt b (textPieces s)) [] (textPieces s)) ∷ (5 if someWhere (twiceAt (textPieces s)) [] (textPieces s)) ∷
+      (6 if someWhere (mistypedAt b) [] (textPieces s)) ∷ (7 if pastLimits (textPieces s)) ∷ (8 if someWhere fromItselfAt [] (textPieces s)) ∷ [])
+  tests-same = unfold queryFault in rw (
+    undeclared-found (textPieces s) (text-ordered s) b,
+    twice-found (textPieces s) (text-ordered s),
+    mistyped-found
+        (textPieces s) (text-ordered s) b,
+    limits-same (textPieces s) (text-ordered s),
+    itself-found (textPieces s) (text-ordered s),
+  )
 
   -- the fault that the pieces show is the fault of the text
   pub number-is : pieceFault b s ≡ textFault b s
   unfolding pieceFault textFault treeFault
   number-is = rw (text-read s) (go (walkAt s textStart .whole))
     where
-      go : (t : Bool) → pick t (pick (someWhere (undeclaredAt b (textPieces s)) [] (textPieces s)) 4 (pick (someWhere (twiceAt (textPieces s)) [] (textPieces s)) 5 (pick (someWhere (mistypedAt b) [] (textPieces s)) 6 (pick (pastLimits (textPieces s)) 7 (pick (someWhere fromItselfAt [] (textPieces s)) 8 0))))) 3 ≡ treeFault b (pick t (just (queryOf s)) nothing)
+      go : (t : Bool) → pick t (pick (someWhere (undeclaredAt b (textPieces s)) [] (textPieces s)) 4
+          (pick (someWhere (twiceAt (textPieces s)) [] (textPieces s)) 5
+          (pick (someWhere (mistypedAt b) [] (textPieces s)) 6
+          (pick (pastLimits (textPieces s)) 7 (pick (someWhere fromItselfAt [] (textPieces s)) 8 0))))) 3 ≡ treeFault b (pick t (just (queryOf s)) nothing)
       go true = fault-table _ _ _ _ _ ∙ ap numberOr (sym tests-same)
       go false = refl
 

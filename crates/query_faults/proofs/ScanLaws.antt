@@ -39,7 +39,8 @@ mem-append w (x ∷ a) b = rw (mem-append w a b) (go (same w x) (any (same w) a)
     go false x y = refl
 
 -- a name in a list of one or none
-pub name-is : (s : Bytes) (w : Which) (p : Piece) (n : Bytes) (r : NameOf) → asList s r ≡ nameIn w p → (q : Part) → r ≡ Is q → same n (nameAt s q) ≡ mem n (nameIn w p)
+pub name-is : (s : Bytes) (w : Which) (p : Piece) (n : Bytes) (r : NameOf) → asList s r ≡ nameIn w p → (q : Part) → r ≡ Is q
+    → same n (nameAt s q) ≡ mem n (nameIn w p)
 unfolding asList mem any
 name-is s w p n r h q e = rw (← h, e) (sym (go (same n (nameAt s q))))
   where
@@ -101,7 +102,8 @@ signs-bound c k n [] = omega arith
 signs-bound c k (suc n) (b ∷ s) = omega (arith, signs-bound c k n s)
 signs-bound c k zero (b ∷ s) =
     let g = signAt c b s in
-    pick-bound (eqb b 32 || eqb b 10) _ _ (suc (length s)) (omega (arith, signs-bound c false 0 s)) (omega (arith, signs-bound (chainBehind c (g .got)) (wordy (g .got)) (g .size - 1) s))
+    pick-bound (eqb b 32 || eqb b 10) _ _ (suc (length s)) (omega (arith, signs-bound c false 0 s))
+    (omega (arith, signs-bound (chainBehind c (g .got)) (wordy (g .got)) (g .size - 1) s))
 
 walk-bound : (p : Spot) (k : ℕ) (ts : List Sign) → length (walk p k ts .found) ≤ length ts
 unfolding walk stopped orStopped andThen ahead
@@ -117,7 +119,13 @@ walk-bound p zero (t ∷ ts) = go (pieceAt p t ts) (λ g. walk-bound (spotAfter 
 pub found-bound : (s : Bytes) (place : Place) → length (foundAt s place) ≤ length s
 unfolding walkAt
 found-bound s place =
-    omega (arith, walk-bound (spotOf (place .spot)) 0 (signsFrom (chainAt (place .spot)) (place .close) s (place .at)), signs-bound (chainAt (place .spot)) (place .close) 0 (drop (place .at) s), length-drop (place .at) s)
+    omega (
+      arith,
+      walk-bound (spotOf (place .spot)) 0 (signsFrom (chainAt (place .spot)) (place .close) s (place .at)),
+      signs-bound (chainAt (place .spot))
+          (place .close) 0 (drop (place .at) s),
+      length-drop (place .at) s,
+    )
 
 -- one piece further in a text
 module _ (text : List Piece) (i : ℕ) (p : Piece) (qs : List Piece) (e : drop i text ≡ p ∷ qs) where

@@ -36,8 +36,20 @@ stays-zero true n e = rw e
 stays-zero false n e = sym e
 
 module _ (b : Book) (done : List Piece) (t : Survey) (rest : List Piece) where
-  pub start-is : (v : Bytes) (x : Bool) (n : ℕ) → x ≡ pick (mem v (namesIn Edge done)) true (t .twice) → n ≡ pick (not (mem v (namesIn Vertex done))) (t .vertices - 1) (t .vertices)
-      → record { undeclared = t .undeclared; twice = x; mistyped = t .mistyped; itself = t .itself; vertices = n; edges = t .edges; exclusions = t .exclusions; requirements = t .requirements; returns = t .returns } ≡ surveyed b done t (start v) rest
+  pub start-is : (v : Bytes) (x : Bool) (n : ℕ) → x ≡ pick (mem v (namesIn Edge done)) true (t .twice)
+      → n ≡ pick (not (mem v (namesIn Vertex done))) (t .vertices - 1) (t .vertices)
+      → record {
+        undeclared = t .undeclared;
+        twice = x;
+        mistyped = t .mistyped;
+        itself = t .itself;
+        vertices = n;
+        edges = t .edges;
+        exclusions =
+            t .exclusions;
+        requirements = t .requirements;
+        returns = t .returns;
+      } ≡ surveyed b done t (start v) rest
   unfolding surveyed undeclaredBy repeats mistypedAt fromItselfAt newVertex anEdge anExclusion aRequirement aReturn nameIn
   start-is v x n e f = rw (e, f)
 
@@ -47,7 +59,17 @@ module _ (b : Book) (done : List Piece) (t : Survey) (rest : List Piece) where
       (en : n ≡ pick (not (mem v (namesIn Vertex done))) (t .vertices - 1) (t .vertices))
       (ek : k ≡ t .edges - 1) where
     abbrev linked : Survey
-    linked = record { undeclared = u; twice = x; mistyped = t .mistyped; itself = t .itself; vertices = n; edges = k; exclusions = t .exclusions; requirements = t .requirements; returns = t .returns }
+    linked = record {
+      undeclared = u;
+      twice = x;
+      mistyped = t .mistyped;
+      itself = t .itself;
+      vertices = n;
+      edges = k;
+      exclusions = t .exclusions;
+      requirements = t .requirements;
+      returns = t .returns;
+    }
 
     pub goes-is : linked ≡ surveyed b done t (goes e l v) rest
     unfolding surveyed undeclaredBy repeats mistypedAt fromItselfAt newVertex anEdge anExclusion aRequirement aReturn nameIn
@@ -58,22 +80,55 @@ module _ (b : Book) (done : List Piece) (t : Survey) (rest : List Piece) where
     comes-is = rw (eu, ex, en, ek)
 
   pub differ-is : (v w : Bytes) (u x : Bool) (k : ℕ)
-      → u ≡ pick (not (mem v (namesIn Vertex done) && mem w (namesIn Vertex done))) true (t .undeclared) → x ≡ pick (same v w) true (t .itself) → k ≡ t .exclusions - 1
-      → record { undeclared = u; twice = t .twice; mistyped = t .mistyped; itself = x; vertices = t .vertices; edges = t .edges; exclusions = k; requirements = t .requirements; returns = t .returns } ≡ surveyed b done t (asks (differ v w)) rest
+      → u ≡ pick (not (mem v (namesIn Vertex done) && mem w (namesIn Vertex done))) true (t .undeclared) → x ≡ pick (same v w) true (t .itself)
+      → k ≡ t .exclusions - 1
+      → record {
+        undeclared = u;
+        twice = t .twice;
+        mistyped = t .mistyped;
+        itself = x;
+        vertices = t .vertices;
+        edges = t .edges;
+        exclusions = k;
+        requirements = t .requirements;
+        returns = t .returns;
+      } ≡ surveyed b done t (asks (differ v w)) rest
   unfolding surveyed undeclaredBy repeats mistypedAt fromItselfAt newVertex anEdge anExclusion aRequirement aReturn nameIn unknown mistyped fromItself isDiffer
   differ-is v w u x k e f g = rw (e, f, g)
 
   pub demand-is : (y a : Bytes) (r : Relation) (z : Value) (u x : Bool) (k : ℕ)
-      → u ≡ pick (not (mem y (namesIn Vertex done) && mem a (attrNames (b .vattrs)) || mem y (namesIn Edge done) && mem a (attrNames (b .eattrs)))) true (t .undeclared)
+      → u ≡ pick (not (mem y (namesIn Vertex done) && mem a (attrNames (b .vattrs)) || mem y (namesIn Edge done) && mem a (attrNames (b .eattrs)))) true
+      (t .undeclared)
       → x ≡ pick (not (mem y (namesIn Vertex done) && typed (b .vattrs) a r z || mem y (namesIn Edge done) && typed (b .eattrs) a r z)) true (t .mistyped)
       → k ≡ t .requirements - 1
-      → record { undeclared = u; twice = t .twice; mistyped = x; itself = t .itself; vertices = t .vertices; edges = t .edges; exclusions = t .exclusions; requirements = k; returns = t .returns } ≡ surveyed b done t (asks (demand y a r z)) rest
+      → record {
+        undeclared = u;
+        twice = t .twice;
+        mistyped = x;
+        itself = t .itself;
+        vertices = t .vertices;
+        edges = t .edges;
+        exclusions = t .exclusions;
+        requirements = k;
+        returns = t .returns;
+      } ≡ surveyed b done t (asks (demand y a r z)) rest
   unfolding surveyed undeclaredBy repeats mistypedAt fromItselfAt newVertex anEdge anExclusion aRequirement aReturn nameIn unknown mistyped fromItself isDiffer
   demand-is y a r z u x k e f g = rw (e, f, g)
 
   pub return-is : (v : Bytes) (u x : Bool) (k : ℕ)
       → u ≡ pick (not (mem v (namesIn Vertex done))) true (t .undeclared) → x ≡ pick (mem v (namesIn Returned done)) true (t .twice) → k ≡ t .returns - 1
-      → record { undeclared = u; twice = x; mistyped = t .mistyped; itself = t .itself; vertices = t .vertices; edges = t .edges; exclusions = t .exclusions; requirements = t .requirements; returns = k } ≡ surveyed b done t (returns v) rest
+      → record {
+        undeclared = u;
+        twice = x;
+        mistyped = t .mistyped;
+        itself = t .itself;
+        vertices = t .vertices;
+        edges = t .edges;
+        exclusions =
+            t .exclusions;
+        requirements = t .requirements;
+        returns = k;
+      } ≡ surveyed b done t (returns v) rest
   unfolding surveyed undeclaredBy repeats mistypedAt fromItselfAt newVertex anEdge anExclusion aRequirement aReturn nameIn
   return-is v u x k e f g = rw (e, f, g)
 
@@ -102,23 +157,34 @@ module _ (b : Book) (s : Bytes) (done : List Piece) (t : Survey) (vertices edges
   abbrev Now : Piece → Type 0
   Now p = Behind b s done t p vertices edges returned r
 
-  pub behind-start : (v : Bytes) → Seen (start v) → Vertices (namesIn Vertex done ++ (v ∷ [])) → Edges (namesIn Edge done) → Returns (namesIn Returned done) → Now (start v)
+  pub behind-start : (v : Bytes) → Seen (start v) → Vertices (namesIn Vertex done ++ (v ∷ [])) → Edges (namesIn Edge done)
+      → Returns (namesIn Returned done) → Now (start v)
   unfolding nameIn vertexIn edgeIn returnIn
   behind-start v k hv he hr = record { seen = k; vertex-names = hv; edge-names = holds-same s edges _ _ he; return-names = holds-same s returned _ _ hr }
 
-  pub behind-link : (e l v : Bytes) → ((rest : List Piece) → (r .survey ≡ surveyed b done t (goes e l v) rest) × (r .survey ≡ surveyed b done t (comes e l v) rest))
-      → Vertices (namesIn Vertex done ++ (v ∷ [])) → Edges (namesIn Edge done ++ (e ∷ [])) → Returns (namesIn Returned done) → Now (goes e l v) × Now (comes e l v)
+  pub behind-link : (e l v : Bytes) → ((rest : List Piece)
+      → (r .survey ≡ surveyed b done t (goes e l v) rest) × (r .survey ≡ surveyed b done t (comes e l v) rest))
+      → Vertices (namesIn Vertex done ++ (v ∷ [])) → Edges (namesIn Edge done ++ (e ∷ [])) → Returns (namesIn Returned done)
+      → Now (goes e l v) × Now (comes e l v)
   unfolding nameIn vertexIn edgeIn returnIn
   behind-link e l v k hv he hr = (
     record { seen = λ rest. k rest .0; vertex-names = hv; edge-names = he; return-names = holds-same s returned _ _ hr },
     record { seen = λ rest. k rest .1; vertex-names = hv; edge-names = he; return-names = holds-same s returned _ _ hr },
   )
 
-  pub behind-asks : (c : Condition) → Seen (asks c) → Vertices (namesIn Vertex done) → Edges (namesIn Edge done) → Returns (namesIn Returned done) → Now (asks c)
+  pub behind-asks : (c : Condition) → Seen (asks c) → Vertices (namesIn Vertex done) → Edges (namesIn Edge done) → Returns (namesIn Returned done)
+      → Now (asks c)
   unfolding nameIn vertexIn edgeIn returnIn
-  behind-asks c k hv he hr = record { seen = k; vertex-names = holds-same s vertices _ _ hv; edge-names = holds-same s edges _ _ he; return-names = holds-same s returned _ _ hr }
+  behind-asks c k hv he hr = record {
+    seen = k;
+    vertex-names = holds-same s vertices _ _ hv;
+    edge-names = holds-same s edges _ _ he;
+    return-names =
+        holds-same s returned _ _ hr;
+  }
 
-  pub behind-return : (v : Bytes) → Seen (returns v) → Vertices (namesIn Vertex done) → Edges (namesIn Edge done) → Returns (namesIn Returned done ++ (v ∷ [])) → Now (returns v)
+  pub behind-return : (v : Bytes) → Seen (returns v) → Vertices (namesIn Vertex done) → Edges (namesIn Edge done)
+      → Returns (namesIn Returned done ++ (v ∷ [])) → Now (returns v)
   unfolding nameIn vertexIn edgeIn returnIn
   behind-return v k hv he hr = record { seen = k; vertex-names = holds-same s vertices _ _ hv; edge-names = holds-same s edges _ _ he; return-names = hr }
 

@@ -38,7 +38,8 @@ flagFrom q x done ps = pick x true (someWhere q done ps)
 abbrev leftFrom : Test → ℕ → List Piece → List Piece → ℕ
 leftFrom q n done ps = n - countWhere q done ps
 
-flag-on : (q : Test) (x : Bool) (done : List Piece) (p : Piece) (ps : List Piece) → flagFrom q (pick (q done p ps) true x) (done ++ (p ∷ [])) ps ≡ flagFrom q x done (p ∷ ps)
+flag-on : (q : Test) (x : Bool) (done : List Piece) (p : Piece) (ps : List Piece)
+    → flagFrom q (pick (q done p ps) true x) (done ++ (p ∷ [])) ps ≡ flagFrom q x done (p ∷ ps)
 unfolding someWhere
 flag-on q x done p ps = go x (q done p ps) (someWhere q (done ++ (p ∷ [])) ps)
   where
@@ -48,7 +49,8 @@ flag-on q x done p ps = go x (q done p ps) (someWhere q (done ++ (p ∷ [])) ps)
     go false true z = refl
     go false false z = refl
 
-left-on : (q : Test) (n : ℕ) (done : List Piece) (p : Piece) (ps : List Piece) → leftFrom q (pick (q done p ps) (n - 1) n) (done ++ (p ∷ [])) ps ≡ leftFrom q n done (p ∷ ps)
+left-on : (q : Test) (n : ℕ) (done : List Piece) (p : Piece) (ps : List Piece)
+    → leftFrom q (pick (q done p ps) (n - 1) n) (done ++ (p ∷ [])) ps ≡ leftFrom q n done (p ∷ ps)
 unfolding countWhere
 left-on q n done p ps = go (q done p ps) (countWhere q (done ++ (p ∷ [])) ps)
   where
@@ -121,18 +123,24 @@ unfolding joined vertexIn
 none-behind v ps h = no-vertex-left ps h
 
 module _ (b : Book) (text : List Piece) where
-  undeclared-before : (p : Spot) (done ps : List Piece) → Ordered p ps → done ++ ps ≡ text → someWhere (undeclaredBy b) done ps ≡ someWhere (undeclaredAt b text) done ps
+  undeclared-before : (p : Spot) (done ps : List Piece) → Ordered p ps → done ++ ps ≡ text
+      → someWhere (undeclaredBy b) done ps ≡ someWhere (undeclaredAt b text) done ps
   unfolding someWhere undeclaredBy undeclaredAt Ordered spotAfter
   undeclared-before p done [] h e = refl
   undeclared-before p done (start v ∷ ps) h e = undeclared-before inChain (done ++ (start v ∷ [])) ps (h .1) (append-assoc done (start v ∷ []) ps ∙ e)
-  undeclared-before p done (goes d l v ∷ ps) h e = ap (pick (not (mem l (b .labels))) true) (undeclared-before inChain (done ++ (goes d l v ∷ [])) ps (h .1) (append-assoc done (goes d l v ∷ []) ps ∙ e))
-  undeclared-before p done (comes d l v ∷ ps) h e = ap (pick (not (mem l (b .labels))) true) (undeclared-before inChain (done ++ (comes d l v ∷ [])) ps (h .1) (append-assoc done (comes d l v ∷ []) ps ∙ e))
-  undeclared-before p done (asks c ∷ ps) h e = ap (pick (unknown b c (verticesIn done) (edgesIn done)) true) (undeclared-before inWhere (done ++ (asks c ∷ [])) ps (h .1) (append-assoc done (asks c ∷ []) ps ∙ e))
+  undeclared-before p done (goes d l v ∷ ps) h e = ap (pick (not (mem l (b .labels))) true)
+      (undeclared-before inChain (done ++ (goes d l v ∷ [])) ps (h .1) (append-assoc done (goes d l v ∷ []) ps ∙ e))
+  undeclared-before p done (comes d l v ∷ ps) h e = ap (pick (not (mem l (b .labels))) true)
+      (undeclared-before inChain (done ++ (comes d l v ∷ [])) ps (h .1) (append-assoc done (comes d l v ∷ []) ps ∙ e))
+  undeclared-before p done (asks c ∷ ps) h e = ap (pick (unknown b c (verticesIn done) (edgesIn done)) true)
+      (undeclared-before inWhere (done ++ (asks c ∷ [])) ps (h .1) (append-assoc done (asks c ∷ []) ps ∙ e))
   undeclared-before p done (returns v ∷ ps) h e =
-      ap₂ (λ vs r. pick (not (mem v vs)) true r) all-before (undeclared-before inReturn (done ++ (returns v ∷ [])) ps (h .1) (append-assoc done (returns v ∷ []) ps ∙ e))
+      ap₂ (λ vs r. pick (not (mem v vs)) true r) all-before
+      (undeclared-before inReturn (done ++ (returns v ∷ [])) ps (h .1) (append-assoc done (returns v ∷ []) ps ∙ e))
     where
       all-before : verticesIn done ≡ verticesIn text
-      all-before = sym (ap verticesIn (sym e) ∙ joined-append vertexIn done (returns v ∷ ps) ∙ ap (λ l. verticesIn done ++ l) (none-behind v ps (h .1)) ∙ append-nil (verticesIn done))
+      all-before = sym (ap verticesIn (sym e) ∙ joined-append vertexIn done (returns v ∷ ps) ∙ ap (λ l. verticesIn done ++ l) (none-behind v ps (h .1))
+          ∙ append-nil (verticesIn done))
 
 -- 5: a name more at the end of a list
 meets-more : (vs : List Bytes) (v : Bytes) (es : List Bytes) → any (λ e. mem e (vs ++ (v ∷ []))) es ≡ (any (λ e. mem e vs) es || mem v es)
@@ -163,7 +171,8 @@ return-repeat vs es rs v = rw (twice-end rs v) (go (twice es || any (λ e. mem e
     go false true d = refl
     go false false d = refl
 
-link-repeat : (vs es rs : List Bytes) (e v : Bytes) → hasRepeat (es ++ (e ∷ [])) (vs ++ (v ∷ [])) rs ≡ pick (hasRepeat es vs rs) true (mem e es || mem e vs || mem v (es ++ (e ∷ [])))
+link-repeat : (vs es rs : List Bytes) (e v : Bytes)
+    → hasRepeat (es ++ (e ∷ [])) (vs ++ (v ∷ [])) rs ≡ pick (hasRepeat es vs rs) true (mem e es || mem e vs || mem v (es ++ (e ∷ [])))
 link-repeat vs es rs e v =
     rw (twice-end es e, meets-more vs v (es ++ (e ∷ [])), any-end (λ e. mem e vs) es e)
     (go (twice es) (mem e es) (any (λ e. mem e vs) es) (mem e vs) (mem v (es ++ (e ∷ []))) (twice rs))
@@ -188,7 +197,8 @@ repeat-step : (done : List Piece) (p : Piece) (rest : List Piece) → repeated (
 unfolding repeats edgeIn vertexIn returnIn
 repeat-step done p rest = rw (joined-end edgeIn done p, joined-end vertexIn done p, joined-end returnIn done p) (go p)
   where
-    go : (p : Piece) → hasRepeat (edgesIn done ++ edgeIn p) (verticesIn done ++ vertexIn p) (returnsIn done ++ returnIn p) ≡ pick (repeated done) true (repeats done p rest)
+    go : (p : Piece) → hasRepeat (edgesIn done ++ edgeIn p) (verticesIn done ++ vertexIn p) (returnsIn done ++ returnIn p)
+        ≡ pick (repeated done) true (repeats done p rest)
     go (start v) = rw (append-nil (edgesIn done), append-nil (returnsIn done)) (start-repeat (verticesIn done) (edgesIn done) (returnsIn done) v)
     go (goes e l v) = rw (append-nil (returnsIn done)) (link-repeat (verticesIn done) (edgesIn done) (returnsIn done) e v)
     go (comes e l v) = rw (append-nil (returnsIn done)) (link-repeat (verticesIn done) (edgesIn done) (returnsIn done) e v)
@@ -226,7 +236,8 @@ module _ (ps : List Piece) (h : Ordered atStart ps) where
         edge-names ps h,
         returns-same ps,
         vertex-names ps h,
-        any-same (λ e. mem e (Rattle.model.specs.Names.firsts [] (verticesIn ps))) (λ e. mem e (verticesIn ps)) (λ e. mem-firsts e (verticesIn ps)) (edgesIn ps),
+        any-same (λ e. mem e (Rattle.model.specs.Names.firsts [] (verticesIn ps))) (λ e. mem e (verticesIn ps)) (λ e. mem-firsts e (verticesIn ps))
+            (edgesIn ps),
       )
 
 -- nothing is left of a limit and one more where the limit is passed

@@ -39,7 +39,8 @@ pub record Walked (b : Book) (s : Bytes) (vertices edges returned : List ℕ) (p
   pub return-names : Holds s returned (t .met .returned) (namesIn Returned (take i (textPieces s)))
   pub survey : surveyFrom b (t .survey) (take i (textPieces s)) (foundAt s place) ≡ surveyFrom b unseen [] (textPieces s)
 
-pub walked-start : (b : Book) (s : Bytes) (vertices edges returned : List ℕ) (m : Met) → Holds s vertices (m .vertices) [] → Holds s edges (m .edges) [] → Holds s returned (m .returned) [] → Walked b s vertices edges returned textStart 0 (record { survey = unseen; met = m })
+pub walked-start : (b : Book) (s : Bytes) (vertices edges returned : List ℕ) (m : Met) → Holds s vertices (m .vertices) [] → Holds s edges (m .edges) []
+    → Holds s returned (m .returned) [] → Walked b s vertices edges returned textStart 0 (record { survey = unseen; met = m })
 unfolding joined
 walked-start b s vertices edges returned m hv he hr = record { rest = refl; whole = refl; vertex-names = hv; edge-names = he; return-names = hr; survey = refl }
 
@@ -51,7 +52,8 @@ undeclared-fault w t e = rw e
 undeclared-stays : (b : Book) (t : Survey) (done ps : List Piece) → t .undeclared ≡ true → surveyFrom b t done ps .undeclared ≡ true
 undeclared-stays b t done ps e = ap (λ (x : Survey). x .undeclared) (survey-parts b t done ps) ∙ ap (λ x. pick x true (someWhere (undeclaredBy b) done ps)) e
 
-module _ (b : Book) (s : Bytes) (vertices edges returned : List ℕ) (place : Place) (i : ℕ) (t : Passed) (h : Walked b s vertices edges returned place i t) (got : PieceRead) (at : StepAt s place got) where
+module _ (b : Book) (s : Bytes) (vertices edges returned : List ℕ) (place : Place) (i : ℕ) (t : Passed) (h : Walked b s vertices edges returned place i t)
+    (got : PieceRead) (at : StepAt s place got) where
   pub walked-end : (w : Bool) → got ≡ read.None w → verdict w (t .survey) ≡ textFault b s
   unfolding surveyFrom
   walked-end w z =
@@ -72,7 +74,8 @@ module _ (b : Book) (s : Bytes) (vertices edges returned : List ℕ) (place : Pl
     pub walked-less : length (foundAt s (x .next)) < length (foundAt s place)
     walked-less = let k = ap length (step-list s place got at x z) in omega arith
 
-    listed-on : (w : Which) (table : List ℕ) (n : ℕ) → Holds s table n (namesIn w (take i (textPieces s)) ++ nameIn w piece) → Holds s table n (namesIn w (take (i + 1) (textPieces s)))
+    listed-on : (w : Which) (table : List ℕ) (n : ℕ) → Holds s table n (namesIn w (take i (textPieces s)) ++ nameIn w piece)
+        → Holds s table n (namesIn w (take (i + 1) (textPieces s)))
     listed-on w table n k = rw (further-done (textPieces s) i piece (foundAt s (x .next)) on, joined-end (nameIn w) (take i (textPieces s)) piece) k
 
     module _ (vertices′ edges′ returned′ : List ℕ) (r : Passed) (k : Behind b s (take i (textPieces s)) (t .survey) piece vertices′ edges′ returned′ r) where

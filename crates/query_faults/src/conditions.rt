@@ -29,7 +29,8 @@ use query_pieces::Demand;
 // Whether one of two names stands as a vertex in none of the i pieces before.
 fn is_unknown_pair(s: &[u8], table: &[u32], n: usize, i: usize, v: Part, u: Part) -> bool
     requires { ⌜ Holds (now s) (now table) n (namesIn Vertex (take i (textPieces (now s)))) ⌝ }
-    ensures { λ r. ⌜ r ≡ not (mem (nameAt (now (s .entry)) v) (namesIn Vertex (take i (textPieces (now (s .entry))))) && mem (nameAt (now (s .entry)) u) (namesIn Vertex (take i (textPieces (now (s .entry)))))) ⌝ }
+    ensures { λ r. ⌜ r ≡ not (mem (nameAt (now (s .entry)) v) (namesIn Vertex (take i (textPieces (now (s .entry)))))
+        && mem (nameAt (now (s .entry)) u) (namesIn Vertex (take i (textPieces (now (s .entry)))))) ⌝ }
 {
     if table::stands_before(s, table, n, i, Which::Vertex, v) {
         return !table::stands_before(s, table, n, i, Which::Vertex, u);
@@ -49,7 +50,8 @@ pub fn differ_seen(
     u: Part,
 ) -> Survey
     requires { ⌜ Known (now s) (now vertices) (now edges) met (take i (textPieces (now s))) ⌝ }
-    ensures { λ r. ⌜ ((b : Book) (rest : Pieces) → r ≡ surveyed b (take i (textPieces (now (s .entry)))) t (asks (differ (nameAt (now (s .entry)) v) (nameAt (now (s .entry)) u))) rest) ⌝ }
+    ensures { λ r. ⌜ ((b : Book) (rest : Pieces)
+        → r ≡ surveyed b (take i (textPieces (now (s .entry)))) t (asks (differ (nameAt (now (s .entry)) v) (nameAt (now (s .entry)) u))) rest) ⌝ }
 {
     let n = met.vertices;
     let unknown = is_unknown_pair(s, vertices, n, i, v, u);
@@ -78,7 +80,9 @@ pub fn demand_seen(
     d: Demand,
 ) -> Survey
     requires { ⌜ Fits (now book) (now words) counts × Known (now s) (now vertices) (now edges) met (take i (textPieces (now s))) ⌝ }
-    ensures { λ r. ⌜ ((rest : Pieces) → r ≡ surveyed (bookAt (now (book .entry)) (now (words .entry)) counts) (take i (textPieces (now (s .entry)))) t (asks (demand (nameAt (now (s .entry)) (d .subject)) (nameAt (now (s .entry)) (d .attribute)) (relationOf (d .relation)) (valueOf (now (s .entry)) (d .value)))) rest) ⌝ }
+    ensures { λ r. ⌜ ((rest : Pieces) → r ≡ surveyed (bookAt (now (book .entry)) (now (words .entry)) counts) (take i (textPieces (now (s .entry)))) t
+        (asks (demand (nameAt (now (s .entry)) (d .subject)) (nameAt (now (s .entry)) (d .attribute)) (relationOf (d .relation))
+        (valueOf (now (s .entry)) (d .value)))) rest) ⌝ }
 {
     let x = d.subject;
     let a = d.attribute;
@@ -121,7 +125,8 @@ pub fn return_seen(
     t: Survey,
     v: Part,
 ) -> Survey
-    requires { ⌜ Holds (now s) (now vertices) (met .vertices) (namesIn Vertex (take i (textPieces (now s)))) × Holds (now s) (now returned) (met .returned) (namesIn Returned (take i (textPieces (now s)))) ⌝ }
+    requires { ⌜ Holds (now s) (now vertices) (met .vertices) (namesIn Vertex (take i (textPieces (now s))))
+        × Holds (now s) (now returned) (met .returned) (namesIn Returned (take i (textPieces (now s)))) ⌝ }
     ensures { λ r. ⌜ ((b : Book) (rest : Pieces) → r ≡ surveyed b (take i (textPieces (now (s .entry)))) t (returns (nameAt (now (s .entry)) v)) rest) ⌝ }
 {
     let n = met.vertices;

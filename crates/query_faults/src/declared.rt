@@ -72,8 +72,10 @@ pub fn attr_seen(
     value: Value,
 ) -> AttrSeen
     requires { ⌜ Fits (now book) (now words) counts ⌝ }
-    ensures known { λ r. ⌜ r .known ≡ mem (nameAt (now (s .entry)) name) (attrNames (attrsOf owner (bookAt (now (book .entry)) (now (words .entry)) counts))) ⌝ }
-    ensures typed { λ r. ⌜ r .typed ≡ typed (attrsOf owner (bookAt (now (book .entry)) (now (words .entry)) counts)) (nameAt (now (s .entry)) name) (relationOf relation) (valueOf (now (s .entry)) value) ⌝ }
+    ensures known { λ r. ⌜ r .known ≡ mem (nameAt (now (s .entry)) name)
+        (attrNames (attrsOf owner (bookAt (now (book .entry)) (now (words .entry)) counts))) ⌝ }
+    ensures typed { λ r. ⌜ r .typed ≡ typed (attrsOf owner (bookAt (now (book .entry)) (now (words .entry)) counts)) (nameAt (now (s .entry)) name)
+        (relationOf relation) (valueOf (now (s .entry)) value) ⌝ }
 {
     let start = name.start;
     let length = name.length;

@@ -111,8 +111,10 @@ pub fn link_seen(
     l: Link,
 ) -> Survey
     requires { ⌜ Fits (now book) (now words) counts × Known (now s) (now vertices) (now edges) met (take i (textPieces (now s))) ⌝ }
-    ensures { λ r. ⌜ ((rest : Pieces) → (r ≡ surveyed (bookAt (now (book .entry)) (now (words .entry)) counts) (take i (textPieces (now (s .entry)))) t (goes (nameAt (now (s .entry)) (l .edge)) (nameAt (now (s .entry)) (l .label)) (nameAt (now (s .entry)) (l .vertex))) rest)
-        × (r ≡ surveyed (bookAt (now (book .entry)) (now (words .entry)) counts) (take i (textPieces (now (s .entry)))) t (comes (nameAt (now (s .entry)) (l .edge)) (nameAt (now (s .entry)) (l .label)) (nameAt (now (s .entry)) (l .vertex))) rest)) ⌝ }
+    ensures { λ r. ⌜ ((rest : Pieces) → (r ≡ surveyed (bookAt (now (book .entry)) (now (words .entry)) counts) (take i (textPieces (now (s .entry)))) t
+        (goes (nameAt (now (s .entry)) (l .edge)) (nameAt (now (s .entry)) (l .label)) (nameAt (now (s .entry)) (l .vertex))) rest)
+        × (r ≡ surveyed (bookAt (now (book .entry)) (now (words .entry)) counts) (take i (textPieces (now (s .entry)))) t
+        (comes (nameAt (now (s .entry)) (l .edge)) (nameAt (now (s .entry)) (l .label)) (nameAt (now (s .entry)) (l .vertex))) rest)) ⌝ }
 {
     let e = l.edge;
     let label = l.label;

@@ -24,7 +24,8 @@ use Rattle.book_tables.proofs.ListedLaws.{getD-listed}
 use Rattle.book_tables.proofs.NameLaws.{attr-names}
 use Rattle.model.specs.PlainData.{noPart, noEdge, noClause}
 use Rattle.putting.specs.Listing.{listing}
-use Rattle.query_writer.specs.Pieces.{vertexAt, edgeAt, vertexPiece, edgePiece, requirementPiece, conditionPiece, verticesText, edgesText, conditionsText, returnsText, patternText}
+use Rattle.query_writer.specs.Pieces.{vertexAt, edgeAt, vertexPiece, edgePiece, requirementPiece, conditionPiece, verticesText, edgesText}
+use Rattle.query_writer.specs.Pieces.{conditionsText, returnsText, patternText}
 use Rattle.query_writer.specs.Writable.{EdgeFits, ConditionFits, PatternFits, countLimits, Writable}
 
 -- Names by number: of a vertex, of an edge, of a label, of attributes.
@@ -59,7 +60,8 @@ module _ (book : Bytes) (words : List ℕ) (c : BookCounts) where
 
 module _ (book : Bytes) (words : List ℕ) (c : BookCounts) (q : Bytes) (p : Pattern) where
   -- An edge, a condition as they are written.
-  edge-same : (e : Edge) → EdgeFits (countLimits c p) e → edgePiece book words q (p .vertices) e ≡ edgeText (patternIn (bookAt book words c) q p) (edgeIn (bookAt book words c) q e)
+  edge-same : (e : Edge) → EdgeFits (countLimits c p) e
+      → edgePiece book words q (p .vertices) e ≡ edgeText (patternIn (bookAt book words c) q p) (edgeIn (bookAt book words c) q e)
   unfolding edgePiece edgeText edgeIn
   edge-same e f =
       let from = vertex-named (bookAt book words c) q p (e .from) (f .from) in
@@ -67,7 +69,8 @@ module _ (book : Bytes) (words : List ℕ) (c : BookCounts) (q : Bytes) (p : Pat
       let label = label-named book words c (e .label) (f .label) in
       cc
 
-  condition-same : (x : Condition) → ConditionFits (countLimits c p) x → conditionPiece book words q (p .vertices) (p .edges) x ≡ clauseText (patternIn (bookAt book words c) q p) (clauseIn (bookAt book words c) q x)
+  condition-same : (x : Condition) → ConditionFits (countLimits c p) x
+      → conditionPiece book words q (p .vertices) (p .edges) x ≡ clauseText (patternIn (bookAt book words c) q p) (clauseIn (bookAt book words c) q x)
   unfolding conditionPiece clauseText clauseIn requirementPiece
   condition-same (Excluded u v) f =
       let first = vertex-named (bookAt book words c) q p u (f .0) in
@@ -83,7 +86,8 @@ module _ (book : Bytes) (words : List ℕ) (c : BookCounts) (q : Bytes) (p : Pat
       cc
 
 -- Texts that are the same element by element.
-map-same : {A : Type 0} (f g : A → Bytes) (xs : List A) (d : A) (n : ℕ) → ((i : ℕ) → i < n → f (getD xs i d) ≡ g (getD xs i d)) → map f (take n xs) ≡ map g (take n xs)
+map-same : {A : Type 0} (f g : A → Bytes) (xs : List A) (d : A) (n : ℕ) → ((i : ℕ) → i < n → f (getD xs i d) ≡ g (getD xs i d))
+    → map f (take n xs) ≡ map g (take n xs)
 map-same f g xs d zero h = refl
 map-same f g [] d (suc n) h = refl
 map-same f g (x ∷ xs) d (suc n) h =
@@ -112,7 +116,8 @@ unfolding listing joinBy
 join-apart sep [] us h = rw (h refl)
 join-apart sep (t ∷ ts) us h = rw (each-listing sep us, each-apart sep ts us) (simp append-assoc)
 
-where-listing : {A : Type 0} (first next : Bytes) (f : A → Bytes) (xs : List A) → listing first next (map f xs) ≡ pick (isNil xs) [] (first ++ joinBy next (map f xs))
+where-listing : {A : Type 0} (first next : Bytes) (f : A → Bytes) (xs : List A)
+    → listing first next (map f xs) ≡ pick (isNil xs) [] (first ++ joinBy next (map f xs))
 unfolding listing joinBy isNil
 where-listing first next f [] = refl
 where-listing first next f (x ∷ xs) = simp append-assoc
@@ -128,7 +133,8 @@ module _ (book : Bytes) (words : List ℕ) (c : BookCounts) (q : Bytes) (p : Pat
   edges-same : map (edgePiece book words q (p .vertices)) (take (p .counts .edges) (p .edges))
       ≡ map (edgeText (patternIn (bookAt book words c) q p)) (map (edgeIn (bookAt book words c) q) (take (p .counts .edges) (p .edges)))
   edges-same =
-      map-same (edgePiece book words q (p .vertices)) (λ (e : Edge). edgeText (patternIn (bookAt book words c) q p) (edgeIn (bookAt book words c) q e)) (p .edges) noEdge (p .counts .edges)
+      map-same (edgePiece book words q (p .vertices)) (λ (e : Edge). edgeText (patternIn (bookAt book words c) q p) (edgeIn (bookAt book words c) q e))
+      (p .edges) noEdge (p .counts .edges)
       (λ i h. edge-same book words c q p (getD (p .edges) i noEdge) (w .pattern .edges .each i h))
       ∙ sym (map-map (edgeText (patternIn (bookAt book words c) q p)) (edgeIn (bookAt book words c) q) (take (p .counts .edges) (p .edges)))
 
@@ -139,7 +145,8 @@ module _ (book : Bytes) (words : List ℕ) (c : BookCounts) (q : Bytes) (p : Pat
   matches-same =
       let vs = take (p .counts .vertices) (p .vertices) in
       let es = take (p .counts .edges) (p .edges) in
-      let one : map (vertexPiece q) vs ≡ map (λ v. bytesOf "Match (" ++ v ++ bytesOf ")") (map (nameAt q) vs) = sym (map-map (λ v. bytesOf "Match (" ++ v ++ bytesOf ")") (nameAt q) vs) in
+      let one : map (vertexPiece q) vs ≡ map (λ v. bytesOf "Match (" ++ v ++ bytesOf ")") (map (nameAt q) vs) = sym
+      (map-map (λ v. bytesOf "Match (" ++ v ++ bytesOf ")") (nameAt q) vs) in
       let none : length (map (vertexPiece q) vs) ≡ 0 → map (edgePiece book words q (p .vertices)) es ≡ [] = λ h.
       let n : length vs ≡ min (p .counts .vertices) 8 = length-take (p .counts .vertices) (p .vertices) ∙ ap (min (p .counts .vertices)) all in
       let few : p .counts .vertices ≤ 8 = w .pattern .vertices in
@@ -149,11 +156,13 @@ module _ (book : Bytes) (words : List ℕ) (c : BookCounts) (q : Bytes) (p : Pat
       ∙ ap (λ (ts : List Bytes). joinBy (bytesOf " ") (ts ++ map (edgePiece book words q (p .vertices)) es)) one
       ∙ ap (λ (ts : List Bytes). joinBy (bytesOf " ") (map (λ v. bytesOf "Match (" ++ v ++ bytesOf ")") (map (nameAt q) vs) ++ ts)) edges-same
 
-  clauses-named : map (λ (x : ClauseData). clauseText (patternIn (bookAt book words c) q p) (clauseIn (bookAt book words c) q (x .condition))) (take (p .counts .clauses) (p .clauses))
+  clauses-named : map (λ (x : ClauseData). clauseText (patternIn (bookAt book words c) q p) (clauseIn (bookAt book words c) q (x .condition)))
+      (take (p .counts .clauses) (p .clauses))
       ≡ map (clauseText (patternIn (bookAt book words c) q p)) (patternIn (bookAt book words c) q p .clauses)
   unfolding patternIn
   clauses-named =
-      sym (map-map (clauseText (patternIn (bookAt book words c) q p)) (λ (x : ClauseData). clauseIn (bookAt book words c) q (x .condition)) (take (p .counts .clauses) (p .clauses)))
+      sym (map-map (clauseText (patternIn (bookAt book words c) q p)) (λ (x : ClauseData). clauseIn (bookAt book words c) q (x .condition))
+      (take (p .counts .clauses) (p .clauses)))
 
   conditions-same : conditionsText book words q (p .vertices) (p .edges) (p .clauses) (p .counts .clauses)
       ≡ pick (isNil (patternIn (bookAt book words c) q p .clauses)) []
@@ -162,7 +171,8 @@ module _ (book : Bytes) (words : List ℕ) (c : BookCounts) (q : Bytes) (p : Pat
   conditions-same =
       ap (listing (bytesOf " Where ") (bytesOf " AND "))
       (map-same (λ (x : ClauseData). conditionPiece book words q (p .vertices) (p .edges) (x .condition))
-      (λ (x : ClauseData). clauseText (patternIn (bookAt book words c) q p) (clauseIn (bookAt book words c) q (x .condition))) (p .clauses) noClause (p .counts .clauses)
+      (λ (x : ClauseData). clauseText (patternIn (bookAt book words c) q p) (clauseIn (bookAt book words c) q (x .condition))) (p .clauses) noClause
+      (p .counts .clauses)
       (λ i h. condition-same book words c q p (getD (p .clauses) i noClause .condition) (w .pattern .clauses .each i h))
       ∙ clauses-named)
       ∙ where-listing (bytesOf " Where ") (bytesOf " AND ") (clauseText (patternIn (bookAt book words c) q p)) (patternIn (bookAt book words c) q p .clauses)

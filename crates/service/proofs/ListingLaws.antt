@@ -70,7 +70,8 @@ module _ (b : Book) (p : WovenPattern) (woven : List ℕ) (returns : ℕ) (befor
     (found : RowsFound b p woven returns before after count full)
     (ids : List Identity) (identified : Identified p ids woven) (list : List Row) (all : AllRows (problemOf b p ids) list) where
   -- they do not fit
-  pub found-too-many : full ≡ true → _≡_ {A = RowsGiven} (pick (ltb (length before) (length list * returns)) (refusal 14 5 0) (accepted (record { rows = list; width = returns }))) (refusal 14 5 0)
+  pub found-too-many : full ≡ true → _≡_ {A = RowsGiven}
+      (pick (ltb (length before) (length list * returns)) (refusal 14 5 0) (accepted (record { rows = list; width = returns }))) (refusal 14 5 0)
   found-too-many e = rw (lt-ltb (length before) (length list * returns) (found .too-many ids identified e list all))
 
   -- they fit: the rows found are all rows
@@ -86,7 +87,8 @@ module _ (b : Book) (p : WovenPattern) (woven : List ℕ) (returns : ℕ) (befor
   found-words e = joined-flat list ∙ ap flat (found-all e) ∙ flat-rowsIn returns count after
 
   pub found-listed : full ≡ false → length after ≡ length before → (after′ : List ℕ) → after′ ≡ filled (count * returns) after
-      → Lists (pick (ltb (length before) (length list * returns)) (refusal 14 5 0) (accepted (record { rows = list; width = returns }))) (length before) after′ (answer.Count count returns)
+      → Lists (pick (ltb (length before) (length list * returns)) (refusal 14 5 0) (accepted (record { rows = list; width = returns })))
+      (length before) after′ (answer.Count count returns)
   unfolding listAnswer onAccept rowWords filled ones
   found-listed e l after′ f =
       let size : length (joined (λ row. row) list) ≡ count * returns = ap length (found-words e) ∙ length-take-le (count * returns) after (found .fits) in
@@ -99,11 +101,14 @@ module _ (b : Book) (p : WovenPattern) (woven : List ℕ) (returns : ℕ) (befor
 
 -- what the call of the list promises
 module _ (book rules query request : Bytes) (rows work rows′ work′ : List ℕ) (words table : List ℕ) (r : Ready)
-    (given : Prepared needed book rules query request words table (through needed (length work) book rules query request accepted) r) (cleared : work′ ≡ ones (length work)) where
-  called : (o : RowsGiven) (res : RowsListed) → through needed (length work) book rules query request (rowsOfTexts (length rows)) ≡ o → Lists o (length rows) rows′ res
+    (given : Prepared needed book rules query request words table (through needed (length work) book rules query request accepted) r)
+    (cleared : work′ ≡ ones (length work)) where
+  called : (o : RowsGiven) (res : RowsListed) → through needed (length work) book rules query request (rowsOfTexts (length rows)) ≡ o
+      → Lists o (length rows) rows′ res
       → ListCalled book rules query request rows work rows′ work′ res
   unfolding listService listFound through afterBook afterRules onAccept rowsOfTexts
-  called o res e h = let l = lists-as (listFound (length work) (length rows) book rules query request) o (length rows) rows′ res e h in record { answer = l .answer; rows-left = l .rows; cleared = cleared }
+  called o res e h = let l = lists-as (listFound (length work) (length rows) book rules query request) o (length rows) rows′ res e h in
+      record { answer = l .answer; rows-left = l .rows; cleared = cleared }
 
   pub list-refused : (x : RefusalData) → r .request .verdict ≡ Refused x → (res : RowsListed) → Lists (refused (refusalOf x)) (length rows) rows′ res
       → ListCalled book rules query request rows work rows′ work′ res

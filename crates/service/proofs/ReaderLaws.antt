@@ -76,7 +76,8 @@ module _ (work : ℕ) (book rules query request : Bytes) (words table : List ℕ
     unfolding rulesService through afterBook afterRules onAccept
     rules-is = refl
 
-    pub rules-counted : r .request .verdict ≡ Accepted → rulesAnswer (rules-answer.Counts (r .rules .categories) (r .rules .policies)) ≡ rulesService work book rules .answer
+    pub rules-counted : r .request .verdict ≡ Accepted
+        → rulesAnswer (rules-answer.Counts (r .rules .categories) (r .rules .policies)) ≡ rulesService work book rules .answer
     unfolding rulesAnswer rulesAt
     rules-counted e =
         let a = all-ready theRules work book rules query request of-rules words table r given e in
@@ -105,7 +106,8 @@ module _ (work : ℕ) (book rules query request : Bytes) (words table : List ℕ
     abbrev QuerySays : QueryRead → Type 0
     QuerySays q = (queryAnswer (bookOf (readBook book)) query q ≡ answer) × (q ≡ queryRead work book query)
 
-    pub query-refused : (x : RefusalData) → r .request .verdict ≡ Refused x → (p : PatternData) → p ≡ noPattern → QuerySays (record { verdict = r .request .verdict; pattern = p })
+    pub query-refused : (x : RefusalData) → r .request .verdict ≡ Refused x → (p : PatternData) → p ≡ noPattern
+        → QuerySays (record { verdict = r .request .verdict; pattern = p })
     unfolding queryAnswer verdictOf queryRead queryOutcome refusalData refusalOf
     query-refused x e p d =
         let is = query-is ∙ refused-through theQuery work book rules query request of-query words table r given x e in
@@ -118,14 +120,18 @@ module _ (work : ℕ) (book rules query request : Bytes) (words table : List ℕ
       pub query-asked : PatternAsked book words (r .book) query
       query-asked = pattern-asked book words (r .book) query (treeOf query) (all .rules-ready .fits) (all .query-read)
 
-      pub query-accepted-as : (p : PatternData) → PatternRead (bookAt book words (r .book)) (r .book) query p → QuerySays (record { verdict = r .request .verdict; pattern = p })
+      pub query-accepted-as : (p : PatternData) → PatternRead (bookAt book words (r .book)) (r .book) query p
+          → QuerySays (record { verdict = r .request .verdict; pattern = p })
       unfolding queryAnswer verdictOf queryRead queryOutcome bookOf
       query-accepted-as p read =
           let b = bookAt book words (r .book) in
           let is = query-is ∙ ready-through theQuery work book rules query request of-query words table r given all in
           let text = query-accepted b query (treeOf query) (all .query-read) .is-text in
-          let same : bookOf (readBook book) ≡ b = ap bookOf (all .rules-ready .book-read) in
-          (rw (e, same) (ap accepted (read .is (treeOf query) text) ∙ sym is), (λ i. record { verdict = e i; pattern = read .whole (treeOf query) text i }) ∙ sym (rw (is, same)))
+          let same : bookOf (readBook book) ≡ b = ap bookOf (all .rules-ready .book-read) in (
+            rw (e, same) (ap accepted (read .is (treeOf query) text) ∙ sym is),
+            (λ i. record { verdict = e i; pattern = read .whole (treeOf query) text i })
+                ∙ sym (rw (is, same)),
+          )
 
   -- the request reader
   module _ (given : Given theRequest) where
@@ -136,11 +142,13 @@ module _ (work : ℕ) (book rules query request : Bytes) (words table : List ℕ
     unfolding requestService through afterBook afterRules onAccept
     request-is = refl
 
-    pub request-answered : (requestAnswer request (r .request) ≡ requestService work book rules request .answer) × (r .request ≡ requestRead work book rules request)
+    pub request-answered : (requestAnswer request (r .request) ≡ requestService work book rules request .answer)
+        × (r .request ≡ requestRead work book rules request)
     unfolding requestAnswer verdictOf requestRead toldRequest slots refusalData refusalOf
     request-answered = go (r .request .verdict) refl
       where
-        go : (v : Verdict) → r .request .verdict ≡ v → (requestAnswer request (r .request) ≡ requestService work book rules request .answer) × (r .request ≡ requestRead work book rules request)
+        go : (v : Verdict) → r .request .verdict ≡ v
+            → (requestAnswer request (r .request) ≡ requestService work book rules request .answer) × (r .request ≡ requestRead work book rules request)
         go Accepted e =
             let all = all-ready theRequest work book rules query request of-request words table r given e in
             let a = all .request-ready in

@@ -86,7 +86,8 @@ module _ (work : ℕ) (text book rules query request : Bytes) (words table : Lis
         unfolding writerAnswer onAccept onto
         wrote-length n d = go (tooLong 2048 (length text) (length written)) fits-as (sym d ∙ writes .answer) (writes .text)
           where
-            go : (t : Bool) → through needed work book rules query request of-texts ≡ pick t (refusal 14 3 1) (accepted written) → Length n ≡ pick t TooLong (Length (length written))
+            go : (t : Bool) → through needed work book rules query request of-texts ≡ pick t (refusal 14 3 1) (accepted written)
+                → Length n ≡ pick t TooLong (Length (length written))
                 → text′ ≡ pick t text (written ++ drop (length written) text) → WriterSays text′ (answer.Length n)
             go true h d f = let z : _≡_ {A = ℕ} 0 1 = cc in absurd (omega arith)
             go false h d f = let same : n ≡ length written = cc in says _ h text′ (answer.Length n) (ap accepted same) f
@@ -95,7 +96,8 @@ module _ (work : ℕ) (text book rules query request : Bytes) (words table : Lis
         unfolding writerAnswer onAccept onto refusal refusalOf
         wrote-too-long d = go (tooLong 2048 (length text) (length written)) fits-as (sym d ∙ writes .answer) (writes .text)
           where
-            go : (t : Bool) → through needed work book rules query request of-texts ≡ pick t (refusal 14 3 1) (accepted written) → TooLong ≡ pick t TooLong (Length (length written))
+            go : (t : Bool) → through needed work book rules query request of-texts ≡ pick t (refusal 14 3 1) (accepted written)
+                → TooLong ≡ pick t TooLong (Length (length written))
                 → text′ ≡ pick t text (written ++ drop (length written) text) → WriterSays text′ (answer.Refused (record { number = 14; text = 3; line = 1 }))
             go true h d f = says _ h text′ (answer.Refused (record { number = 14; text = 3; line = 1 })) refl f
             go false h d f = let z : _≡_ {A = ℕ} 0 1 = cc in absurd (omega arith)

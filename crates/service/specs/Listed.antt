@@ -50,4 +50,10 @@ WovenListed b p woven returns words after r =
 abbrev pub TextsListed : Bytes → List ℕ → Bytes → Bytes → List ℕ → Bytes → Ready → ℕ → List ℕ → RowsListed → Type 0
 TextsListed book words query rules table request r room after res =
     (a : RequestReady true book words rules table request r)
-    → Lists (rowsOfTexts room (record { book = bookAt book words (r .book); rules = rulesAt rules table (r .rules); query = treeOf query; request = a .request })) room after res
+    → Lists (rowsOfTexts room (record {
+      book = bookAt book words (r .book);
+      rules = rulesAt rules table (r .rules);
+      query = treeOf query;
+      request =
+          a .request;
+    })) room after res

@@ -75,7 +75,8 @@ pub fn read_rules(book: &[u8], rules: &[u8], work: &mut [u32]) -> RulesRead
 
 // Reads a query and answers its pattern, or a refusal beside an empty one. The working memory ends all ones.
 pub fn read_query(book: &[u8], query: &[u8], work: &mut [u32]) -> QueryRead
-    ensures answer { λ r. ⌜ queryAnswer (bookOf (readBook (now (book .entry)))) (now (query .entry)) r ≡ queryService (length (now (work .entry))) (now (book .entry)) (now (query .entry)) .answer ⌝ }
+    ensures answer { λ r. ⌜ queryAnswer (bookOf (readBook (now (book .entry)))) (now (query .entry)) r
+        ≡ queryService (length (now (work .entry))) (now (book .entry)) (now (query .entry)) .answer ⌝ }
     ensures whole { λ r. ⌜ r ≡ queryRead (length (now (work .entry))) (now (book .entry)) (now (query .entry)) ⌝ }
     ensures cleared { λ _. ⌜ now (work .exit) ≡ ones (length (now (work .entry))) ⌝ }
 {
@@ -101,7 +102,8 @@ pub fn read_query(book: &[u8], query: &[u8], work: &mut [u32]) -> QueryRead
 
 // Reads a request and answers its category and its identities, or a refusal beside none. The working memory ends all ones.
 pub fn read_request(book: &[u8], rules: &[u8], request: &[u8], work: &mut [u32]) -> RequestRead
-    ensures answer { λ r. ⌜ requestAnswer (now (request .entry)) r ≡ requestService (length (now (work .entry))) (now (book .entry)) (now (rules .entry)) (now (request .entry)) .answer ⌝ }
+    ensures answer { λ r. ⌜ requestAnswer (now (request .entry)) r
+        ≡ requestService (length (now (work .entry))) (now (book .entry)) (now (rules .entry)) (now (request .entry)) .answer ⌝ }
     ensures whole { λ r. ⌜ r ≡ requestRead (length (now (work .entry))) (now (book .entry)) (now (rules .entry)) (now (request .entry)) ⌝ }
     ensures cleared { λ _. ⌜ now (work .exit) ≡ ones (length (now (work .entry))) ⌝ }
 {
@@ -125,8 +127,10 @@ pub fn write_query(
     text: &mut [u8],
     work: &mut [u32],
 ) -> QueryWritten
-    ensures answer { λ r. ⌜ writerAnswer r ≡ writerService (length (now (work .entry))) (now (text .entry)) (now (book .entry)) (now (rules .entry)) (now (query .entry)) .answer ⌝ }
-    ensures text { λ _. ⌜ now (text .exit) ≡ writerService (length (now (work .entry))) (now (text .entry)) (now (book .entry)) (now (rules .entry)) (now (query .entry)) .text ⌝ }
+    ensures answer { λ r. ⌜ writerAnswer r ≡ writerService (length (now (work .entry))) (now (text .entry)) (now (book .entry)) (now (rules .entry))
+        (now (query .entry)) .answer ⌝ }
+    ensures text { λ _. ⌜ now (text .exit) ≡ writerService (length (now (work .entry))) (now (text .entry)) (now (book .entry)) (now (rules .entry))
+        (now (query .entry)) .text ⌝ }
     ensures cleared { λ _. ⌜ now (work .exit) ≡ ones (length (now (work .entry))) ⌝ }
 {
     let needs = Needs {
@@ -166,7 +170,8 @@ pub fn list(
     rows: &mut [u32],
     work: &mut [u32],
 ) -> RowsListed
-    ensures { λ r. ⌜ ListCalled (now (book .entry)) (now (rules .entry)) (now (query .entry)) (now (request .entry)) (now (rows .entry)) (now (work .entry)) (now (rows .exit)) (now (work .exit)) r ⌝ }
+    ensures { λ r. ⌜ ListCalled (now (book .entry)) (now (rules .entry)) (now (query .entry)) (now (request .entry)) (now (rows .entry))
+        (now (work .entry)) (now (rows .exit)) (now (work .exit)) r ⌝ }
 {
     let needs = Needs {
         rules: true,

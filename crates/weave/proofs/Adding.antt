@@ -67,15 +67,20 @@ module _ (k base : ℕ) (p : PatternData) (numbers : List ℕ) (c : WovenCounts)
   -- what stands then
   module _ (old one two : List ℕ) (edges : EdgesAdded base k (p .edges) (p .counts .edges) numbers old one (c .edges))
       (clauses : ClausesAdded base k (p .clauses) (p .counts .clauses) numbers (c .edges) one two (c .exclusions + c .requirements)) where
-    edges-then : (new : List ℕ) → ((i : ℕ) → i < 120 → getD new i 0 ≡ getD two i 0) → (b : Book) (query rules : Bytes) → edgesAt b query rules new (c .edges + p .counts .edges)
-        ≡ edgesAt b query rules old (c .edges) ++ map (renumberedEdge numbers) (map (edgeIn b (drop base (textOf query rules k))) (take (p .counts .edges) (p .edges)))
+    edges-then : (new : List ℕ) → ((i : ℕ) → i < 120 → getD new i 0 ≡ getD two i 0) → (b : Book) (query rules : Bytes)
+        → edgesAt b query rules new (c .edges + p .counts .edges)
+        ≡ edgesAt b query rules old (c .edges) ++ map (renumberedEdge numbers)
+        (map (edgeIn b (drop base (textOf query rules k))) (take (p .counts .edges) (p .edges)))
     edges-then new kept b q r =
         let room = ready .room-edges in
-        edges-same b q r one new (c .edges + p .counts .edges) room (λ i l u. kept i (omega arith) ∙ clauses .kept i (inl (omega arith))) (λ i l u. kept i (omega arith) ∙ clauses .kept i (inl (omega arith)))
+        edges-same b q r one new (c .edges + p .counts .edges) room (λ i l u. kept i (omega arith) ∙ clauses .kept i (inl (omega arith)))
+        (λ i l u. kept i (omega arith) ∙ clauses .kept i (inl (omega arith)))
         ∙ edges .edges-are b q r
 
-    clauses-then : (new : List ℕ) → ((i : ℕ) → i < 408 → getD new i 0 ≡ getD two i 0) → (b : Book) (query rules : Bytes) → clausesAt b query rules new (c .exclusions + c .requirements + p .counts .clauses)
-        ≡ clausesAt b query rules old (c .exclusions + c .requirements) ++ map (renumberedClause numbers (c .edges)) (map (namedClause b (drop base (textOf query rules k))) (take (p .counts .clauses) (p .clauses)))
+    clauses-then : (new : List ℕ) → ((i : ℕ) → i < 408 → getD new i 0 ≡ getD two i 0) → (b : Book) (query rules : Bytes)
+        → clausesAt b query rules new (c .exclusions + c .requirements + p .counts .clauses)
+        ≡ clausesAt b query rules old (c .exclusions + c .requirements)
+        ++ map (renumberedClause numbers (c .edges)) (map (namedClause b (drop base (textOf query rules k))) (take (p .counts .clauses) (p .clauses)))
     clauses-then new kept b q r =
         let room = ready .room-clauses in
         let own = map (renumberedClause numbers (c .edges)) (map (namedClause b (drop base (textOf q r k))) (take (p .counts .clauses) (p .clauses))) in
@@ -83,12 +88,14 @@ module _ (k base : ℕ) (p : PatternData) (numbers : List ℕ) (c : WovenCounts)
         ∙ clauses .clauses-are b q r
         ∙ ap (λ z. z ++ own) (clauses-same b q r old one (c .exclusions + c .requirements) (λ i l u. edges .kept i (inr (omega arith))))
 
-    pub rest-of-query : (new : List ℕ) → ReturnsAdded (p .returns) (p .counts .returns) numbers two new → k ≡ 0 → RestAdded k base p numbers old new c (p .counts .returns)
+    pub rest-of-query : (new : List ℕ) → ReturnsAdded (p .returns) (p .counts .returns) numbers two new → k ≡ 0
+        → RestAdded k base p numbers old new c (p .counts .returns)
     rest-of-query new returns e = record {
       edges-are = edges-then new (λ i h. returns .kept i (inl (omega arith)));
       clauses-are = clauses-then new (λ i h. returns .kept i (inl (omega arith)));
       few-returns = ready .fits .few-returns;
-      returns-are = returns .returns-are ∙ ap (λ t. pick t (map (λ v. getD numbers v 0) (take (p .counts .returns) (p .returns))) (returnsAt old (c .returns))) (sym (eq-eqb k 0 e));
+      returns-are = returns .returns-are ∙ ap (λ t. pick t (map (λ v. getD numbers v 0) (take (p .counts .returns) (p .returns)))
+          (returnsAt old (c .returns))) (sym (eq-eqb k 0 e));
       vertices-kept = λ i h. returns .kept i (inl (omega arith)) ∙ clauses .kept i (inl (omega arith)) ∙ edges .kept i (inl h);
     }
 
@@ -99,6 +106,7 @@ module _ (k base : ℕ) (p : PatternData) (numbers : List ℕ) (c : WovenCounts)
           edges-are = edges-then two (λ i h. refl);
           clauses-are = clauses-then two (λ i h. refl);
           few-returns = few;
-          returns-are = returns-same old two (c .returns) (λ i l u. clauses .kept i (inr (omega arith)) ∙ edges .kept i (inr (omega arith))) ∙ ap (λ t. pick t (map (λ v. getD numbers v 0) (take (p .counts .returns) (p .returns))) (returnsAt old (c .returns))) (sym (ne-eqb k 0 e));
+          returns-are = returns-same old two (c .returns) (λ i l u. clauses .kept i (inr (omega arith)) ∙ edges .kept i (inr (omega arith)))
+              ∙ ap (λ t. pick t (map (λ v. getD numbers v 0) (take (p .counts .returns) (p .returns))) (returnsAt old (c .returns))) (sym (ne-eqb k 0 e));
           vertices-kept = λ i h. clauses .kept i (inl (omega arith)) ∙ edges .kept i (inl h);
         }

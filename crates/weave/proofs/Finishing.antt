@@ -59,7 +59,8 @@ edges-low b q r words c ranged i h =
     let n = length-vertices q r words (c .vertices) in
     (omega (arith, here .0, ap (λ (x : Edge). x .from) e), omega (arith, here .1, ap (λ (x : Edge). x .to) e))
 
-module _ (q r : Bytes) (ids : List Identity) (old new : List ℕ) (c : WovenCounts) (mask : ℕ) (kept : Kept q r old c) (given : IdentitiesGiven q r ids old new (c .vertices) mask) where
+module _ (q r : Bytes) (ids : List Identity) (old new : List ℕ) (c : WovenCounts) (mask : ℕ) (kept : Kept q r old c)
+    (given : IdentitiesGiven q r ids old new (c .vertices) mask) where
   pub pattern-stays : (b : Book) → wovenAt b q r new c ≡ wovenAt b q r old c
   unfolding wovenAt
   pattern-stays b =
@@ -86,11 +87,13 @@ module _ (q r : Bytes) (ids : List Identity) (old new : List ℕ) (c : WovenCoun
   unfolding withIdentity wovenAt markedBelow
   marks-with b =
       ap (λ n. keep (λ v. any (identifiedBy (getD (verticesAt q r new (c .vertices)) v noVertex)) ids) (below n)) (length-vertices q r new (c .vertices))
-      ∙ keep-same _ (bit mask) (below (c .vertices)) (λ v i. let h = below-e (c .vertices) v i in ap (λ z. any (identifiedBy z) ids) (sym (vertex-is v h)) ∙ sym (given .marked v h))
+      ∙ keep-same _ (bit mask) (below (c .vertices))
+      (λ v i. let h = below-e (c .vertices) v i in ap (λ z. any (identifiedBy z) ids) (sym (vertex-is v h)) ∙ sym (given .marked v h))
 
   -- identities change no edge
   pub low-stays : EdgesLow old (c .edges) (c .vertices) → EdgesLow new (c .edges) (c .vertices)
-  low-stays low i h = let few = kept .edges in subst (λ w. (fromOf w < c .vertices) × (toOf w < c .vertices)) (sym (given .kept (24 + i) (inl (omega arith)))) (low i h)
+  low-stays low i h = let few = kept .edges in
+      subst (λ w. (fromOf w < c .vertices) × (toOf w < c .vertices)) (sym (given .kept (24 + i) (inl (omega arith)))) (low i h)
 
   vertex-count : (b : Book) → length (wovenAt b q r new c .vertices) ≡ c .vertices
   unfolding wovenAt
@@ -101,17 +104,20 @@ module _ (q r : Bytes) (ids : List Identity) (old new : List ℕ) (c : WovenCoun
     unfolding tied
     tied-are b = ap₂ (λ n vs. stepsAlong n (wovenAt b q r new c) vs) (vertex-count b) (marks-with b) ∙ sym (ties b q r c refl refl)
 
-    all-tied : (b : Book) → all (λ v. memℕ v (tied (wovenAt b q r new c) ids)) (below (length (wovenAt b q r new c .vertices))) ≡ all (bit out) (below (c .vertices))
+    all-tied : (b : Book) → all (λ v. memℕ v (tied (wovenAt b q r new c) ids)) (below (length (wovenAt b q r new c .vertices)))
+        ≡ all (bit out) (below (c .vertices))
     all-tied b =
         ap (λ n. all (λ v. memℕ v (tied (wovenAt b q r new c) ids)) (below n)) (vertex-count b)
-        ∙ all-same (λ v. memℕ v (tied (wovenAt b q r new c) ids)) (bit out) (below (c .vertices)) (λ v i. ap (memℕ v) (tied-are b) ∙ marked-mem (c .vertices) out v (below-e (c .vertices) v i))
+        ∙ all-same (λ v. memℕ v (tied (wovenAt b q r new c) ids)) (bit out) (below (c .vertices))
+        (λ v i. ap (memℕ v) (tied-are b) ∙ marked-mem (c .vertices) out v (below-e (c .vertices) v i))
 
     pub finished : (answer : Bool) → answer ≡ all (bit out) (below (c .vertices)) → Finished q r ids old new c answer
     unfolding wovenFault lowest
     finished answer e = record {
       same-pattern = pattern-stays;
       given = λ b v h. given .given v h ∙ ap (identityOf ids) (woven-vertex b v h);
-      fault = λ b. ap₂ (λ x y. pick {A = Maybe ℕ} x (just 12) (pick (not y) (just 13) nothing)) (ap wovenTooMany (pattern-stays b) ∙ kept-within b q r old c kept) (all-tied b ∙ sym e) ∙ by-answer answer;
+      fault = λ b. ap₂ (λ x y. pick {A = Maybe ℕ} x (just 12) (pick (not y) (just 13) nothing))
+          (ap wovenTooMany (pattern-stays b) ∙ kept-within b q r old c kept) (all-tied b ∙ sym e) ∙ by-answer answer;
     }
       where
         by-answer : (t : Bool) → pick {A = Maybe ℕ} false (just 12) (pick (not t) (just 13) nothing) ≡ pick t nothing (just 13)

@@ -61,8 +61,10 @@ identities-say p ids woven once given = record {
       let vertex = getD (p .vertices) v noVertex in
       let by = identified-by ids vertex n once in
       same-test (all (keepsIdentity p v n) ids) (identityLets w n)
-      (λ t. lets-i w n (subst (λ z. Identifies z n) (sym (given v l)) (by .1 (λ d i e. asks-e p v n d (all-e (keepsIdentity p v n) ids t d i) (identified-exactly vertex d .1 e)))))
-      (λ t. all-i (keepsIdentity p v n) ids (λ d i. asks-i p v n d (λ e. by .0 (subst (λ z. Identifies z n) (given v l) (lets-e w n t)) d i (identified-exactly vertex d .0 e))));
+      (λ t. lets-i w n (subst (λ z. Identifies z n) (sym (given v l))
+      (by .1 (λ d i e. asks-e p v n d (all-e (keepsIdentity p v n) ids t d i) (identified-exactly vertex d .1 e)))))
+      (λ t. all-i (keepsIdentity p v n) ids (λ d i. asks-i p v n d
+      (λ e. by .0 (subst (λ z. Identifies z n) (given v l) (lets-e w n t)) d i (identified-exactly vertex d .0 e))));
 }
 
 -- a word that lets both nodes 0 and 1 be taken says none
@@ -86,13 +88,15 @@ module _ (p : WovenPattern) (ids : List Identity) (woven : List ℕ) (d : Identi
 
   -- no identity is the vertex's: all nodes may be taken
   unnamed-lets : (T named → ⊥) → (n : ℕ) → n < 256 → T (identityLets word n)
-  unnamed-lets none n m = subst T (d .each v l n m) (all-i (keepsIdentity p v n) ids (λ i h. asks-i p v n i (λ e. absurd (none (any-i (identifiedBy (vertexOf p v)) ids i h e)))))
+  unnamed-lets none n m = subst T (d .each v l n m)
+      (all-i (keepsIdentity p v n) ids (λ i h. asks-i p v n i (λ e. absurd (none (any-i (identifiedBy (vertexOf p v)) ids i h e)))))
 
   -- some identity is the vertex's: not all nodes may be taken
   named-lets : T named → word ≡ noNode → ⊥
   named-lets h e =
       let (i, m, q) = any-e (identifiedBy (vertexOf p v)) ids h in
-      let asked : (n : ℕ) → n < 256 → n ≡ i .node = λ n s. asks-e p v n i (all-e (keepsIdentity p v n) ids (subst T (sym (d .each v l n s)) (lets-all word n e)) i m) q in
+      let asked : (n : ℕ) → n < 256 → n ≡ i .node = λ n s. asks-e p v n i
+      (all-e (keepsIdentity p v n) ids (subst T (sym (d .each v l n s)) (lets-all word n e)) i m) q in
       let zero = asked 0 (omega arith) in let one = asked 1 (omega arith) in omega arith
 
   -- THEOREM: the vertices with an identity are the actor vertices of an identified name
@@ -100,5 +104,6 @@ module _ (p : WovenPattern) (ids : List Identity) (woven : List ℕ) (d : Identi
   unfolding hasIdentity
   identity-agrees = same-test _ _
       (λ t. either (passes-or-not named) (λ h. h)
-      (λ h. let u = unnamed-lets (λ g. not-both named g h) in absurd (not-both (eqb word noNode) (eq→eqb word noNode (lets-both word (u 0 (omega arith)) (u 1 (omega arith)))) t)))
+      (λ h. let u = unnamed-lets (λ g. not-both named g h) in
+      absurd (not-both (eqb word noNode) (eq→eqb word noNode (lets-both word (u 0 (omega arith)) (u 1 (omega arith)))) t)))
       (λ t. either (passes-or-not (eqb word noNode)) (λ h. absurd (named-lets t (eqb→eq word noNode h))) (λ h. h))

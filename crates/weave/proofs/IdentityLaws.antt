@@ -30,13 +30,16 @@ abbrev nobody : Identity
 nobody = record { actor = []; node = 0 }
 
 -- the first identity of a vertex is the one that counts
-pub identity-found : (ids : List Identity) (v : WovenVertex) (i : ℕ) → i < length ids → ((j : ℕ) → j < i → identifiedBy v (getD ids j nobody) ≡ false) → identifiedBy v (getD ids i nobody) ≡ true → identityOf ids v ≡ just (getD ids i nobody .node)
+pub identity-found : (ids : List Identity) (v : WovenVertex) (i : ℕ) → i < length ids → ((j : ℕ) → j < i → identifiedBy v (getD ids j nobody) ≡ false)
+    → identifiedBy v (getD ids i nobody) ≡ true → identityOf ids v ≡ just (getD ids i nobody .node)
 unfolding identityOf
 identity-found [] v i h f t = absurd (omega arith)
 identity-found (x ∷ ids) v zero h f t = rw t
-identity-found (x ∷ ids) v (suc i) h f t = ap (λ z. pick z (just (x .node)) (identityOf ids v)) (f 0 (omega arith)) ∙ identity-found ids v i (omega arith) (λ j l. f (suc j) (omega arith)) t
+identity-found (x ∷ ids) v (suc i) h f t = ap (λ z. pick z (just (x .node)) (identityOf ids v)) (f 0 (omega arith))
+    ∙ identity-found ids v i (omega arith) (λ j l. f (suc j) (omega arith)) t
 
-pub identity-none : (ids : List Identity) (v : WovenVertex) → ((j : ℕ) → j < length ids → identifiedBy v (getD ids j nobody) ≡ false) → identityOf ids v ≡ nothing
+pub identity-none : (ids : List Identity) (v : WovenVertex) → ((j : ℕ) → j < length ids → identifiedBy v (getD ids j nobody) ≡ false)
+    → identityOf ids v ≡ nothing
 unfolding identityOf
 identity-none [] v f = refl
 identity-none (x ∷ ids) v f = ap (λ z. pick z (just (x .node)) (identityOf ids v)) (f 0 (omega arith)) ∙ identity-none ids v (λ j l. f (suc j) (omega arith))
@@ -47,7 +50,8 @@ unfolding identityOf any
 named-some [] v n e = cc
 named-some (x ∷ ids) v n e = go (identifiedBy v x) (named-some ids v n) e
   where
-    go : (t : Bool) → (identityOf ids v ≡ just n → any (identifiedBy v) ids ≡ true) → pick t (just (x .node)) (identityOf ids v) ≡ just n → pick t true (any (identifiedBy v) ids) ≡ true
+    go : (t : Bool) → (identityOf ids v ≡ just n → any (identifiedBy v) ids ≡ true) → pick t (just (x .node)) (identityOf ids v) ≡ just n
+        → pick t true (any (identifiedBy v) ids) ≡ true
     go true f e = refl
     go false f e = f e
 
@@ -56,7 +60,8 @@ unfolding identityOf any
 named-none [] v e = refl
 named-none (x ∷ ids) v e = go (identifiedBy v x) (named-none ids v) e
   where
-    go : (t : Bool) → (identityOf ids v ≡ nothing → any (identifiedBy v) ids ≡ false) → pick t (just (x .node)) (identityOf ids v) ≡ nothing → pick t true (any (identifiedBy v) ids) ≡ false
+    go : (t : Bool) → (identityOf ids v ≡ nothing → any (identifiedBy v) ids ≡ false) → pick t (just (x .node)) (identityOf ids v) ≡ nothing
+        → pick t true (any (identifiedBy v) ids) ≡ false
     go true f e = cc
     go false f e = f e
 
@@ -76,18 +81,23 @@ module _ (request : Bytes) (identities : List IdentityData) (count : ℕ) (few :
   at-identity : (i : ℕ) → i < count → getD (identitiesIn request identities count) i nobody ≡ identityIn request (getD identities i noIdentity)
   at-identity i h =
       let l = length-take-le count identities few in
-      getD-map (identityIn request) (take count identities) i noIdentity nobody (omega arith) ∙ ap (identityIn request) (getD-take count identities i noIdentity h)
+      getD-map (identityIn request) (take count identities) i noIdentity nobody (omega arith)
+      ∙ ap (identityIn request) (getD-take count identities i noIdentity h)
 
-  pub found-in : (v : WovenVertex) (i : ℕ) → i < count → ((j : ℕ) → j < i → identifiedBy v (identityIn request (getD identities j noIdentity)) ≡ false) → identifiedBy v (identityIn request (getD identities i noIdentity)) ≡ true
+  pub found-in : (v : WovenVertex) (i : ℕ) → i < count → ((j : ℕ) → j < i → identifiedBy v (identityIn request (getD identities j noIdentity)) ≡ false)
+      → identifiedBy v (identityIn request (getD identities i noIdentity)) ≡ true
       → identityOf (identitiesIn request identities count) v ≡ just (getD identities i noIdentity .node)
   unfolding identityIn
   found-in v i h f t =
       let ids = identitiesIn request identities count in
-      identity-found ids v i (omega (arith, length-identities)) (λ j l. ap (identifiedBy v) (at-identity j (omega arith)) ∙ f j l) (ap (identifiedBy v) (at-identity i h) ∙ t) ∙ ap (λ (z : Identity). just (z .node)) (at-identity i h)
+      identity-found ids v i (omega (arith, length-identities)) (λ j l. ap (identifiedBy v) (at-identity j (omega arith)) ∙ f j l)
+      (ap (identifiedBy v) (at-identity i h) ∙ t) ∙ ap (λ (z : Identity). just (z .node)) (at-identity i h)
 
-  pub none-in : (v : WovenVertex) → ((j : ℕ) → j < count → identifiedBy v (identityIn request (getD identities j noIdentity)) ≡ false) → identityOf (identitiesIn request identities count) v ≡ nothing
+  pub none-in : (v : WovenVertex) → ((j : ℕ) → j < count → identifiedBy v (identityIn request (getD identities j noIdentity)) ≡ false)
+      → identityOf (identitiesIn request identities count) v ≡ nothing
   unfolding identityIn
-  none-in v f = identity-none (identitiesIn request identities count) v (λ j l. let m : j < count = omega (arith, length-identities) in ap (identifiedBy v) (at-identity j m) ∙ f j m)
+  none-in v f = identity-none (identitiesIn request identities count) v
+      (λ j l. let m : j < count = omega (arith, length-identities) in ap (identifiedBy v) (at-identity j m) ∙ f j m)
 
   -- an own vertex has no identity
   pub own-has-none : (q r : Bytes) (w : ℕ) → (w % 2 ≡ 1 → ⊥) → identityOf (identitiesIn request identities count) (vertexOfWord q r w) ≡ nothing
@@ -106,27 +116,37 @@ pub record GivenSoFar (q r : Bytes) (ids : List Identity) (old words : List ℕ)
   pub none-above : (v : ℕ) → i ≤ v → bit mask v ≡ false
 
 pub given-start : (q r : Bytes) (ids : List Identity) (old : List ℕ) → GivenSoFar q r ids old old 0 0
-given-start q r ids old = record { size = refl; given = record { given = λ v h. absurd (omega arith); marked = λ v h. absurd (omega arith); kept = λ i z. refl }; none-above = λ v h. bit-zero v }
+given-start q r ids old = record {
+  size = refl;
+  given =
+      record { given = λ v h. absurd (omega arith); marked = λ v h. absurd (omega arith); kept = λ i z. refl };
+  none-above = λ v h. bit-zero v;
+}
 
-pub given-more : (q r : Bytes) (ids : List Identity) (old words : List ℕ) (i mask node : ℕ) → GivenSoFar q r ids old words i mask → i < 24 → wovenWords ≤ length words → nodeIn node ≡ identityOf ids (vertexOfWord q r (getD words i 0))
+pub given-more : (q r : Bytes) (ids : List Identity) (old words : List ℕ) (i mask node : ℕ) → GivenSoFar q r ids old words i mask → i < 24
+    → wovenWords ≤ length words → nodeIn node ≡ identityOf ids (vertexOfWord q r (getD words i 0))
     → GivenSoFar q r ids old (set words (412 + i) node) (i + 1) (pick (not (eqb node noNode)) (with mask i) mask)
 unfolding identityAt
 given-more q r ids old words i mask node so-far low size said =
     let t = not (eqb node noNode) in
-    let own : nodeIn node ≡ identityOf ids (vertexOfWord q r (getD old i 0)) = said ∙ ap (λ w. identityOf ids (vertexOfWord q r w)) (so-far .given .kept i (inl (omega arith))) in
+    let own : nodeIn node ≡ identityOf ids (vertexOfWord q r (getD old i 0)) = said
+    ∙ ap (λ w. identityOf ids (vertexOfWord q r w)) (so-far .given .kept i (inl (omega arith))) in
     record {
       size = length-set words (412 + i) node ∙ so-far .size;
       given = record {
         given = λ v h. either (equal-or-not v i)
-            (λ e. subst (λ v. nodeIn (getD (set words (412 + i) node) (412 + v) 0) ≡ identityOf ids (vertexOfWord q r (getD old v 0))) (sym e) (ap nodeIn (getD-set-same words (412 + i) node 0 (omega arith)) ∙ own))
+            (λ e. subst (λ v. nodeIn (getD (set words (412 + i) node) (412 + v) 0) ≡ identityOf ids (vertexOfWord q r (getD old v 0))) (sym e)
+            (ap nodeIn (getD-set-same words (412 + i) node 0 (omega arith)) ∙ own))
             (λ e. ap nodeIn (getD-set-other words (412 + i) (412 + v) node 0 (λ z. e .1 (omega arith))) ∙ so-far .given .given v (below-of v (e .1) h));
         marked = λ v h. bit-mark-if t mask i v ∙ either (equal-or-not v i)
             (λ e. subst (λ v. bit mask v || (eqb v i && t) ≡ any (identifiedBy (vertexOfWord q r (getD old v 0))) ids) (sym e)
-            (ap₂ (λ x y. x || (y && t)) (so-far .none-above i (omega arith)) (eq-eqb i i refl) ∙ sym (named-by-node ids (vertexOfWord q r (getD old i 0)) node own)))
+            (ap₂ (λ x y. x || (y && t)) (so-far .none-above i (omega arith)) (eq-eqb i i refl)
+            ∙ sym (named-by-node ids (vertexOfWord q r (getD old i 0)) node own)))
             (λ e. ap (λ y. bit mask v || (y && t)) (ne-eqb v i (e .1)) ∙ unmarked t (bit mask v) ∙ so-far .given .marked v (below-of v (e .1) h));
         kept = λ j z. getD-set-other words (412 + i) j node 0 (λ e. ⊎-elim (λ y. omega arith) (λ y. omega arith) z) ∙ so-far .given .kept j z;
       };
-      none-above = λ v h. bit-mark-if t mask i v ∙ ap₂ (λ x y. x || (y && t)) (so-far .none-above v (omega arith)) (ne-eqb v i (λ e. omega arith)) ∙ unmarked t false;
+      none-above = λ v h. bit-mark-if t mask i v ∙ ap₂ (λ x y. x || (y && t)) (so-far .none-above v (omega arith)) (ne-eqb v i (λ e. omega arith))
+          ∙ unmarked t false;
     }
   where
     below-of : (v : ℕ) → v ≢ i → v < i + 1 → v < i
@@ -137,7 +157,8 @@ given-more q r ids old words i mask node so-far low size said =
     unmarked t false = refl
 
 -- an actor vertex's name was compared
-pub compared : (q r request : Bytes) (w : ℕ) (x : IdentityData) (name : Bytes) (t : Bool) → w % 2 ≡ 1 → name ≡ partOf request (x .actor .start) (x .actor .length) → t ≡ same (nameOf q r (w / 2)) name
+pub compared : (q r request : Bytes) (w : ℕ) (x : IdentityData) (name : Bytes) (t : Bool) → w % 2 ≡ 1
+    → name ≡ partOf request (x .actor .start) (x .actor .length) → t ≡ same (nameOf q r (w / 2)) name
     → identifiedBy (vertexOfWord q r w) (identityIn request x) ≡ t
 unfolding identifiedBy identityIn nameAt
 compared q r request w x name t e n s = ap (λ v. identifiedBy v (identityIn request x)) (of-actor q r w e) ∙ ap (same (nameOf q r (w / 2))) (sym n) ∙ sym s

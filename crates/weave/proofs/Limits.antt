@@ -56,9 +56,16 @@ too-many-is-passed p t =
     (λ c. inr (ltb→lt 48 (length (exclusions (p .clauses))) c))))
     (λ d. inr (ltb→lt 48 (length (requirements (p .clauses))) d))
 
-pub within-limits : (p : WovenPattern) → length (p .vertices) ≤ 24 → length (p .edges) ≤ 48 → length (exclusions (p .clauses)) ≤ 48 → length (requirements (p .clauses)) ≤ 48 → wovenTooMany p ≡ false
+pub within-limits : (p : WovenPattern) → length (p .vertices) ≤ 24 → length (p .edges) ≤ 48 → length (exclusions (p .clauses)) ≤ 48
+    → length (requirements (p .clauses)) ≤ 48 → wovenTooMany p ≡ false
 unfolding wovenTooMany
-within-limits p a b c d = rw (le-ltb 24 (length (p .vertices)) a, le-ltb 48 (length (p .edges)) b, le-ltb 48 (length (exclusions (p .clauses))) c, le-ltb 48 (length (requirements (p .clauses))) d)
+within-limits p a b c d = rw (
+  le-ltb 24 (length (p .vertices)) a,
+  le-ltb 48 (length (p .edges)) b,
+  le-ltb 48 (length (exclusions (p .clauses))) c,
+  le-ltb
+      48 (length (requirements (p .clauses))) d,
+)
 
 keep-grow : {A : Type 0} (p : A → Bool) (xs ys : List A) → length (keep p xs) ≤ length (keep p (xs ++ ys))
 keep-grow p xs ys = omega (arith, length-append (keep p xs) (keep p ys), ap length (keep-append p xs ys))
@@ -79,4 +86,5 @@ passed-stays k actors p woven h =
 
 -- the woven pattern of some texts passes a limit: so does that of the texts with more behind them
 pub weave-stays-too-many : (asked more : List Asked) → Each Sound (asked ++ more) → T (wovenTooMany (weave asked)) → T (wovenTooMany (weave (asked ++ more)))
-weave-stays-too-many asked more sound t = passed-is-too-many (weave (asked ++ more)) (weave-keeps Passed (λ k actors p woven r h. passed-stays k actors p woven h) asked more sound (too-many-is-passed (weave asked) t))
+weave-stays-too-many asked more sound t = passed-is-too-many (weave (asked ++ more))
+    (weave-keeps Passed (λ k actors p woven r h. passed-stays k actors p woven h) asked more sound (too-many-is-passed (weave asked) t))

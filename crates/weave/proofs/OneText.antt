@@ -69,7 +69,8 @@ unfolding keep
 keep-map p f [] e = refl
 keep-map p f (x ∷ xs) e = ap (λ t. length (pick t (f x ∷ keep p (map f xs)) (keep p (map f xs)))) (e x) ∙ go (p x) (keep-map p f xs e)
   where
-    go : (b : Bool) → length (keep p (map f xs)) ≡ length (keep p xs) → length (pick b (f x ∷ keep p (map f xs)) (keep p (map f xs))) ≡ length (pick b (x ∷ keep p xs) (keep p xs))
+    go : (b : Bool) → length (keep p (map f xs)) ≡ length (keep p xs)
+        → length (pick b (f x ∷ keep p (map f xs)) (keep p (map f xs))) ≡ length (pick b (x ∷ keep p xs) (keep p xs))
     go true h = ap suc h
     go false h = h
 
@@ -127,11 +128,13 @@ EndsBelow n e = (e .from < n) × (e .to < n)
 
 module _ (q r : Bytes) (actors : List Bytes) (k base : ℕ) (p : PatternData) (old : List ℕ) (c : WovenCounts) where
   -- a limit that is passed, by what is counted
-  pub passed-by-vertices : 24 < length (firstVertices (verticesAt q r old (c .vertices)) (verticesOf q r actors k base p)) → (b : Book) → T (wovenTooMany (grown q r actors k base p old c b))
+  pub passed-by-vertices : 24 < length (firstVertices (verticesAt q r old (c .vertices)) (verticesOf q r actors k base p)) → (b : Book)
+      → T (wovenTooMany (grown q r actors k base p old c b))
   unfolding oneMore moreVertices underNames patternIn wovenAt
   passed-by-vertices h b = passed-is-too-many (grown q r actors k base p old c b) (inl (inl (inl h)))
 
-  pub passed-by-edges : length (p .edges) ≡ 16 → p .counts .edges ≤ 16 → 48 < c .edges + p .counts .edges → (b : Book) → T (wovenTooMany (grown q r actors k base p old c b))
+  pub passed-by-edges : length (p .edges) ≡ 16 → p .counts .edges ≤ 16 → 48 < c .edges + p .counts .edges → (b : Book)
+      → T (wovenTooMany (grown q r actors k base p old c b))
   unfolding oneMore patternIn wovenAt
   passed-by-edges whole few h b =
       let own = underOwn q r actors k base p b in
@@ -147,7 +150,8 @@ module _ (q r : Bytes) (actors : List Bytes) (k base : ℕ) (p : PatternData) (o
       )))))
 
   -- the exclusions of the woven pattern with the text
-  exclusions-then : (b : Book) (n : ℕ) → ExclusionsCounted (p .clauses) (p .counts .clauses) n → Kept q r old c → length (exclusions (grown q r actors k base p old c b .clauses)) ≡ c .exclusions + n
+  exclusions-then : (b : Book) (n : ℕ) → ExclusionsCounted (p .clauses) (p .counts .clauses) n → Kept q r old c
+      → length (exclusions (grown q r actors k base p old c b .clauses)) ≡ c .exclusions + n
   unfolding oneMore patternIn wovenAt
   exclusions-then b n counted kept =
       let own = underOwn q r actors k base p b in
@@ -156,9 +160,11 @@ module _ (q r : Bytes) (actors : List Bytes) (k base : ℕ) (p : PatternData) (o
       let cs = map (namedClause b (textFrom q r k base)) (take (p .counts .clauses) (p .clauses)) in
       let before = clausesAt b q r old (c .exclusions + c .requirements) in
       ap length (keep-append isExcluded before (map f cs)) ∙ length-append (exclusions before) (exclusions (map f cs))
-      ∙ ap₂ (λ x y. x + y) (kept .counted b) (keep-map isExcluded f cs (moved-excluded vs own (length (edgesAt b q r old (c .edges)))) ∙ counted .exactly b (textFrom q r k base))
+      ∙ ap₂ (λ x y. x + y) (kept .counted b) (keep-map isExcluded f cs (moved-excluded vs own (length (edgesAt b q r old (c .edges))))
+      ∙ counted .exactly b (textFrom q r k base))
 
-  clauses-count : (b : Book) → length (take (p .counts .clauses) (p .clauses)) ≡ p .counts .clauses → length (grown q r actors k base p old c b .clauses) ≡ c .exclusions + c .requirements + p .counts .clauses
+  clauses-count : (b : Book) → length (take (p .counts .clauses) (p .clauses)) ≡ p .counts .clauses
+      → length (grown q r actors k base p old c b .clauses) ≡ c .exclusions + c .requirements + p .counts .clauses
   unfolding oneMore patternIn wovenAt
   clauses-count b whole =
       let own = underOwn q r actors k base p b in
@@ -166,7 +172,14 @@ module _ (q r : Bytes) (actors : List Bytes) (k base : ℕ) (p : PatternData) (o
       let f = movedClause vs own (length (edgesAt b q r old (c .edges))) in
       let cs = map (namedClause b (textFrom q r k base)) (take (p .counts .clauses) (p .clauses)) in
       let before = clausesAt b q r old (c .exclusions + c .requirements) in
-      omega (arith, length-append before (map f cs), length-clauses b q r old (c .exclusions + c .requirements), length-map f cs, length-map (namedClause b (textFrom q r k base)) (take (p .counts .clauses) (p .clauses)))
+      omega (
+        arith,
+        length-append before (map f cs),
+        length-clauses b q r old (c .exclusions + c .requirements),
+        length-map f cs,
+        length-map
+            (namedClause b (textFrom q r k base)) (take (p .counts .clauses) (p .clauses)),
+      )
 
   module _ (n : ℕ) (counted : ExclusionsCounted (p .clauses) (p .counts .clauses) n) (kept : Kept q r old c) where
     pub passed-by-exclusions : 48 < c .exclusions + n → (b : Book) → T (wovenTooMany (grown q r actors k base p old c b))
@@ -175,10 +188,12 @@ module _ (q r : Bytes) (actors : List Bytes) (k base : ℕ) (p : PatternData) (o
     pub passed-by-requirements : 48 < c .requirements + (p .counts .clauses - n) → (b : Book) → T (wovenTooMany (grown q r actors k base p old c b))
     passed-by-requirements h b =
         let cs = grown q r actors k base p old c b .clauses in
-        passed-is-too-many (grown q r actors k base p old c b) (inr (omega (arith, exclusions-then b n counted kept, clauses-count b (counted .all), keep-both isExcluded cs, counted .some)))
+        passed-is-too-many (grown q r actors k base p old c b)
+        (inr (omega (arith, exclusions-then b n counted kept, clauses-count b (counted .all), keep-both isExcluded cs, counted .some)))
 
 -- the text's vertices are woven
-module _ (q r : Bytes) (actors : List Bytes) (k base : ℕ) (p : PatternData) (old one : List ℕ) (c : WovenCounts) (numbered : Numbers) (fits : PatternFits base p) (few : numbered .count ≤ 24)
+module _ (q r : Bytes) (actors : List Bytes) (k base : ℕ) (p : PatternData) (old one : List ℕ) (c : WovenCounts) (numbered : Numbers)
+    (fits : PatternFits base p) (few : numbered .count ≤ 24)
     (added : VerticesAdded q r (verticesOf q r actors k base p) (p .counts .vertices) old one (c .vertices) numbered) where
   -- the numbers that were found are the woven ones
   number-is : (b : Book) (i : ℕ) → i < p .counts .vertices
@@ -196,18 +211,26 @@ module _ (q r : Bytes) (actors : List Bytes) (k base : ℕ) (p : PatternData) (o
   edges-moved : (b : Book) → let es = map (edgeIn b (textFrom q r k base)) (take (p .counts .edges) (p .edges)) in
       map (renumberedEdge (numbered .numbers)) es ≡ map (movedEdge (verticesThen q r actors k base p old c b) (underOwn q r actors k base p b)) es
   unfolding renumberedEdge movedEdge edgeIn
-  edges-moved b = map-each (EndsBelow (p .counts .vertices)) (renumberedEdge (numbered .numbers)) (movedEdge (verticesThen q r actors k base p old c b) (underOwn q r actors k base p b)) (map (edgeIn b (textFrom q r k base)) (take (p .counts .edges) (p .edges)))
-      (each-map (λ (e : EdgeData). (e .from < p .counts .vertices) × (e .to < p .counts .vertices)) (EndsBelow (p .counts .vertices)) (edgeIn b (textFrom q r k base)) (take (p .counts .edges) (p .edges)) (λ e h. h)
-      (each-take (λ (e : EdgeData). (e .from < p .counts .vertices) × (e .to < p .counts .vertices)) noEdge (p .edges) (p .counts .edges) (λ i h. (fits .edges i h .from, fits .edges i h .to))))
+  edges-moved b = map-each (EndsBelow (p .counts .vertices)) (renumberedEdge (numbered .numbers))
+      (movedEdge (verticesThen q r actors k base p old c b) (underOwn q r actors k base p b))
+      (map (edgeIn b (textFrom q r k base)) (take (p .counts .edges) (p .edges)))
+      (each-map (λ (e : EdgeData). (e .from < p .counts .vertices) × (e .to < p .counts .vertices)) (EndsBelow (p .counts .vertices))
+      (edgeIn b (textFrom q r k base)) (take (p .counts .edges) (p .edges)) (λ e h. h)
+      (each-take (λ (e : EdgeData). (e .from < p .counts .vertices) × (e .to < p .counts .vertices)) noEdge (p .edges) (p .counts .edges)
+      (λ i h. (fits .edges i h .from, fits .edges i h .to))))
       (λ (e : Edge) h. λ i. record { name = e .name; label = e .label; from = number-is b (e .from) (h .0) i; to = number-is b (e .to) (h .1) i })
 
   clauses-moved : (b : Book) (n : ℕ) → let cs = map (namedClause b (textFrom q r k base)) (take (p .counts .clauses) (p .clauses)) in
       map (renumberedClause (numbered .numbers) n) cs ≡ map (movedClause (verticesThen q r actors k base p old c b) (underOwn q r actors k base p b) n) cs
   unfolding renumberedClause movedClause
-  clauses-moved b n = map-each (ClauseWithin (p .counts .vertices) (p .counts .edges)) (renumberedClause (numbered .numbers) n) (movedClause (verticesThen q r actors k base p old c b) (underOwn q r actors k base p b) n) (map (namedClause b (textFrom q r k base)) (take (p .counts .clauses) (p .clauses)))
-      (each-map (λ (x : ClauseData). ConditionFits base (p .counts .vertices) (p .counts .edges) (x .condition)) (ClauseWithin (p .counts .vertices) (p .counts .edges)) (namedClause b (textFrom q r k base)) (take (p .counts .clauses) (p .clauses))
+  clauses-moved b n = map-each (ClauseWithin (p .counts .vertices) (p .counts .edges)) (renumberedClause (numbered .numbers) n)
+      (movedClause (verticesThen q r actors k base p old c b) (underOwn q r actors k base p b) n)
+      (map (namedClause b (textFrom q r k base)) (take (p .counts .clauses) (p .clauses)))
+      (each-map (λ (x : ClauseData). ConditionFits base (p .counts .vertices) (p .counts .edges) (x .condition))
+      (ClauseWithin (p .counts .vertices) (p .counts .edges)) (namedClause b (textFrom q r k base)) (take (p .counts .clauses) (p .clauses))
       (λ x h. condition-within b (textFrom q r k base) base (p .counts .vertices) (p .counts .edges) (x .condition) h)
-      (each-take (λ (x : ClauseData). ConditionFits base (p .counts .vertices) (p .counts .edges) (x .condition)) noClause (p .clauses) (p .counts .clauses) (fits .clauses)))
+      (each-take (λ (x : ClauseData). ConditionFits base (p .counts .vertices) (p .counts .edges) (x .condition)) noClause (p .clauses)
+      (p .counts .clauses) (fits .clauses)))
       each-one
     where
       each-one : (x : Clause) → ClauseWithin (p .counts .vertices) (p .counts .edges) x
@@ -218,36 +241,66 @@ module _ (q r : Bytes) (actors : List Bytes) (k base : ℕ) (p : PatternData) (o
 
   returns-moved : (b : Book) → map (λ v. getD (numbered .numbers) v 0) (take (p .counts .returns) (p .returns))
       ≡ map (moved (verticesThen q r actors k base p old c b) (underOwn q r actors k base p b)) (take (p .counts .returns) (p .returns))
-  returns-moved b = map-each (λ v. v < p .counts .vertices) (λ v. getD (numbered .numbers) v 0) (moved (verticesThen q r actors k base p old c b) (underOwn q r actors k base p b)) (take (p .counts .returns) (p .returns)) (each-take (λ v. v < p .counts .vertices) 0 (p .returns) (p .counts .returns) (fits .returns)) (number-is b)
+  returns-moved b = map-each (λ v. v < p .counts .vertices) (λ v. getD (numbered .numbers) v 0)
+      (moved (verticesThen q r actors k base p old c b) (underOwn q r actors k base p b)) (take (p .counts .returns) (p .returns))
+      (each-take (λ v. v < p .counts .vertices) 0 (p .returns) (p .counts .returns) (fits .returns)) (number-is b)
 
   -- and so are its edges, clauses and Return vertices
-  module _ (new : List ℕ) (out n : ℕ) (rest : RestAdded k base p (numbered .numbers) one new c out) (counted : ExclusionsCounted (p .clauses) (p .counts .clauses) n) (kept : Kept q r old c) where
+  module _ (new : List ℕ) (out n : ℕ) (rest : RestAdded k base p (numbered .numbers) one new c out)
+      (counted : ExclusionsCounted (p .clauses) (p .counts .clauses) n) (kept : Kept q r old c) where
     sums : c .exclusions + n + (c .requirements + (p .counts .clauses - n)) ≡ c .exclusions + c .requirements + p .counts .clauses
     sums = omega (arith, counted .some)
 
     clauses-all : (b : Book) → clausesAt b q r new (c .exclusions + n + (c .requirements + (p .counts .clauses - n)))
-        ≡ clausesAt b q r old (c .exclusions + c .requirements) ++ map (renumberedClause (numbered .numbers) (c .edges)) (map (namedClause b (textFrom q r k base)) (take (p .counts .clauses) (p .clauses)))
+        ≡ clausesAt b q r old (c .exclusions + c .requirements)
+        ++ map (renumberedClause (numbered .numbers) (c .edges)) (map (namedClause b (textFrom q r k base)) (take (p .counts .clauses) (p .clauses)))
     clauses-all b =
         ap (clausesAt b q r new) sums ∙ rest .clauses-are b q r
-        ∙ ap (λ z. z ++ map (renumberedClause (numbered .numbers) (c .edges)) (map (namedClause b (textFrom q r k base)) (take (p .counts .clauses) (p .clauses)))) (clauses-same b q r old one (c .exclusions + c .requirements) (λ i l u. added .kept i (inr (omega arith))))
+        ∙ ap (λ z. z ++ map (renumberedClause (numbered .numbers) (c .edges))
+        (map (namedClause b (textFrom q r k base)) (take (p .counts .clauses) (p .clauses))))
+        (clauses-same b q r old one (c .exclusions + c .requirements) (λ i l u. added .kept i (inr (omega arith))))
 
-    exclusions-counted : (b : Book) → length (keep isExcluded (clausesAt b q r new (c .exclusions + n + (c .requirements + (p .counts .clauses - n))))) ≡ c .exclusions + n
+    exclusions-counted : (b : Book) → length (keep isExcluded (clausesAt b q r new (c .exclusions + n + (c .requirements + (p .counts .clauses - n)))))
+        ≡ c .exclusions + n
     exclusions-counted b =
         let f = renumberedClause (numbered .numbers) (c .edges) in
         let cs = map (namedClause b (textFrom q r k base)) (take (p .counts .clauses) (p .clauses)) in
         let before = clausesAt b q r old (c .exclusions + c .requirements) in
-        ap (λ z. length (keep isExcluded z)) (clauses-all b) ∙ ap length (keep-append isExcluded before (map f cs)) ∙ length-append (exclusions before) (exclusions (map f cs))
-        ∙ ap₂ (λ x y. x + y) (kept .counted b) (keep-map isExcluded f cs (renumbered-excluded (numbered .numbers) (c .edges)) ∙ counted .exactly b (textFrom q r k base))
+        ap (λ z. length (keep isExcluded z)) (clauses-all b) ∙ ap length (keep-append isExcluded before (map f cs))
+        ∙ length-append (exclusions before) (exclusions (map f cs))
+        ∙ ap₂ (λ x y. x + y) (kept .counted b) (keep-map isExcluded f cs (renumbered-excluded (numbered .numbers) (c .edges))
+        ∙ counted .exactly b (textFrom q r k base))
 
     pub text-woven : wovenWords ≤ length new → c .edges + p .counts .edges ≤ 48 → c .exclusions + n ≤ 48 → c .requirements + (p .counts .clauses - n) ≤ 48
-        → TextAdded q r actors k base p old new c (Woven (record { vertices = numbered .count; edges = c .edges + p .counts .edges; exclusions = c .exclusions + n; requirements = c .requirements + (p .counts .clauses - n); returns = out }))
+        → TextAdded q r actors k base p old new c
+        (Woven (record {
+          vertices = numbered .count;
+          edges = c .edges + p .counts .edges;
+          exclusions = c .exclusions
+              + n;
+          requirements = c .requirements + (p .counts .clauses - n);
+          returns = out;
+        }))
     unfolding oneMore moreVertices underNames patternIn wovenAt
     text-woven size few-edges few-exclusions few-requirements = (
-      record { room = size; vertices = few; edges = few-edges; exclusions = few-exclusions; requirements = few-requirements; returns = rest .few-returns; counted = exclusions-counted },
+      record {
+        room = size;
+        vertices = few;
+        edges = few-edges;
+        exclusions = few-exclusions;
+        requirements = few-requirements;
+        returns = rest .few-returns;
+        counted = exclusions-counted;
+      },
       λ b.
           let vertices = vertices-same q r one new (numbered .count) (λ i h. rest .vertices-kept i (omega arith)) ∙ added .vertices few in
-          let edges = rest .edges-are b q r ∙ ap₂ (λ x y. x ++ y) (edges-same b q r old one (c .edges) (kept .edges) (λ i l u. added .kept i (inr (omega arith))) (λ i l u. added .kept i (inr (omega arith)))) (edges-moved b) in
-          let clauses = clauses-all b ∙ ap (λ z. clausesAt b q r old (c .exclusions + c .requirements) ++ z) (ap (λ m. map (renumberedClause (numbered .numbers) m) (map (namedClause b (textFrom q r k base)) (take (p .counts .clauses) (p .clauses)))) (sym (length-edges b q r old (c .edges))) ∙ clauses-moved b (length (edgesAt b q r old (c .edges)))) in
-          let returns = rest .returns-are ∙ ap₂ (pick (eqb k 0)) (returns-moved b) (returns-same old one (c .returns) (λ i l u. added .kept i (inr (omega arith)))) in
+          let edges = rest .edges-are b q r ∙ ap₂ (λ x y. x ++ y)
+          (edges-same b q r old one (c .edges) (kept .edges) (λ i l u. added .kept i (inr (omega arith))) (λ i l u. added .kept i (inr (omega arith))))
+          (edges-moved b) in
+          let clauses = clauses-all b ∙ ap (λ z. clausesAt b q r old (c .exclusions + c .requirements) ++ z)
+          (ap (λ m. map (renumberedClause (numbered .numbers) m) (map (namedClause b (textFrom q r k base)) (take (p .counts .clauses) (p .clauses))))
+          (sym (length-edges b q r old (c .edges))) ∙ clauses-moved b (length (edgesAt b q r old (c .edges)))) in
+          let returns = rest .returns-are ∙ ap₂ (pick (eqb k 0)) (returns-moved b)
+          (returns-same old one (c .returns) (λ i l u. added .kept i (inr (omega arith)))) in
           λ i. record { vertices = vertices i; edges = edges i; clauses = clauses i; returns = returns i },
     )

@@ -54,15 +54,22 @@ module _ (text : Bytes) (size : ℕ) where
   clause-in-front : (b : Book) (x : Condition) → ConditionWithin size x → clauseIn b (take size text) x ≡ clauseIn b text x
   unfolding clauseIn
   clause-in-front b (Excluded u v) h = refl
-  clause-in-front b (OfVertex v x) h = ap (vertexHas v (getD (attrNames (b .vattrs)) (x .attribute) []) (relationOf (x .relation))) (value-in-front (x .value) h)
+  clause-in-front b (OfVertex v x) h = ap (vertexHas v (getD (attrNames (b .vattrs)) (x .attribute) []) (relationOf (x .relation)))
+      (value-in-front (x .value) h)
   clause-in-front b (OfEdge e x) h = ap (edgeHas e (getD (attrNames (b .eattrs)) (x .attribute) []) (relationOf (x .relation))) (value-in-front (x .value) h)
 
   pub pattern-in-front : (b : Book) (p : PatternData) → PartsWithin size p → patternIn b (take size text) p ≡ patternIn b text p
   unfolding patternIn edgeIn
   pattern-in-front b p within =
-      let vertices = map-each (λ (n : Part). n .start + n .length ≤ size) (nameAt (take size text)) (nameAt text) (take (p .counts .vertices) (p .vertices)) (each-take (λ (n : Part). n .start + n .length ≤ size) noPart (p .vertices) (p .counts .vertices) (within .vertices)) name-in-front in
-      let edges = map-each (λ (e : Edge). e .name .start + e .name .length ≤ size) (edgeIn b (take size text)) (edgeIn b text) (take (p .counts .edges) (p .edges)) (each-take (λ (e : Edge). e .name .start + e .name .length ≤ size) noEdge (p .edges) (p .counts .edges) (within .edges))
+      let vertices = map-each (λ (n : Part). n .start + n .length ≤ size) (nameAt (take size text)) (nameAt text)
+      (take (p .counts .vertices) (p .vertices))
+      (each-take (λ (n : Part). n .start + n .length ≤ size) noPart (p .vertices) (p .counts .vertices) (within .vertices)) name-in-front in
+      let edges = map-each (λ (e : Edge). e .name .start + e .name .length ≤ size) (edgeIn b (take size text)) (edgeIn b text)
+      (take (p .counts .edges) (p .edges)) (each-take (λ (e : Edge). e .name .start + e .name .length ≤ size) noEdge (p .edges) (p .counts .edges)
+      (within .edges))
       (λ e h. λ i. record { name = name-in-front (e .name) h i; label = getD (b .labels) (e .label) []; from = e .from; to = e .to }) in
-      let clauses = map-each (λ (x : Clause). ConditionWithin size (x .condition)) (λ (x : Clause). clauseIn b (take size text) (x .condition)) (λ (x : Clause). clauseIn b text (x .condition)) (take (p .counts .clauses) (p .clauses))
-      (each-take (λ (x : Clause). ConditionWithin size (x .condition)) noClause (p .clauses) (p .counts .clauses) (within .clauses)) (λ x h. clause-in-front b (x .condition) h) in
+      let clauses = map-each (λ (x : Clause). ConditionWithin size (x .condition)) (λ (x : Clause). clauseIn b (take size text) (x .condition))
+      (λ (x : Clause). clauseIn b text (x .condition)) (take (p .counts .clauses) (p .clauses))
+      (each-take (λ (x : Clause). ConditionWithin size (x .condition)) noClause (p .clauses) (p .counts .clauses) (within .clauses))
+      (λ x h. clause-in-front b (x .condition) h) in
       λ i. record { vertices = vertices i; edges = edges i; clauses = clauses i; returns = take (p .counts .returns) (p .returns) }

@@ -46,27 +46,36 @@ within-more v e n m p q (vertexHas x a r z) h = omega arith
 within-more v e n m p q (edgeHas x a r z) h = omega arith
 
 -- a vertex of a text has a woven number
-pub moved-below : (own : WovenPattern) (vs : List WovenVertex) (i : ℕ) → i < length (own .vertices) → moved (firstVertices vs (own .vertices)) own i < length (firstVertices vs (own .vertices))
+pub moved-below : (own : WovenPattern) (vs : List WovenVertex) (i : ℕ) → i < length (own .vertices)
+    → moved (firstVertices vs (own .vertices)) own i < length (firstVertices vs (own .vertices))
 unfolding moved
-moved-below own vs i h = at-vertex (firstVertices vs (own .vertices)) (getD (own .vertices) i noVertex) (first-vertices-i vs (own .vertices) (getD (own .vertices) i noVertex) (getD-in (own .vertices) i noVertex h)) .0
+moved-below own vs i h = at-vertex (firstVertices vs (own .vertices)) (getD (own .vertices) i noVertex)
+    (first-vertices-i vs (own .vertices) (getD (own .vertices) i noVertex) (getD-in (own .vertices) i noVertex h)) .0
 
 -- the edges and clauses of a text, moved to woven numbers
 module _ (own : WovenPattern) (ranged : Ranged own) (ws : List WovenVertex) (m : ℕ) where
-  moved-edges : let vs = firstVertices ws (own .vertices) in Each (λ (e : Edge). (e .from < length vs) × (e .to < length vs)) (map (movedEdge vs own) (own .edges))
+  moved-edges : let vs = firstVertices ws (own .vertices) in
+      Each (λ (e : Edge). (e .from < length vs) × (e .to < length vs)) (map (movedEdge vs own) (own .edges))
   unfolding movedEdge
-  moved-edges = each-map _ _ (movedEdge (firstVertices ws (own .vertices)) own) (own .edges) (λ e h. (moved-below own ws (e .from) (h .0), moved-below own ws (e .to) (h .1))) (ranged .edges)
+  moved-edges = each-map _ _ (movedEdge (firstVertices ws (own .vertices)) own) (own .edges)
+      (λ e h. (moved-below own ws (e .from) (h .0), moved-below own ws (e .to) (h .1))) (ranged .edges)
 
-  moved-clauses : let vs = firstVertices ws (own .vertices) in Each (ClauseWithin (length vs) (m + length (own .edges))) (map (movedClause vs own m) (own .clauses))
+  moved-clauses : let vs = firstVertices ws (own .vertices) in
+      Each (ClauseWithin (length vs) (m + length (own .edges))) (map (movedClause vs own m) (own .clauses))
   unfolding movedClause
-  moved-clauses = each-map (ClauseWithin (length (own .vertices)) (length (own .edges))) (ClauseWithin (length (firstVertices ws (own .vertices))) (m + length (own .edges))) (movedClause (firstVertices ws (own .vertices)) own m) (own .clauses) one (ranged .clauses)
+  moved-clauses = each-map (ClauseWithin (length (own .vertices)) (length (own .edges)))
+      (ClauseWithin (length (firstVertices ws (own .vertices))) (m + length (own .edges))) (movedClause (firstVertices ws (own .vertices)) own m)
+      (own .clauses) one (ranged .clauses)
     where
-      one : (c : Clause) → ClauseWithin (length (own .vertices)) (length (own .edges)) c → ClauseWithin (length (firstVertices ws (own .vertices))) (m + length (own .edges)) (movedClause (firstVertices ws (own .vertices)) own m c)
+      one : (c : Clause) → ClauseWithin (length (own .vertices)) (length (own .edges)) c
+          → ClauseWithin (length (firstVertices ws (own .vertices))) (m + length (own .edges)) (movedClause (firstVertices ws (own .vertices)) own m c)
       one (excluded u v) h = (moved-below own ws u (h .0), moved-below own ws v (h .1))
       one (vertexHas v a r x) h = moved-below own ws v h
       one (edgeHas e a r x) h = omega arith
 
   moved-returns : let vs = firstVertices ws (own .vertices) in Each (λ v. v < length vs) (map (moved vs own) (own .returns))
-  moved-returns = each-map _ (λ v. v < length (firstVertices ws (own .vertices))) (moved (firstVertices ws (own .vertices)) own) (own .returns) (moved-below own ws) (ranged .returns)
+  moved-returns = each-map _ (λ v. v < length (firstVertices ws (own .vertices))) (moved (firstVertices ws (own .vertices)) own) (own .returns)
+      (moved-below own ws) (ranged .returns)
 
 -- one text more keeps numbers in range
 pub one-more-ranged : (k : ℕ) (actors : List Bytes) (p : Pattern) (woven : WovenPattern) → Ranged p → Ranged woven → Ranged (oneMore k actors p woven)
@@ -84,11 +93,14 @@ one-more-ranged k actors p woven h g =
     let all : length (woven .edges ++ edges) ≡ m + length edges = length-append (woven .edges) edges in
     let count : m + length (p .edges) ≡ length (woven .edges ++ edges) = omega arith in
     record {
-      edges = each-append _ (woven .edges) edges (each-weaken (λ (e : Edge). (e .from < n) × (e .to < n)) _ (woven .edges) (λ e r. (omega arith, omega arith)) (g .edges)) (moved-edges own ranged (woven .vertices) m);
+      edges = each-append _ (woven .edges) edges
+          (each-weaken (λ (e : Edge). (e .from < n) × (e .to < n)) _ (woven .edges) (λ e r. (omega arith, omega arith)) (g .edges))
+          (moved-edges own ranged (woven .vertices) m);
       clauses = each-append _ (woven .clauses) clauses
           (each-weaken (ClauseWithin n m) _ (woven .clauses) (within-more n m (length vs) (length (woven .edges ++ edges)) grown (omega arith)) (g .clauses))
           (subst (λ z. Each (ClauseWithin (length vs) z) clauses) count (moved-clauses own ranged (woven .vertices) m));
-      returns = either-returns _ _ _ (eqb k 0) (moved-returns own ranged (woven .vertices) m) (each-weaken (λ v. v < n) _ (woven .returns) (λ v l. omega arith) (g .returns));
+      returns = either-returns _ _ _ (eqb k 0) (moved-returns own ranged (woven .vertices) m)
+          (each-weaken (λ v. v < n) _ (woven .returns) (λ v l. omega arith) (g .returns));
     }
   where
     either-returns : (P : ℕ → Type 0) (xs ys : List ℕ) (b : Bool) → Each P xs → Each P ys → Each P (pick b xs ys)
@@ -128,7 +140,9 @@ module _ (q : QueryText) (declared : Named q) where
   condition-within (differ v u) h = (below-vertices v (h .0), below-vertices u (h .1))
   condition-within (demand x a r z) h = go (mem x (vertexNames q)) refl
     where
-      go : (t : Bool) → mem x (vertexNames q) ≡ t → ClauseWithin (length (vertexNames q)) (length (edgeNames q)) (pick t (vertexHas (place x (vertexNames q)) a r z) (edgeHas (place x (edgeNames q)) a r z))
+      go : (t : Bool) → mem x (vertexNames q) ≡ t
+          → ClauseWithin (length (vertexNames q)) (length (edgeNames q))
+          (pick t (vertexHas (place x (vertexNames q)) a r z) (edgeHas (place x (edgeNames q)) a r z))
       go true e = below-vertices x (mem-e x (vertexNames q) (subst T (sym e) tt))
       go false e = at-place (edgeNames q) x (⊎-elim (λ i. i) (λ i. absurd (subst T e (mem-i x (vertexNames q) i))) h) .0
 
@@ -136,11 +150,14 @@ module _ (q : QueryText) (declared : Named q) where
   unfolding patternOf conditionsOf edgeOf
   pattern-ranged = record {
     edges = each-map (λ e. e ∈ edgesOf q) _ (edgeOf (vertexNames q)) (edgesOf q) ends (each-i _ (edgesOf q) (λ e i. i));
-    clauses = subst (λ n. Each (ClauseWithin (length (vertexNames q)) n) (map (clauseOf (vertexNames q) (edgeNames q)) (conditionsOf q))) edge-count (each-map (λ c. c ∈ conditionsOf q) _ (clauseOf (vertexNames q) (edgeNames q)) (conditionsOf q) clause (each-i _ (conditionsOf q) (λ c i. i)));
-    returns = each-map (λ v. v ∈ q .returns) _ (λ v. place v (vertexNames q)) (q .returns) (λ v i. below-vertices v (declared .returns v i)) (each-i _ (q .returns) (λ v i. i));
+    clauses = subst (λ n. Each (ClauseWithin (length (vertexNames q)) n) (map (clauseOf (vertexNames q) (edgeNames q)) (conditionsOf q))) edge-count
+        (each-map (λ c. c ∈ conditionsOf q) _ (clauseOf (vertexNames q) (edgeNames q)) (conditionsOf q) clause (each-i _ (conditionsOf q) (λ c i. i)));
+    returns = each-map (λ v. v ∈ q .returns) _ (λ v. place v (vertexNames q)) (q .returns) (λ v i. below-vertices v (declared .returns v i))
+        (each-i _ (q .returns) (λ v i. i));
   }
     where
-      ends : (e : ChainEdge) → e ∈ edgesOf q → (edgeOf (vertexNames q) e .from < length (vertexNames q)) × (edgeOf (vertexNames q) e .to < length (vertexNames q))
+      ends : (e : ChainEdge) → e ∈ edgesOf q → (edgeOf (vertexNames q) e .from < length (vertexNames q))
+          × (edgeOf (vertexNames q) e .to < length (vertexNames q))
       ends e i = let r = edge-in e i in (below-vertices (e .from) (r .0), below-vertices (e .to) (r .1))
 
       clause : (c : Condition) → c ∈ conditionsOf q → ClauseWithin (length (vertexNames q)) (length (edgeNames q)) (clauseOf (vertexNames q) (edgeNames q) c)
@@ -154,7 +171,8 @@ woven-ranged asked h = weave-ranged asked (each-i Sound asked (λ a i. pattern-r
 module _ (p : WovenPattern) (ranged : Ranged p) where
   pub ends-within : (e : ℕ) → e < length (p .edges) → (edgeAt p e .from < length (p .vertices)) × (edgeAt p e .to < length (p .vertices))
   unfolding edgeAt
-  ends-within e h = each-e (λ (e : Edge). (e .from < length (p .vertices)) × (e .to < length (p .vertices))) (p .edges) (ranged .edges) _ (getD-in (p .edges) e _ h)
+  ends-within e h = each-e (λ (e : Edge). (e .from < length (p .vertices)) × (e .to < length (p .vertices))) (p .edges) (ranged .edges) _
+      (getD-in (p .edges) e _ h)
 
   pub clause-within : (c : Clause) → c ∈ p .clauses → ClauseWithin (length (p .vertices)) (length (p .edges)) c
   clause-within c i = each-e (ClauseWithin (length (p .vertices)) (length (p .edges))) (p .clauses) (ranged .clauses) c i

@@ -27,7 +27,8 @@ use Rattle.woven_tables.proofs.VertexLaws.{length-vertices}
 pub marked-mem : (n mask v : ℕ) → v < n → memℕ v (markedBelow n mask) ≡ bit mask v
 unfolding memℕ markedBelow
 marked-mem n mask v h = same-test (any (eqb v) (keep (bit mask) (below n))) (bit mask v)
-    (λ t. let e = any-e (eqb v) (keep (bit mask) (below n)) t in subst (λ z. T (bit mask z)) (sym (eqb→eq v (e .0) (e .2))) (keep-e (bit mask) (below n) (e .0) (e .1) .1))
+    (λ t. let e = any-e (eqb v) (keep (bit mask) (below n)) t in
+    subst (λ z. T (bit mask z)) (sym (eqb→eq v (e .0) (e .2))) (keep-e (bit mask) (below n) (e .0) (e .1) .1))
     (λ t. any-i (eqb v) (keep (bit mask) (below n)) v (keep-i (bit mask) (below n) v (below-i n v h) t) (eqb-refl v))
 
 -- two tests that agree on a list
@@ -36,25 +37,30 @@ unfolding keep
 keep-same p q [] e = refl
 keep-same p q (x ∷ l) e = ap₂ (λ t r. pick t (x ∷ r) r) (e x (List·Memᴰ·head refl)) (keep-same p q l (λ y i. e y (List·Memᴰ·tail i)))
 
-any-listed : {A B : Type 0} (p : A → Bool) (q : B → Bool) (f : ℕ → A) (g : ℕ → B) (n : ℕ) → ((i : ℕ) → i < n → p (f i) ≡ q (g i)) → any p (listed f n) ≡ any q (listed g n)
+any-listed : {A B : Type 0} (p : A → Bool) (q : B → Bool) (f : ℕ → A) (g : ℕ → B) (n : ℕ) → ((i : ℕ) → i < n → p (f i) ≡ q (g i))
+    → any p (listed f n) ≡ any q (listed g n)
 unfolding listed any
 any-listed p q f g zero e = refl
-any-listed p q f g (suc n) e = any-end p (listed f n) (f n) ∙ ap₂ (λ x y. x || y) (any-listed p q f g n (λ i h. e i (omega arith))) (e n (omega arith)) ∙ sym (any-end q (listed g n) (g n))
+any-listed p q f g (suc n) e = any-end p (listed f n) (f n) ∙ ap₂ (λ x y. x || y) (any-listed p q f g n (λ i h. e i (omega arith))) (e n (omega arith))
+    ∙ sym (any-end q (listed g n) (g n))
 
 -- an edge joins v to one of some vertices
 abbrev joinsTo : List ℕ → ℕ → Edge → Bool
 joinsTo vs v e = eqb v (e .from) && memℕ (e .to) vs || eqb v (e .to) && memℕ (e .from) vs
 
 module _ (b : Book) (q r : Bytes) (words : List ℕ) (c : WovenCounts) (mask : ℕ) (low : EdgesLow words (c .edges) (c .vertices)) where
-  joins-alike : (v : ℕ) → any (joinsTo (markedBelow (c .vertices) mask) v) (edgesAt b q r words (c .edges)) ≡ any (joins mask v) (listed (λ i. getD words (24 + i) 0) (c .edges))
+  joins-alike : (v : ℕ) → any (joinsTo (markedBelow (c .vertices) mask) v) (edgesAt b q r words (c .edges))
+      ≡ any (joins mask v) (listed (λ i. getD words (24 + i) 0) (c .edges))
   unfolding edgesAt edgeAt joins
   joins-alike v = any-listed (joinsTo (markedBelow (c .vertices) mask) v) (joins mask v) _ _ (c .edges) (λ i h.
       let w = getD words (24 + i) 0 in
       let l = low i h in
-      ap₂ (λ x y. eqb v (fromOf w) && x || eqb v (toOf w) && y) (marked-mem (c .vertices) mask (toOf w) (l .1)) (marked-mem (c .vertices) mask (fromOf w) (l .0)))
+      ap₂ (λ x y. eqb v (fromOf w) && x || eqb v (toOf w) && y) (marked-mem (c .vertices) mask (toOf w) (l .1))
+      (marked-mem (c .vertices) mask (fromOf w) (l .0)))
 
   -- one step along the edges in the words is one step of the pattern that they hold
-  pub step-marks : (out : ℕ) → Stepped words (c .edges) mask out → markedBelow (c .vertices) out ≡ stepAlong (wovenAt b q r words c) (markedBelow (c .vertices) mask)
+  pub step-marks : (out : ℕ) → Stepped words (c .edges) mask out
+      → markedBelow (c .vertices) out ≡ stepAlong (wovenAt b q r words c) (markedBelow (c .vertices) mask)
   unfolding stepAlong wovenAt markedBelow
   step-marks out stepped =
       let vs : List ℕ = markedBelow (c .vertices) mask in
@@ -105,9 +111,11 @@ stepped-more words i mask next one two w so-far e f g v =
     let A = eqb v (fromOf w) && bit mask (toOf w) in
     let B = eqb v (toOf w) && bit mask (fromOf w) in
     let last : bit two v ≡ bit mask v || before || A || B =
-    ap (λ z. bit z v) g ∙ bit-mark-if (bit mask (fromOf w)) one (toOf w) v ∙ ap (λ x. x || B) (ap (λ z. bit z v) f ∙ bit-mark-if (bit mask (toOf w)) next (fromOf w) v ∙ ap (λ x. x || A) (so-far v)) in
+    ap (λ z. bit z v) g ∙ bit-mark-if (bit mask (fromOf w)) one (toOf w) v
+    ∙ ap (λ x. x || B) (ap (λ z. bit z v) f ∙ bit-mark-if (bit mask (toOf w)) next (fromOf w) v ∙ ap (λ x. x || A) (so-far v)) in
     last ∙ or-assoc (bit mask v || before) A B ∙ or-assoc (bit mask v) before (A || B)
-    ∙ ap (λ x. bit mask v || x) (ap (λ z. before || joins mask v z) e ∙ sym (ap (any (joins mask v)) (listed-more W i) ∙ any-end (joins mask v) (listed W i) (W i)))
+    ∙ ap (λ x. bit mask v || x) (ap (λ z. before || joins mask v z) e
+    ∙ sym (ap (any (joins mask v)) (listed-more W i) ∙ any-end (joins mask v) (listed W i) (W i)))
 
 -- whether all below n are marked
 all-passes : (p : ℕ → Bool) (l : List ℕ) → ((x : ℕ) → x ∈ l → p x ≡ true) → all p l ≡ true
@@ -140,28 +148,34 @@ all-same p q (x ∷ l) e = ap₂ (λ t r. pick t r false) (e x (List·Memᴰ·he
 abbrev pub TiedSoFar : List ℕ → ℕ → ℕ → ℕ → ℕ → ℕ → Type 0
 TiedSoFar words vertices edges mask marked round =
     (b : Book) (query rules : Bytes) (c : WovenCounts) → c .vertices ≡ vertices → c .edges ≡ edges
-    → stepsAlong (vertices - round) (wovenAt b query rules words c) (markedBelow vertices marked) ≡ stepsAlong vertices (wovenAt b query rules words c) (markedBelow vertices mask)
+    → stepsAlong (vertices - round) (wovenAt b query rules words c) (markedBelow vertices marked)
+    ≡ stepsAlong vertices (wovenAt b query rules words c) (markedBelow vertices mask)
 
 module _ (words : List ℕ) (vertices edges mask : ℕ) (low : EdgesLow words edges vertices) where
   one-step : (marked next : ℕ) → Stepped words edges marked next → (b : Book) (q r : Bytes) (c : WovenCounts) → c .vertices ≡ vertices → c .edges ≡ edges
       → markedBelow vertices next ≡ stepAlong (wovenAt b q r words c) (markedBelow vertices marked)
   one-step marked next stepped b q r c v e =
-      subst₂ (λ n m. EdgesLow words m n → Stepped words m marked next → markedBelow n next ≡ stepAlong (wovenAt b q r words c) (markedBelow n marked)) v e (λ l s. step-marks b q r words c marked l next s) low stepped
+      subst₂ (λ n m. EdgesLow words m n → Stepped words m marked next → markedBelow n next ≡ stepAlong (wovenAt b q r words c) (markedBelow n marked)) v e
+      (λ l s. step-marks b q r words c marked l next s) low stepped
 
   pub tied-start : TiedSoFar words vertices edges mask mask 0
   tied-start b q r c v e = let z : vertices - 0 ≡ vertices = omega arith in ap (λ k. stepsAlong k (wovenAt b q r words c) (markedBelow vertices mask)) z
 
-  pub tied-more : (marked next round : ℕ) → round < vertices → Stepped words edges marked next → TiedSoFar words vertices edges mask marked round → TiedSoFar words vertices edges mask next (round + 1)
+  pub tied-more : (marked next round : ℕ) → round < vertices → Stepped words edges marked next → TiedSoFar words vertices edges mask marked round
+      → TiedSoFar words vertices edges mask next (round + 1)
   unfolding stepsAlong
   tied-more marked next round h stepped so-far b q r c v e =
       let p = wovenAt b q r words c in
       let z : vertices - round ≡ suc (vertices - (round + 1)) = omega arith in
-      ap (stepsAlong (vertices - (round + 1)) p) (one-step marked next stepped b q r c v e) ∙ ap (λ k. stepsAlong k p (markedBelow vertices marked)) (sym z) ∙ so-far b q r c v e
+      ap (stepsAlong (vertices - (round + 1)) p) (one-step marked next stepped b q r c v e)
+      ∙ ap (λ k. stepsAlong k p (markedBelow vertices marked)) (sym z) ∙ so-far b q r c v e
 
-  pub tied-unchanged : (marked next round : ℕ) → next ≡ marked → Stepped words edges marked next → TiedSoFar words vertices edges mask marked round → TiedBy words vertices edges mask marked
+  pub tied-unchanged : (marked next round : ℕ) → next ≡ marked → Stepped words edges marked next → TiedSoFar words vertices edges mask marked round
+      → TiedBy words vertices edges mask marked
   tied-unchanged marked next round z stepped so-far b q r c v e =
       let p = wovenAt b q r words c in
-      sym (steps-done (vertices - round) p (markedBelow vertices marked) (sym (one-step marked next stepped b q r c v e) ∙ ap (markedBelow vertices) z)) ∙ so-far b q r c v e
+      sym (steps-done (vertices - round) p (markedBelow vertices marked) (sym (one-step marked next stepped b q r c v e) ∙ ap (markedBelow vertices) z))
+      ∙ so-far b q r c v e
 
   pub tied-end : (marked round : ℕ) → vertices ≤ round → TiedSoFar words vertices edges mask marked round → TiedBy words vertices edges mask marked
   unfolding stepsAlong

@@ -42,11 +42,21 @@ none-woven b q r words = refl
 
 pub none-kept : (q r : Bytes) (words : List ℕ) → wovenWords ≤ length words → Kept q r words noCounts
 unfolding clausesAt listed keep
-none-kept q r words h = record { room = h; vertices = omega arith; edges = omega arith; exclusions = omega arith; requirements = omega arith; returns = omega arith; counted = λ b. refl }
+none-kept q r words h = record {
+  room = h;
+  vertices = omega arith;
+  edges = omega arith;
+  exclusions = omega arith;
+  requirements = omega arith;
+  returns =
+      omega arith;
+  counted = λ b. refl;
+}
 
 -- the kth text, whose pattern was read from it
 module _ (b : Book) (q r : Bytes) (asked : List Asked) (a : Asked) (base : ℕ) (p : PatternData) (old new : List ℕ) (c : WovenCounts)
-    (sound : Each Sound asked) (held : wovenAt b q r old c ≡ weave asked) (pattern : patternIn b (drop base (textOf q r (length asked))) p ≡ patternOf (a .text)) where
+    (sound : Each Sound asked) (held : wovenAt b q r old c ≡ weave asked)
+    (pattern : patternIn b (drop base (textOf q r (length asked))) p ≡ patternOf (a .text)) where
   one-more-is : oneMore (length asked) (a .actors) (patternIn b (drop base (textOf q r (length asked))) p) (wovenAt b q r old c) ≡ weave (asked ++ (a ∷ []))
   one-more-is = ap₂ (oneMore (length asked) (a .actors)) pattern held ∙ sym (weave-one-more asked a sound)
 
@@ -55,11 +65,13 @@ module _ (b : Book) (q r : Bytes) (asked : List Asked) (a : Asked) (base : ℕ) 
   text-held n added = added .1 b ∙ one-more-is
 
   -- a limit is passed, whatever texts follow: 12
-  pub text-passed : TextAdded q r (a .actors) (length asked) base p old new c Passed → (more : List Asked) → Each Sound (asked ++ (a ∷ more)) → (ids : List Identity) → wovenFault (weave (asked ++ (a ∷ more))) ids ≡ just 12
+  pub text-passed : TextAdded q r (a .actors) (length asked) base p old new c Passed → (more : List Asked) → Each Sound (asked ++ (a ∷ more))
+      → (ids : List Identity) → wovenFault (weave (asked ++ (a ∷ more))) ids ≡ just 12
   unfolding wovenFault lowest
   text-passed added more all-sound ids =
       let e = append-assoc asked (a ∷ []) more in
-      let t = subst (λ z. T (wovenTooMany (weave z))) e (weave-stays-too-many (asked ++ (a ∷ [])) more (subst (Each Sound) (sym e) all-sound) (subst (λ z. T (wovenTooMany z)) one-more-is (added b))) in
+      let t = subst (λ z. T (wovenTooMany (weave z))) e
+      (weave-stays-too-many (asked ++ (a ∷ [])) more (subst (Each Sound) (sym e) all-sound) (subst (λ z. T (wovenTooMany z)) one-more-is (added b))) in
       rw (passes→true (wovenTooMany (weave (asked ++ (a ∷ more)))) t)
 
 -- after the last text
@@ -82,21 +94,26 @@ Identifies (just m) n = n ≡ m
 
 -- an actor that is identified once is none of the later ones'
 once-here : (x : Identity) (ids : List Identity) → (T (twice (map (λ i. i .actor) (x ∷ ids))) → ⊥) → (d : Identity) → d ∈ ids → x .actor ≡ d .actor → ⊥
-once-here x ids once d i e = once (twice-i (x .actor) (map (λ (z : Identity). z .actor) ids) (subst (λ w. w ∈ map (λ (z : Identity). z .actor) ids) (sym e) (map-i (λ (z : Identity). z .actor) ids d i)))
+once-here x ids once d i e = once (twice-i (x .actor) (map (λ (z : Identity). z .actor) ids)
+    (subst (λ w. w ∈ map (λ (z : Identity). z .actor) ids) (sym e) (map-i (λ (z : Identity). z .actor) ids d i)))
 
-by-each : (ids : List Identity) (v : WovenVertex) (n : ℕ) → (T (twice (map (λ i. i .actor) ids)) → ⊥) → Identifies (identityOf ids v) n → (d : Identity) → d ∈ ids → v ≡ actor (d .actor) → n ≡ d .node
+by-each : (ids : List Identity) (v : WovenVertex) (n : ℕ) → (T (twice (map (λ i. i .actor) ids)) → ⊥) → Identifies (identityOf ids v) n → (d : Identity)
+    → d ∈ ids → v ≡ actor (d .actor) → n ≡ d .node
 unfolding identityOf
-by-each (x ∷ ids) v n once h d (List·Memᴰ·head e) a = go (identifiedBy v x) (identified-exactly v x .1 (a ∙ ap (λ (z : Identity). actor (z .actor)) e)) h ∙ ap (λ (z : Identity). z .node) (sym e)
+by-each (x ∷ ids) v n once h d (List·Memᴰ·head e) a = go (identifiedBy v x) (identified-exactly v x .1 (a ∙ ap (λ (z : Identity). actor (z .actor)) e)) h
+    ∙ ap (λ (z : Identity). z .node) (sym e)
   where
     go : (t : Bool) → T t → Identifies (pick t (just (x .node)) (identityOf ids v)) n → n ≡ x .node
     go true f h = h
     go false f h = absurd f
-by-each (x ∷ ids) v n once h d (List·Memᴰ·tail i) a = go (identifiedBy v x) refl h (λ g. by-each ids v n (λ t. once (twice-tail (x .actor) (map (λ (z : Identity). z .actor) ids) t)) g d i a)
+by-each (x ∷ ids) v n once h d (List·Memᴰ·tail i) a = go (identifiedBy v x) refl h
+    (λ g. by-each ids v n (λ t. once (twice-tail (x .actor) (map (λ (z : Identity). z .actor) ids) t)) g d i a)
   where
     one-name : actor (x .actor) ≡ actor (d .actor) → x .actor ≡ d .actor
     one-name e = cc
 
-    go : (t : Bool) → identifiedBy v x ≡ t → Identifies (pick t (just (x .node)) (identityOf ids v)) n → (Identifies (identityOf ids v) n → n ≡ d .node) → n ≡ d .node
+    go : (t : Bool) → identifiedBy v x ≡ t → Identifies (pick t (just (x .node)) (identityOf ids v)) n → (Identifies (identityOf ids v) n → n ≡ d .node)
+        → n ≡ d .node
     go true e h f = absurd (once-here x ids once d i (one-name (sym (identified-exactly v x .0 (subst T (sym e) tt)) ∙ a)))
     go false e h f = f h
 
@@ -110,5 +127,6 @@ by-all (x ∷ ids) v n f = go (identifiedBy v x) refl (by-all ids v n (λ d i. f
     go false e h = h
 
 -- where no actor is identified twice, that is what each identity asks
-pub identified-by : (ids : List Identity) (v : WovenVertex) (n : ℕ) → (T (twice (map (λ i. i .actor) ids)) → ⊥) → Identifies (identityOf ids v) n ↔ ((d : Identity) → d ∈ ids → v ≡ actor (d .actor) → n ≡ d .node)
+pub identified-by : (ids : List Identity) (v : WovenVertex) (n : ℕ) → (T (twice (map (λ i. i .actor) ids)) → ⊥)
+    → Identifies (identityOf ids v) n ↔ ((d : Identity) → d ∈ ids → v ≡ actor (d .actor) → n ≡ d .node)
 identified-by ids v n once = (by-each ids v n once, by-all ids v n)

@@ -44,7 +44,8 @@ pub record TextReady (query rules : Bytes) (words : List ℕ) (c : WovenCounts) 
 -- the words hold the woven pattern with the text, or a limit is passed; b is whatever book the labels and attributes are numbered in
 abbrev pub TextAdded : Bytes → Bytes → List Bytes → ℕ → ℕ → Pattern → List ℕ → List ℕ → WovenCounts → PatternAdded → Type 0
 TextAdded query rules actors k base p old new c (Woven n) =
-    Kept query rules new n × ((b : Book) → wovenAt b query rules new n ≡ oneMore k actors (patternIn b (drop base (textOf query rules k)) p) (wovenAt b query rules old c))
+    Kept query rules new n × ((b : Book) → wovenAt b query rules new n
+    ≡ oneMore k actors (patternIn b (drop base (textOf query rules k)) p) (wovenAt b query rules old c))
 TextAdded query rules actors k base p old new c Passed =
     (b : Book) → T (wovenTooMany (oneMore k actors (patternIn b (drop base (textOf query rules k)) p) (wovenAt b query rules old c)))
 
@@ -60,9 +61,11 @@ pub record RestReady (k base : ℕ) (p : Pattern) (numbers : List ℕ) (c : Wove
 -- the edges and clauses of a text are woven, and for the query its Return vertices, out of them
 pub record RestAdded (k base : ℕ) (p : Pattern) (numbers old new : List ℕ) (c : WovenCounts) (out : ℕ) : Type 0 where
   pub edges-are : (b : Book) (query rules : Bytes) → edgesAt b query rules new (c .edges + p .counts .edges)
-      ≡ edgesAt b query rules old (c .edges) ++ map (renumberedEdge numbers) (map (edgeIn b (drop base (textOf query rules k))) (take (p .counts .edges) (p .edges)))
+      ≡ edgesAt b query rules old (c .edges) ++ map (renumberedEdge numbers)
+      (map (edgeIn b (drop base (textOf query rules k))) (take (p .counts .edges) (p .edges)))
   pub clauses-are : (b : Book) (query rules : Bytes) → clausesAt b query rules new (c .exclusions + c .requirements + p .counts .clauses)
-      ≡ clausesAt b query rules old (c .exclusions + c .requirements) ++ map (renumberedClause numbers (c .edges)) (map (namedClause b (drop base (textOf query rules k))) (take (p .counts .clauses) (p .clauses)))
+      ≡ clausesAt b query rules old (c .exclusions + c .requirements)
+      ++ map (renumberedClause numbers (c .edges)) (map (namedClause b (drop base (textOf query rules k))) (take (p .counts .clauses) (p .clauses)))
   pub few-returns : out ≤ 4
   pub returns-are : returnsAt new out ≡ pick (eqb k 0) (map (λ v. getD numbers v 0) (take (p .counts .returns) (p .returns))) (returnsAt old (c .returns))
   pub vertices-kept : (i : ℕ) → i < 24 → getD new i 0 ≡ getD old i 0

@@ -71,7 +71,8 @@ Stepped words edges mask out = (v : ℕ) → bit out v ≡ bit mask v || any (jo
 -- the marks are those of as many steps along the edges as there are vertices, whatever pattern stands in the words
 abbrev pub TiedBy : List ℕ → ℕ → ℕ → ℕ → ℕ → Type 0
 TiedBy words vertices edges mask out =
-    (b : Book) (query rules : Bytes) (c : WovenCounts) → c .vertices ≡ vertices → c .edges ≡ edges → markedBelow vertices out ≡ stepsAlong vertices (wovenAt b query rules words c) (markedBelow vertices mask)
+    (b : Book) (query rules : Bytes) (c : WovenCounts) → c .vertices ≡ vertices → c .edges ≡ edges
+    → markedBelow vertices out ≡ stepsAlong vertices (wovenAt b query rules words c) (markedBelow vertices mask)
 
 -- what is asked of the words before identities are given
 pub record FinishReady (query rules : Bytes) (words : List ℕ) (c : WovenCounts) (identities : List IdentityData) (count : ℕ) : Type 0 where

@@ -24,7 +24,8 @@ fn find_identity(
     word: u32,
 ) -> u32
     requires { ⌜ IdentitiesReady identities count ⌝ }
-    ensures { λ r. ⌜ nodeIn r ≡ identityOf (identitiesIn (now (request .entry)) identities count) (vertexOfWord (now (query .entry)) (now (rules .entry)) word) ⌝ }
+    ensures { λ r. ⌜ nodeIn r ≡ identityOf (identitiesIn (now (request .entry)) identities count)
+        (vertexOfWord (now (query .entry)) (now (rules .entry)) word) ⌝ }
 {
     if word % VERTEX_KINDS == 1 {
         let mut i = 0;
@@ -53,7 +54,8 @@ pub fn give_identities(
     n: usize,
 ) -> u32
     requires { ⌜ IdentitiesReady identities count × (n ≤ 24) × (wovenWords ≤ length (now words)) ⌝ }
-    ensures { λ r. ⌜ IdentitiesGiven (now (query .entry)) (now (rules .entry)) (identitiesIn (now (request .entry)) identities count) (now (words .entry)) (now (words .exit)) n r ⌝ }
+    ensures { λ r. ⌜ IdentitiesGiven (now (query .entry)) (now (rules .entry)) (identitiesIn (now (request .entry)) identities count) (now (words .entry))
+        (now (words .exit)) n r ⌝ }
 {
     let mut mask: u32 = 0;
     let mut v = 0;

@@ -39,7 +39,8 @@ pub fn add_pattern(
     counts: WovenCounts,
 ) -> PatternAdded
     requires { ⌜ TextReady (now query) (now rules) (now words) counts (now actors) «actor_count» k base pattern ⌝ }
-    ensures { λ r. ⌜ TextAdded (now (query .entry)) (now (rules .entry)) (actorsAt (now (rules .entry)) (now (actors .entry)) «actor_count») k base pattern (now (words .entry)) (now (words .exit)) counts r ⌝ }
+    ensures { λ r. ⌜ TextAdded (now (query .entry)) (now (rules .entry)) (actorsAt (now (rules .entry)) (now (actors .entry)) «actor_count») k base pattern
+        (now (words .entry)) (now (words .exit)) counts r ⌝ }
 {
     let own = pattern.counts;
     let parts = pattern.vertices;
@@ -142,7 +143,8 @@ pub fn finish(
     counts: WovenCounts,
 ) -> bool
     requires { ⌜ FinishReady (now query) (now rules) (now words) counts identities count ⌝ }
-    ensures { λ r. ⌜ Finished (now (query .entry)) (now (rules .entry)) (identitiesIn (now (request .entry)) identities count) (now (words .entry)) (now (words .exit)) counts r ⌝ }
+    ensures { λ r. ⌜ Finished (now (query .entry)) (now (rules .entry)) (identitiesIn (now (request .entry)) identities count) (now (words .entry))
+        (now (words .exit)) counts r ⌝ }
 {
     let vertices = counts.vertices;
     let given = identities::give_identities(

@@ -38,7 +38,11 @@ module _ (base : ℕ) (value : Value) where
 
   pub text-said : (start size : ℕ) → value ≡ Text start size → ValueSaid base value (record { kind = 1; high = base + start; low = size })
   unfolding valueAt valueOf
-  text-said start size e = record { kind = omega arith; said = λ text. ap str (sym (part-of-rest text base start size)) ∙ ap (valueOf (drop base text)) (sym e) }
+  text-said start size e = record {
+    kind = omega arith;
+    said = λ text. ap str (sym (part-of-rest text base start size))
+        ∙ ap (valueOf (drop base text)) (sym e);
+  }
 
   pub true-said : (t : Bool) → value ≡ Truth t → t ≡ true → ValueSaid base value (record { kind = 2; high = 0; low = 1 })
   unfolding valueAt valueOf
@@ -56,8 +60,10 @@ owner-digit : (k owner low what : ℕ) → owner < 64 → low < 4096 → what �
 owner-digit k owner low what h g e = omega arith
 
 -- the words of a requirement
-pub requirement-said : (k base kind owner : ℕ) (x : Requirement) (v : ClauseValue) (n what : ℕ) → k < 32 → kind < 4 → owner < 64 → x .attribute < 32 → n < 6 → relationAt n ≡ relationOf (x .relation) → ValueSaid base (x .value) v
-    → what ≡ k * 262144 + owner * 4096 + x .attribute * 128 + n * 16 + v .kind * 4 + kind → RequirementSaid k base kind owner x (record { what = what; high = v .high; low = v .low })
+pub requirement-said : (k base kind owner : ℕ) (x : Requirement) (v : ClauseValue) (n what : ℕ) → k < 32 → kind < 4 → owner < 64 → x .attribute < 32
+    → n < 6 → relationAt n ≡ relationOf (x .relation) → ValueSaid base (x .value) v
+    → what ≡ k * 262144 + owner * 4096 + x .attribute * 128 + n * 16 + v .kind * 4 + kind
+    → RequirementSaid k base kind owner x (record { what = what; high = v .high; low = v .low })
 requirement-said k base kind owner x v n what few-texts few-kinds few-owners few-attributes few-relations relation value e =
     let a = x .attribute in
     let d = v .kind in
@@ -76,14 +82,17 @@ requirement-said k base kind owner x v n what few-texts few-kinds few-owners few
 
 -- the words of a condition, by its kind
 module _ (k base : ℕ) (numbers : List ℕ) (before : ℕ) (condition : Condition) where
-  pub exclusion-said : (u v : ℕ) → condition ≡ Excluded u v → ClauseSaid k base numbers before condition (record { what = 0; high = getD numbers u 0; low = getD numbers v 0 })
+  pub exclusion-said : (u v : ℕ) → condition ≡ Excluded u v
+      → ClauseSaid k base numbers before condition (record { what = 0; high = getD numbers u 0; low = getD numbers v 0 })
   unfolding clauseAt clauseIn renumberedClause
   exclusion-said u v e b q r = ap (λ c. renumberedClause numbers before (clauseIn b (drop base (textOf q r k)) c)) (sym e)
 
   -- a requirement's parts, put together
-  clause-parts : (b : Book) (q r : Bytes) (out : ClauseWords) (kind owner : ℕ) (x : Requirement) → RequirementSaid k base kind owner x out → clauseAt b q r (out .what) (out .high) (out .low)
+  clause-parts : (b : Book) (q r : Bytes) (out : ClauseWords) (kind owner : ℕ) (x : Requirement) → RequirementSaid k base kind owner x out
+      → clauseAt b q r (out .what) (out .high) (out .low)
       ≡ pick (eqb kind 0) (excluded (out .high) (out .low))
-      (pick (eqb kind 1) (vertexHas owner (getD (attrNames (b .vattrs)) (x .attribute) []) (relationOf (x .relation)) (valueOf (drop base (textOf q r k)) (x .value)))
+      (pick (eqb kind 1) (vertexHas owner (getD (attrNames (b .vattrs)) (x .attribute) []) (relationOf (x .relation))
+      (valueOf (drop base (textOf q r k)) (x .value)))
       (edgeHas owner (getD (attrNames (b .eattrs)) (x .attribute) []) (relationOf (x .relation)) (valueOf (drop base (textOf q r k)) (x .value))))
   unfolding clauseAt
   clause-parts b q r out kind owner x said =
@@ -93,10 +102,14 @@ module _ (k base : ℕ) (numbers : List ℕ) (before : ℕ) (condition : Conditi
       (pick (eqb (said .its-kind i) 1) (vertexHas (said .its-owner i) (getD (attrNames (b .vattrs)) (said .attribute i) []) (said .relation i) (value i))
       (edgeHas (said .its-owner i) (getD (attrNames (b .eattrs)) (said .attribute i) []) (said .relation i) (value i)))
 
-  pub of-vertex-said : (v : ℕ) (x : Requirement) (out : ClauseWords) → condition ≡ OfVertex v x → RequirementSaid k base 1 (getD numbers v 0) x out → ClauseSaid k base numbers before condition out
+  pub of-vertex-said : (v : ℕ) (x : Requirement) (out : ClauseWords) → condition ≡ OfVertex v x → RequirementSaid k base 1 (getD numbers v 0) x out
+      → ClauseSaid k base numbers before condition out
   unfolding clauseIn renumberedClause
-  of-vertex-said v x out e said b q r = clause-parts b q r out 1 (getD numbers v 0) x said ∙ ap (λ c. renumberedClause numbers before (clauseIn b (drop base (textOf q r k)) c)) (sym e)
+  of-vertex-said v x out e said b q r = clause-parts b q r out 1 (getD numbers v 0) x said
+      ∙ ap (λ c. renumberedClause numbers before (clauseIn b (drop base (textOf q r k)) c)) (sym e)
 
-  pub of-edge-said : (j : ℕ) (x : Requirement) (out : ClauseWords) → condition ≡ OfEdge j x → RequirementSaid k base 2 (before + j) x out → ClauseSaid k base numbers before condition out
+  pub of-edge-said : (j : ℕ) (x : Requirement) (out : ClauseWords) → condition ≡ OfEdge j x → RequirementSaid k base 2 (before + j) x out
+      → ClauseSaid k base numbers before condition out
   unfolding clauseIn renumberedClause
-  of-edge-said j x out e said b q r = clause-parts b q r out 2 (before + j) x said ∙ ap (λ c. renumberedClause numbers before (clauseIn b (drop base (textOf q r k)) c)) (sym e)
+  of-edge-said j x out e said b q r = clause-parts b q r out 2 (before + j) x said
+      ∙ ap (λ c. renumberedClause numbers before (clauseIn b (drop base (textOf q r k)) c)) (sym e)

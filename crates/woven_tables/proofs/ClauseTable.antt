@@ -25,10 +25,12 @@ use Rattle.woven_tables.proofs.EdgeLaws.{maps-more}
 use Rattle.woven_tables.proofs.Kept.{keep-append}
 
 -- clauses that were there stay
-pub clauses-same : (b : Book) (q r : Bytes) (old new : List ℕ) (n : ℕ) → ((i : ℕ) → 120 ≤ i → i < 120 + 3 * n → getD new i 0 ≡ getD old i 0) → clausesAt b q r new n ≡ clausesAt b q r old n
+pub clauses-same : (b : Book) (q r : Bytes) (old new : List ℕ) (n : ℕ) → ((i : ℕ) → 120 ≤ i → i < 120 + 3 * n → getD new i 0 ≡ getD old i 0)
+    → clausesAt b q r new n ≡ clausesAt b q r old n
 unfolding clausesAt
 clauses-same b q r old new n f = listed-same _ _ n (λ i l.
-    λ j. clauseAt b q r (f (120 + 3 * i) (omega arith) (omega arith) j) (f (120 + 3 * i + 1) (omega arith) (omega arith) j) (f (120 + 3 * i + 2) (omega arith) (omega arith) j))
+    λ j. clauseAt b q r (f (120 + 3 * i) (omega arith) (omega arith) j) (f (120 + 3 * i + 1) (omega arith) (omega arith) j)
+    (f (120 + 3 * i + 2) (omega arith) (omega arith) j))
 
 module _ (words : List ℕ) (m w x y : ℕ) (room : m < 96) (size : wovenWords ≤ length words) where
   at : ℕ
@@ -43,15 +45,19 @@ module _ (words : List ℕ) (m w x y : ℕ) (room : m < 96) (size : wovenWords �
       getD-set-other (set (set words (120 + 3 * m) w) (120 + 3 * m + 1) x) (120 + 3 * m + 2) i y 0 s
       ∙ getD-set-other (set words (120 + 3 * m) w) (120 + 3 * m + 1) i x 0 q ∙ getD-set-other words (120 + 3 * m) i w 0 p
 
-  pub clause-stored : (b : Book) (q r : Bytes) → clausesAt b q r (set (set (set words (120 + 3 * m) w) (120 + 3 * m + 1) x) (120 + 3 * m + 2) y) (m + 1) ≡ clausesAt b q r words m ++ (clauseAt b q r w x y ∷ [])
+  pub clause-stored : (b : Book) (q r : Bytes)
+      → clausesAt b q r (set (set (set words (120 + 3 * m) w) (120 + 3 * m + 1) x) (120 + 3 * m + 2) y) (m + 1)
+      ≡ clausesAt b q r words m ++ (clauseAt b q r w x y ∷ [])
   unfolding clausesAt stored
   clause-stored b q r =
       let one = set words (120 + 3 * m) w in
       let two = set one (120 + 3 * m + 1) x in
       let l : length one ≡ length words = length-set words (120 + 3 * m) w in
       let k : length two ≡ length one = length-set one (120 + 3 * m + 1) x in
-      let first : getD stored (120 + 3 * m) 0 ≡ w = getD-set-other two (120 + 3 * m + 2) (120 + 3 * m) y 0 (λ e. omega arith) ∙ getD-set-other one (120 + 3 * m + 1) (120 + 3 * m) x 0 (λ e. omega arith) ∙ getD-set-same words (120 + 3 * m) w 0 (omega arith) in
-      let second : getD stored (120 + 3 * m + 1) 0 ≡ x = getD-set-other two (120 + 3 * m + 2) (120 + 3 * m + 1) y 0 (λ e. omega arith) ∙ getD-set-same one (120 + 3 * m + 1) x 0 (omega arith) in
+      let first : getD stored (120 + 3 * m) 0 ≡ w = getD-set-other two (120 + 3 * m + 2) (120 + 3 * m) y 0 (λ e. omega arith)
+      ∙ getD-set-other one (120 + 3 * m + 1) (120 + 3 * m) x 0 (λ e. omega arith) ∙ getD-set-same words (120 + 3 * m) w 0 (omega arith) in
+      let second : getD stored (120 + 3 * m + 1) 0 ≡ x = getD-set-other two (120 + 3 * m + 2) (120 + 3 * m + 1) y 0 (λ e. omega arith)
+      ∙ getD-set-same one (120 + 3 * m + 1) x 0 (omega arith) in
       let third : getD stored (120 + 3 * m + 2) 0 ≡ y = getD-set-same two (120 + 3 * m + 2) y 0 (omega arith) in
       listed-more _ m
       ∙ ap₂ (λ xs z. xs ++ (z ∷ []))
@@ -60,21 +66,32 @@ module _ (words : List ℕ) (m w x y : ℕ) (room : m < 96) (size : wovenWords �
 
   pub clause-kept : KeptOutside 120 408 words (set (set (set words (120 + 3 * m) w) (120 + 3 * m + 1) x) (120 + 3 * m + 2) y)
   unfolding stored
-  clause-kept i z = elsewhere i (λ e. ⊎-elim (λ y. omega arith) (λ y. omega arith) z) (λ e. ⊎-elim (λ y. omega arith) (λ y. omega arith) z) (λ e. ⊎-elim (λ y. omega arith) (λ y. omega arith) z)
+  clause-kept i z = elsewhere i (λ e. ⊎-elim (λ y. omega arith) (λ y. omega arith) z) (λ e. ⊎-elim (λ y. omega arith) (λ y. omega arith) z)
+      (λ e. ⊎-elim (λ y. omega arith) (λ y. omega arith) z)
 
 -- the first i clauses of a text are woven
 pub record ClausesSoFar (base k : ℕ) (clauses : List ClauseData) (i : ℕ) (numbers : List ℕ) (before : ℕ) (old new : List ℕ) (woven : ℕ) : Type 0 where
   pub size : length new ≡ length old
   pub added : ClausesAdded base k clauses i numbers before old new woven
 
-pub clauses-start : (base k : ℕ) (clauses : List ClauseData) (numbers : List ℕ) (before : ℕ) (old : List ℕ) (woven : ℕ) → ClausesSoFar base k clauses 0 numbers before old old woven
+pub clauses-start : (base k : ℕ) (clauses : List ClauseData) (numbers : List ℕ) (before : ℕ) (old : List ℕ) (woven : ℕ)
+    → ClausesSoFar base k clauses 0 numbers before old old woven
 clauses-start base k clauses numbers before old woven =
     let e : woven + 0 ≡ woven = omega arith in
-    record { size = refl; added = record { clauses-are = λ b q r. ap (clausesAt b q r old) e ∙ sym (append-nil (clausesAt b q r old woven)); kept = λ i z. refl } }
+    record {
+      size = refl;
+      added = record {
+        clauses-are = λ b q r. ap (clausesAt b q r old) e
+            ∙ sym (append-nil (clausesAt b q r old woven));
+        kept = λ i z. refl;
+      };
+    }
 
-pub clauses-more : (base k : ℕ) (clauses : List ClauseData) (i : ℕ) (numbers : List ℕ) (before : ℕ) (old words : List ℕ) (woven : ℕ) (out : ClauseWords) → ClausesSoFar base k clauses i numbers before old words woven
+pub clauses-more : (base k : ℕ) (clauses : List ClauseData) (i : ℕ) (numbers : List ℕ) (before : ℕ) (old words : List ℕ) (woven : ℕ) (out : ClauseWords)
+    → ClausesSoFar base k clauses i numbers before old words woven
     → i < length clauses → woven + i < 96 → wovenWords ≤ length words → ClauseSaid k base numbers before (getD clauses i noClause .condition) out
-    → ClausesSoFar base k clauses (i + 1) numbers before old (set (set (set words (120 + 3 * (woven + i)) (out .what)) (120 + 3 * (woven + i) + 1) (out .high)) (120 + 3 * (woven + i) + 2) (out .low)) woven
+    → ClausesSoFar base k clauses (i + 1) numbers before old
+    (set (set (set words (120 + 3 * (woven + i)) (out .what)) (120 + 3 * (woven + i) + 1) (out .high)) (120 + 3 * (woven + i) + 2) (out .low)) woven
 clauses-more base k clauses i numbers before old words woven out so-far more room size said =
     let e : woven + (i + 1) ≡ woven + i + 1 = omega arith in
     let at = 120 + 3 * (woven + i) in
@@ -113,14 +130,17 @@ pub counted-none : (clauses : List ClauseData) → ExclusionsCounted clauses 0 0
 unfolding keep
 counted-none clauses = record { some = omega arith; all = refl; exactly = λ b text. refl }
 
-pub counted-more : (clauses : List ClauseData) (i n one : ℕ) → i < length clauses → one ≡ oneIfExcluded (getD clauses i noClause .condition) → ExclusionsCounted clauses i n → ExclusionsCounted clauses (i + 1) (n + one)
+pub counted-more : (clauses : List ClauseData) (i n one : ℕ) → i < length clauses → one ≡ oneIfExcluded (getD clauses i noClause .condition)
+    → ExclusionsCounted clauses i n → ExclusionsCounted clauses (i + 1) (n + one)
 counted-more clauses i n one more e so-far = record {
   some = omega (arith, so-far .some, one-at-most (getD clauses i noClause .condition));
   all = length-take-le (i + 1) clauses (omega arith);
   exactly = λ b text.
       let first = map (namedClause b text) (take i clauses) in
       let own = namedClause b text (getD clauses i noClause) in
-      let split : map (namedClause b text) (take (i + 1) clauses) ≡ first ++ (own ∷ []) = ap (λ n. map (namedClause b text) (take n clauses)) (add-one i) ∙ ap (map (namedClause b text)) (take-suc clauses i noClause more) ∙ map-end (namedClause b text) (take i clauses) (getD clauses i noClause) in
-      let both = ap (λ z. length (keep isExcluded z)) split ∙ ap length (keep-append isExcluded first (own ∷ [])) ∙ length-append (keep isExcluded first) (keep isExcluded (own ∷ [])) in
+      let split : map (namedClause b text) (take (i + 1) clauses) ≡ first ++ (own ∷ []) = ap (λ n. map (namedClause b text) (take n clauses)) (add-one i)
+      ∙ ap (map (namedClause b text)) (take-suc clauses i noClause more) ∙ map-end (namedClause b text) (take i clauses) (getD clauses i noClause) in
+      let both = ap (λ z. length (keep isExcluded z)) split ∙ ap length (keep-append isExcluded first (own ∷ []))
+      ∙ length-append (keep isExcluded first) (keep isExcluded (own ∷ [])) in
       both ∙ ap₂ (λ x y. x + y) (so-far .exactly b text) (excluded-one b text (getD clauses i noClause .condition) ∙ sym e);
 }

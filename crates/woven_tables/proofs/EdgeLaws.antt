@@ -18,16 +18,19 @@ use Rattle.woven_tables.specs.Steps.{KeptOutside, renumberedEdge, EdgeRe
 use Rattle.woven_tables.proofs.NameLaws.{part-of-rest, name-word-says}
 
 -- one element more of an array, through two functions
-pub maps-more : {A B C : Type 0} (f : B → C) (g : A → B) (xs : List A) (i : ℕ) (d : A) → i < length xs → map f (map g (take (i + 1) xs)) ≡ map f (map g (take i xs)) ++ (f (g (getD xs i d)) ∷ [])
+pub maps-more : {A B C : Type 0} (f : B → C) (g : A → B) (xs : List A) (i : ℕ) (d : A) → i < length xs
+    → map f (map g (take (i + 1) xs)) ≡ map f (map g (take i xs)) ++ (f (g (getD xs i d)) ∷ [])
 maps-more f g xs i d h =
     ap (λ n. map f (map g (take n xs))) (add-one i)
     ∙ ap (λ z. map f (map g z)) (take-suc xs i d h)
     ∙ ap (map f) (map-end g (take i xs) (getD xs i d)) ∙ map-end f (map g (take i xs)) (g (getD xs i d))
 
 -- edges that were there stay
-pub edges-same : (b : Book) (q r : Bytes) (old new : List ℕ) (n : ℕ) → n ≤ 48 → ((i : ℕ) → 24 ≤ i → i < 24 + n → getD new i 0 ≡ getD old i 0) → ((i : ℕ) → 72 ≤ i → i < 72 + n → getD new i 0 ≡ getD old i 0) → edgesAt b q r new n ≡ edgesAt b q r old n
+pub edges-same : (b : Book) (q r : Bytes) (old new : List ℕ) (n : ℕ) → n ≤ 48 → ((i : ℕ) → 24 ≤ i → i < 24 + n → getD new i 0 ≡ getD old i 0)
+    → ((i : ℕ) → 72 ≤ i → i < 72 + n → getD new i 0 ≡ getD old i 0) → edgesAt b q r new n ≡ edgesAt b q r old n
 unfolding edgesAt
-edges-same b q r old new n few f g = listed-same _ _ n (λ i l. ap₂ (edgeAt b q r) (f (24 + i) (omega arith) (omega arith)) (g (72 + i) (omega arith) (omega arith)))
+edges-same b q r old new n few f g = listed-same _ _ n
+    (λ i l. ap₂ (edgeAt b q r) (f (24 + i) (omega arith) (omega arith)) (g (72 + i) (omega arith) (omega arith)))
 
 module _ (words : List ℕ) (m w x : ℕ) (room : m < 48) (size : wovenWords ≤ length words) where
   stored : List ℕ
@@ -42,7 +45,8 @@ module _ (words : List ℕ) (m w x : ℕ) (room : m < 48) (size : wovenWords ≤
   edge-stored b q r =
       listed-more _ m
       ∙ ap₂ (λ xs y. xs ++ (y ∷ []))
-      (edges-same b q r words stored m (omega arith) (λ i l u. elsewhere i (λ e. omega arith) (λ e. omega arith)) (λ i l u. elsewhere i (λ e. omega arith) (λ e. omega arith)))
+      (edges-same b q r words stored m (omega arith) (λ i l u. elsewhere i (λ e. omega arith) (λ e. omega arith))
+      (λ i l u. elsewhere i (λ e. omega arith) (λ e. omega arith)))
       (ap₂ (edgeAt b q r)
       (getD-set-other (set words (24 + m) w) (72 + m) (24 + m) x 0 (λ e. omega arith) ∙ getD-set-same words (24 + m) w 0 (omega arith))
       (getD-set-same (set words (24 + m) w) (72 + m) x 0 (omega (arith, length-set words (24 + m) w))))
@@ -62,7 +66,8 @@ edge-says b q r base k numbers e w x fits word name =
     let low : f < 24 = fits .woven-from in
     let high : t < 24 = fits .woven-to in
     let n : nameOf q r x ≡ partOf (drop base (textOf q r k)) (e .name .start) (e .name .length) =
-    ap (nameOf q r) name ∙ name-word-says q r k (base + e .name .start) (e .name .length) (fits .name .0) (fits .name .1) ∙ sym (part-of-rest (textOf q r k) base (e .name .start) (e .name .length)) in
+    ap (nameOf q r) name ∙ name-word-says q r k (base + e .name .start) (e .name .length) (fits .name .0) (fits .name .1)
+    ∙ sym (part-of-rest (textOf q r k) base (e .name .start) (e .name .length)) in
     let l : w / 65536 ≡ e .label = omega arith in
     let a : w / 256 % 256 ≡ f = omega arith in
     let c : w % 256 ≡ t = omega arith in

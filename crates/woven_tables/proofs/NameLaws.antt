@@ -60,11 +60,13 @@ module _ (q r : Bytes) (a b : ℕ) where
   unfolding sameVertex
   own-and-actor e f = rw (of-own q r a e, of-actor q r b f)
 
-  pub own-of-one-text : (a % 2 ≡ 1 → ⊥) → (b % 2 ≡ 1 → ⊥) → a / 2 / 2097152 ≡ b / 2 / 2097152 → sameVertex (vertexOfWord q r a) (vertexOfWord q r b) ≡ same (nameOf q r (a / 2)) (nameOf q r (b / 2))
+  pub own-of-one-text : (a % 2 ≡ 1 → ⊥) → (b % 2 ≡ 1 → ⊥) → a / 2 / 2097152 ≡ b / 2 / 2097152
+      → sameVertex (vertexOfWord q r a) (vertexOfWord q r b) ≡ same (nameOf q r (a / 2)) (nameOf q r (b / 2))
   unfolding sameVertex
   own-of-one-text e f g = rw (of-own q r a e, of-own q r b f, eq-eqb (a / 2 / 2097152) (b / 2 / 2097152) g)
 
-  pub own-of-two-texts : (a % 2 ≡ 1 → ⊥) → (b % 2 ≡ 1 → ⊥) → (a / 2 / 2097152 ≡ b / 2 / 2097152 → ⊥) → sameVertex (vertexOfWord q r a) (vertexOfWord q r b) ≡ false
+  pub own-of-two-texts : (a % 2 ≡ 1 → ⊥) → (b % 2 ≡ 1 → ⊥) → (a / 2 / 2097152 ≡ b / 2 / 2097152 → ⊥)
+      → sameVertex (vertexOfWord q r a) (vertexOfWord q r b) ≡ false
   unfolding sameVertex
   own-of-two-texts e f g = rw (of-own q r a e, of-own q r b f, ne-eqb (a / 2 / 2097152) (b / 2 / 2097152) g)
 
@@ -78,7 +80,9 @@ module _ (q r : Bytes) (k start size : ℕ) (low : start < 65536) (short : size 
       let c : ((k * 65536 + start) * 32 + size) % 32 ≡ size = omega arith in
       rw (a, b, c)
 
-  pub vertex-word-says : (actors : List Bytes) → vertexOfWord q r (((k * 65536 + start) * 32 + size) * 2 + pick (mem (partOf (textOf q r k) start size) actors) 1 0) ≡ weaveVertex k actors (partOf (textOf q r k) start size)
+  pub vertex-word-says : (actors : List Bytes)
+      → vertexOfWord q r (((k * 65536 + start) * 32 + size) * 2 + pick (mem (partOf (textOf q r k) start size) actors) 1 0)
+      ≡ weaveVertex k actors (partOf (textOf q r k) start size)
   unfolding weaveVertex
   vertex-word-says actors = go (mem (partOf (textOf q r k) start size) actors)
     where
@@ -93,7 +97,8 @@ module _ (q r : Bytes) (k start size : ℕ) (low : start < 65536) (short : size 
       go false = let e : (w * 2 + 0) / 2 / 2097152 ≡ k = omega arith in of-own q r (w * 2 + 0) (λ f. omega arith) ∙ ap₂ own e (half 0 (omega arith))
 
   -- the word that is made of a name and of whether it is an actor
-  pub vertex-says : (actors : List Bytes) (name out : ℕ) (is-actor : Bool) → name ≡ (k * 65536 + start) * 32 + size → is-actor ≡ mem (nameOf q r name) actors → out ≡ name * 2 + pick is-actor 1 0
+  pub vertex-says : (actors : List Bytes) (name out : ℕ) (is-actor : Bool) → name ≡ (k * 65536 + start) * 32 + size
+      → is-actor ≡ mem (nameOf q r name) actors → out ≡ name * 2 + pick is-actor 1 0
       → vertexOfWord q r out ≡ weaveVertex k actors (partOf (textOf q r k) start size)
   vertex-says actors name out is-actor n a o =
       let said : nameOf q r name ≡ partOf (textOf q r k) start size = ap (nameOf q r) n ∙ name-word-says in

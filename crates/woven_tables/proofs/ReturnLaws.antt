@@ -25,7 +25,8 @@ pub returns-start : (returns numbers old : List ℕ) → ReturnsSoFar returns 0 
 unfolding returnsAt
 returns-start returns numbers old = record { size = refl; added = record { returns-are = listed-none _; kept = λ i z. refl } }
 
-pub returns-more : (returns : List ℕ) (i : ℕ) (numbers old words : List ℕ) → ReturnsSoFar returns i numbers old words → i < length returns → i < 4 → wovenWords ≤ length words
+pub returns-more : (returns : List ℕ) (i : ℕ) (numbers old words : List ℕ) → ReturnsSoFar returns i numbers old words → i < length returns → i < 4
+    → wovenWords ≤ length words
     → ReturnsSoFar returns (i + 1) numbers old (set words (408 + i) (getD numbers (getD returns i 0) 0))
 unfolding returnsAt
 returns-more returns i numbers old words so-far more few size =
@@ -36,8 +37,10 @@ returns-more returns i numbers old words so-far more few size =
       added = record {
         returns-are =
             listed-more _ i
-            ∙ ap₂ (λ xs y. xs ++ (y ∷ [])) (returns-same words new i (λ j l u. getD-set-other words (408 + i) j x 0 (λ e. omega arith)) ∙ so-far .added .returns-are) (getD-set-same words (408 + i) x 0 (omega arith))
-            ∙ sym (ap (λ n. map (λ v. getD numbers v 0) (take n returns)) (add-one i) ∙ ap (map (λ v. getD numbers v 0)) (take-suc returns i 0 more) ∙ map-end (λ v. getD numbers v 0) (take i returns) (getD returns i 0));
+            ∙ ap₂ (λ xs y. xs ++ (y ∷ [])) (returns-same words new i (λ j l u. getD-set-other words (408 + i) j x 0 (λ e. omega arith))
+            ∙ so-far .added .returns-are) (getD-set-same words (408 + i) x 0 (omega arith))
+            ∙ sym (ap (λ n. map (λ v. getD numbers v 0) (take n returns)) (add-one i) ∙ ap (map (λ v. getD numbers v 0)) (take-suc returns i 0 more)
+            ∙ map-end (λ v. getD numbers v 0) (take i returns) (getD returns i 0));
         kept = λ j z. getD-set-other words (408 + i) j x 0 (λ e. ⊎-elim (λ y. omega arith) (λ y. omega arith) z) ∙ so-far .added .kept j z;
       };
     }

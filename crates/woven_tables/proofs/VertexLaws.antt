@@ -49,7 +49,8 @@ behind-new w vs h = go (any (sameVertex w) vs) refl
 -- the words of the vertices that were there stay
 pub vertices-same : (q r : Bytes) (old new : List ℕ) (n : ℕ) → ((i : ℕ) → i < n → getD new i 0 ≡ getD old i 0) → verticesAt q r new n ≡ verticesAt q r old n
 unfolding verticesAt
-vertices-same q r old new n h = listed-same (λ i. vertexOfWord q r (getD new i 0)) (λ i. vertexOfWord q r (getD old i 0)) n (λ i l. ap (vertexOfWord q r) (h i l))
+vertices-same q r old new n h = listed-same (λ i. vertexOfWord q r (getD new i 0)) (λ i. vertexOfWord q r (getD old i 0)) n
+    (λ i l. ap (vertexOfWord q r) (h i l))
 
 -- placing a vertex, by what the search for it found
 module _ (q r : Bytes) (words : List ℕ) (n word at : ℕ) (found : at ≡ placeVertex (vertexOfWord q r word) (verticesAt q r words n)) where
@@ -76,7 +77,8 @@ module _ (q r : Bytes) (words : List ℕ) (n word at : ℕ) (found : at ≡ plac
         at = found;
         counted = new-count h;
         vertices = λ z. rw e (listed-more (λ i. vertexOfWord q r (getD (set words n word) i 0)) n
-            ∙ ap₂ (λ x y. x ++ (y ∷ [])) (vertices-same q r words (set words n word) n (λ i k. getD-set-other words n i word 0 (λ p. omega arith))) (ap (vertexOfWord q r) (getD-set-same words n word 0 (omega arith))));
+            ∙ ap₂ (λ x y. x ++ (y ∷ [])) (vertices-same q r words (set words n word) n (λ i k. getD-set-other words n i word 0 (λ p. omega arith)))
+            (ap (vertexOfWord q r) (getD-set-same words n word 0 (omega arith))));
         kept = λ i z. getD-set-other words n i word 0 (λ p. ⊎-elim (λ y. omega arith) (λ y. omega arith) z);
       }
 
@@ -102,44 +104,57 @@ unfolding firstsBy
 numbered-none vs names numbers = record { vertices = refl; numbers = λ j h. absurd (omega arith) }
 
 -- one vertex more
-firsts-suc : (vs names : List WovenVertex) (i : ℕ) → i < length names → firstVertices vs (take (i + 1) names) ≡ addNewBy sameVertex (firstVertices vs (take i names)) (getD names i noVertex)
+firsts-suc : (vs names : List WovenVertex) (i : ℕ) → i < length names
+    → firstVertices vs (take (i + 1) names) ≡ addNewBy sameVertex (firstVertices vs (take i names)) (getD names i noVertex)
 unfolding firstsBy
-firsts-suc vs names i h = ap (firstVertices vs) (ap (λ n. take n names) (add-one i) ∙ take-suc names i noVertex h) ∙ firstsBy-append sameVertex vs (take i names) (getD names i noVertex ∷ [])
+firsts-suc vs names i h = ap (firstVertices vs) (ap (λ n. take n names) (add-one i) ∙ take-suc names i noVertex h)
+    ∙ firstsBy-append sameVertex vs (take i names) (getD names i noVertex ∷ [])
 
-module _ (vs names : List WovenVertex) (i : ℕ) (all : List WovenVertex) (numbers : List ℕ) (so-far : Numbered vs names i all numbers) (more : i < length names) where
+module _ (vs names : List WovenVertex) (i : ℕ) (all : List WovenVertex) (numbers : List ℕ) (so-far : Numbered vs names i all numbers)
+    (more : i < length names) where
   next-vertices : addNewBy sameVertex all (getD names i noVertex) ≡ firstVertices vs (take (i + 1) names)
   next-vertices = ap (λ z. addNewBy sameVertex z (getD names i noVertex)) (so-far .vertices) ∙ sym (firsts-suc vs names i more)
 
-  place-stays : (j : ℕ) → j < i → placeVertex (getD names j noVertex) (addNewBy sameVertex all (getD names i noVertex)) ≡ placeVertex (getD names j noVertex) all
+  place-stays : (j : ℕ) → j < i → placeVertex (getD names j noVertex) (addNewBy sameVertex all (getD names i noVertex))
+      ≡ placeVertex (getD names j noVertex) all
   unfolding firstsBy
   place-stays j h =
-      let there : getD names j noVertex ∈ all = subst (λ z. getD names j noVertex ∈ z) (sym (so-far .vertices)) (first-vertices-i vs (take i names) (getD names j noVertex)
-      (subst (λ z. z ∈ take i names) (getD-take i names j noVertex h) (getD-in (take i names) j noVertex (omega (arith, length-take-le i names (omega arith)))))) in
+      let there : getD names j noVertex ∈ all = subst (λ z. getD names j noVertex ∈ z) (sym (so-far .vertices))
+      (first-vertices-i vs (take i names) (getD names j noVertex)
+      (subst (λ z. z ∈ take i names) (getD-take i names j noVertex h)
+      (getD-in (take i names) j noVertex (omega (arith, length-take-le i names (omega arith)))))) in
       place-firsts (getD names j noVertex) all (getD names i noVertex ∷ []) there
 
-  pub numbered-more : i < length numbers → Numbered vs names (i + 1) (addNewBy sameVertex all (getD names i noVertex)) (set numbers i (placeVertex (getD names i noVertex) all))
+  pub numbered-more : i < length numbers → Numbered vs names (i + 1) (addNewBy sameVertex all (getD names i noVertex))
+      (set numbers i (placeVertex (getD names i noVertex) all))
   numbered-more room = record {
     vertices = next-vertices;
     numbers = λ j h. either (equal-or-not j i)
-        (λ e. subst (λ z. getD (set numbers i (placeVertex (getD names i noVertex) all)) z 0 ≡ placeVertex (getD names z noVertex) (addNewBy sameVertex all (getD names i noVertex))) (sym e) (getD-set-same numbers i (placeVertex (getD names i noVertex) all) 0 room ∙ sym (place-own (getD names i noVertex) all)))
-        (λ e. getD-set-other numbers i j (placeVertex (getD names i noVertex) all) 0 (e .1) ∙ so-far .numbers j (omega arith) ∙ sym (place-stays j (omega arith)));
+        (λ e. subst (λ z. getD (set numbers i (placeVertex (getD names i noVertex) all)) z 0
+        ≡ placeVertex (getD names z noVertex) (addNewBy sameVertex all (getD names i noVertex))) (sym e)
+        (getD-set-same numbers i (placeVertex (getD names i noVertex) all) 0 room ∙ sym (place-own (getD names i noVertex) all)))
+        (λ e. getD-set-other numbers i j (placeVertex (getD names i noVertex) all) 0 (e .1) ∙ so-far .numbers j (omega arith)
+        ∙ sym (place-stays j (omega arith)));
   }
 
   -- what is passed with one vertex more stays passed
   pub numbered-passed : 24 < length (addNewBy sameVertex all (getD names i noVertex)) → 24 < length (firstVertices vs names)
   numbered-passed h =
       let e : firstVertices vs names ≡ firstVertices (addNewBy sameVertex all (getD names i noVertex)) (drop (i + 1) names) =
-      ap (firstVertices vs) (sym (take-append-drop (i + 1) names)) ∙ firstsBy-append sameVertex vs (take (i + 1) names) (drop (i + 1) names) ∙ ap (λ z. firstVertices z (drop (i + 1) names)) (sym next-vertices) in
+      ap (firstVertices vs) (sym (take-append-drop (i + 1) names)) ∙ firstsBy-append sameVertex vs (take (i + 1) names) (drop (i + 1) names)
+      ∙ ap (λ z. firstVertices z (drop (i + 1) names)) (sym next-vertices) in
       omega (arith, ap length e, vertices-grow (addNewBy sameVertex all (getD names i noVertex)) (drop (i + 1) names))
 
 -- all vertices are woven
-pub numbered-all : (vs names all : List WovenVertex) (numbers : List ℕ) (i : ℕ) → length names ≤ i → Numbered vs names i all numbers → all ≡ firstVertices vs names
+pub numbered-all : (vs names all : List WovenVertex) (numbers : List ℕ) (i : ℕ) → length names ≤ i → Numbered vs names i all numbers
+    → all ≡ firstVertices vs names
 numbered-all vs names all numbers i h n = n .vertices ∙ ap (firstVertices vs) (take-all i names h)
 
 -- what weaving makes of a text's vertex
 module _ (text : Bytes) (k : ℕ) (actors : List Bytes) (parts : List Part) (count : ℕ) (few : count ≤ length parts) where
   pub length-names : length (textVertices text k actors parts count) ≡ count
-  length-names = length-map (weaveVertex k actors) (map (nameAt text) (take count parts)) ∙ length-map (nameAt text) (take count parts) ∙ length-take-le count parts few
+  length-names = length-map (weaveVertex k actors) (map (nameAt text) (take count parts)) ∙ length-map (nameAt text) (take count parts)
+      ∙ length-take-le count parts few
 
   pub own-name : (i : ℕ) → i < count → getD (textVertices text k actors parts count) i noVertex ≡ weaveVertex k actors (nameAt text (getD parts i noPart))
   own-name i h =
@@ -150,7 +165,8 @@ module _ (text : Bytes) (k : ℕ) (actors : List Bytes) (parts : List Part) (cou
 
 -- the same, the text being what stands from a base on
 pub own-says : (text : Bytes) (base k : ℕ) (actors : List Bytes) (parts : List Part) (count : ℕ) → count ≤ length parts → (i : ℕ) → i < count
-    → weaveVertex k actors (partOf text (base + getD parts i noPart .start) (getD parts i noPart .length)) ≡ getD (textVertices (drop base text) k actors parts count) i noVertex
+    → weaveVertex k actors (partOf text (base + getD parts i noPart .start) (getD parts i noPart .length))
+    ≡ getD (textVertices (drop base text) k actors parts count) i noVertex
 unfolding nameAt
 own-says text base k actors parts count few i h =
     let p : Part = getD parts i noPart in
@@ -164,10 +180,13 @@ pub record VerticesSoFar (q r : Bytes) (names : List WovenVertex) (old words : L
   pub numbered : Numbered (verticesAt q r old woven) names i (verticesAt q r words n) given
   pub kept : KeptOutside 0 24 old words
 
-pub vertices-start : (q r : Bytes) (names : List WovenVertex) (old : List ℕ) (woven : ℕ) (given : List ℕ) → woven ≤ 24 → length given ≡ 8 → VerticesSoFar q r names old old woven woven 0 given
-vertices-start q r names old woven given h s = record { few = h; room = refl; size = s; numbered = numbered-none (verticesAt q r old woven) names given; kept = λ i z. refl }
+pub vertices-start : (q r : Bytes) (names : List WovenVertex) (old : List ℕ) (woven : ℕ) (given : List ℕ) → woven ≤ 24 → length given ≡ 8
+    → VerticesSoFar q r names old old woven woven 0 given
+vertices-start q r names old woven given h s =
+    record { few = h; room = refl; size = s; numbered = numbered-none (verticesAt q r old woven) names given; kept = λ i z. refl }
 
-module _ (q r : Bytes) (names : List WovenVertex) (old words : List ℕ) (woven n i : ℕ) (given : List ℕ) (so-far : VerticesSoFar q r names old words woven n i given) (more : i < length names)
+module _ (q r : Bytes) (names : List WovenVertex) (old words : List ℕ) (woven n i : ℕ) (given : List ℕ)
+    (so-far : VerticesSoFar q r names old words woven n i given) (more : i < length names)
     (new : List ℕ) (word : ℕ) (out : Placed) (placed : VertexPlaced q r words new n word out) (says : vertexOfWord q r word ≡ getD names i noVertex) where
   pub vertices-more : out .count ≤ 24 → length new ≡ length words → i < 8 → VerticesSoFar q r names old new woven (out .count) (i + 1) (set given i (out .at))
   vertices-more h s room = record {
@@ -181,16 +200,20 @@ module _ (q r : Bytes) (names : List WovenVertex) (old words : List ℕ) (woven 
     kept = λ j z. placed .kept j z ∙ so-far .kept j z;
   }
 
-  pub vertices-passed : (count : ℕ) → length names ≡ count → 24 < out .count → VerticesAdded q r names count old new woven (record { numbers = given; count = out .count })
+  pub vertices-passed : (count : ℕ) → length names ≡ count → 24 < out .count
+      → VerticesAdded q r names count old new woven (record { numbers = given; count = out .count })
   vertices-passed count all h = record {
     all = all;
-    passed = λ z. numbered-passed (verticesAt q r old woven) names i (verticesAt q r words n) given (so-far .numbered) more (subst (λ z. 24 < z) (placed .counted ∙ ap (λ z. length (addNewBy sameVertex (verticesAt q r words n) z)) says) h);
+    passed = λ z. numbered-passed (verticesAt q r old woven) names i (verticesAt q r words n) given (so-far .numbered) more
+        (subst (λ z. 24 < z) (placed .counted ∙ ap (λ z. length (addNewBy sameVertex (verticesAt q r words n) z)) says) h);
     vertices = λ z. absurd (omega arith);
     numbers = λ z. absurd (omega arith);
     kept = λ j z. placed .kept j z ∙ so-far .kept j z;
   }
 
-pub vertices-end : (q r : Bytes) (names : List WovenVertex) (old words : List ℕ) (woven n i : ℕ) (given : List ℕ) → VerticesSoFar q r names old words woven n i given → (count : ℕ) → length names ≡ count → length names ≤ i → VerticesAdded q r names count old words woven (record { numbers = given; count = n })
+pub vertices-end : (q r : Bytes) (names : List WovenVertex) (old words : List ℕ) (woven n i : ℕ) (given : List ℕ)
+    → VerticesSoFar q r names old words woven n i given → (count : ℕ) → length names ≡ count → length names ≤ i
+    → VerticesAdded q r names count old words woven (record { numbers = given; count = n })
 vertices-end q r names old words woven n i given s count all-named h =
     let all = numbered-all (verticesAt q r old woven) names (verticesAt q r words n) given i h (s .numbered) in
     record {

@@ -49,7 +49,8 @@ renumberedClause numbers before (edgeHas e a r x) = edgeHas (before + e) a r x
 -- words say a condition
 abbrev pub ClauseSaid : ℕ → ℕ → List ℕ → ℕ → Condition → ClauseWords → Type 0
 ClauseSaid k base numbers before condition out =
-    (b : Book) (query rules : Bytes) → clauseAt b query rules (out .what) (out .high) (out .low) ≡ renumberedClause numbers before (clauseIn b (drop base (textOf query rules k)) condition)
+    (b : Book) (query rules : Bytes) → clauseAt b query rules (out .what) (out .high) (out .low)
+    ≡ renumberedClause numbers before (clauseIn b (drop base (textOf query rules k)) condition)
 
 -- the condition of a clause, by names
 abbrev pub namedClause : Book → Bytes → ClauseData → Clause

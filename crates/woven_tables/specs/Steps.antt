@@ -43,7 +43,8 @@ pub record VerticesAdded (query rules : Bytes) (vs : List WovenVertex) (count : 
   pub all : length vs ≡ count
   pub passed : 24 < out .count → 24 < length (firstVertices (verticesAt query rules old n) vs)
   pub vertices : out .count ≤ 24 → verticesAt query rules new (out .count) ≡ firstVertices (verticesAt query rules old n) vs
-  pub numbers : out .count ≤ 24 → (i : ℕ) → i < length vs → getD (out .numbers) i 0 ≡ placeVertex (getD vs i noVertex) (firstVertices (verticesAt query rules old n) vs)
+  pub numbers : out .count ≤ 24 → (i : ℕ) → i < length vs
+      → getD (out .numbers) i 0 ≡ placeVertex (getD vs i noVertex) (firstVertices (verticesAt query rules old n) vs)
   pub kept : KeptOutside 0 24 old new
 
 -- an edge with new numbers for its vertices

@@ -67,7 +67,8 @@ relationAt n = getD (eq ∷ ne ∷ lt ∷ le ∷ gt ∷ ge ∷ []) n eq
 unfoldable pub valueAt : Bytes → ℕ → ℕ → ℕ → Value
 valueAt text kind high low = pick (eqb kind 0) (int (high * 4294967296 + low)) (pick (eqb kind 1) (str (partOf text high low)) (bool (eqb low 1)))
 
--- a clause in three words; the first is (((k * 64 + owner) * 32 + attribute) * 8 + relation) * 16 + value kind * 4 + kind; kinds are 0, an exclusion of the second word from the third; 1, a requirement of a vertex; 2, of an edge
+-- a clause in three words; the first is (((k * 64 + owner) * 32 + attribute) * 8 + relation) * 16 + value kind * 4 + kind; kinds are 0, an exclusion of
+-- the second word from the third; 1, a requirement of a vertex; 2, of an edge
 unfoldable pub clauseAt : Book → Bytes → Bytes → ℕ → ℕ → ℕ → Clause
 clauseAt b query rules w high low =
     let owner = w / 4096 % 64 in
@@ -88,7 +89,8 @@ edgesAt b query rules words n = listed (λ i. edgeAt b query rules (getD words (
 
 -- the exclusions and requirements in their order
 unfoldable pub clausesAt : Book → Bytes → Bytes → List ℕ → ℕ → List Clause
-clausesAt b query rules words n = listed (λ i. clauseAt b query rules (getD words (clauseTable + 3 * i) 0) (getD words (clauseTable + 3 * i + 1) 0) (getD words (clauseTable + 3 * i + 2) 0)) n
+clausesAt b query rules words n = listed
+    (λ i. clauseAt b query rules (getD words (clauseTable + 3 * i) 0) (getD words (clauseTable + 3 * i + 1) 0) (getD words (clauseTable + 3 * i + 2) 0)) n
 
 -- the Return vertices
 unfoldable pub returnsAt : List ℕ → ℕ → List ℕ

@@ -132,7 +132,9 @@ pub fn vertex_of(
     length: usize,
 ) -> u32
     requires { ⌜ (count ≤ lib.ListN.length (now actors)) × (k < 32) × (start < 65536) × (length < 32) ⌝ }
-    ensures { λ r. ⌜ vertexOfWord (now (query .entry)) (now (rules .entry)) r ≡ weaveVertex k (actorsAt (now (rules .entry)) (now (actors .entry)) count) (partOf (textOf (now (query .entry)) (now (rules .entry)) k) start length) ⌝ }
+    ensures { λ r. ⌜ vertexOfWord (now (query .entry)) (now (rules .entry)) r
+        ≡ weaveVertex k (actorsAt (now (rules .entry)) (now (actors .entry)) count)
+        (partOf (textOf (now (query .entry)) (now (rules .entry)) k) start length) ⌝ }
 {
     let name = name_word(k, start, length);
     vertex_word(name, is_actor(query, rules, actors, count, name))
@@ -141,7 +143,8 @@ pub fn vertex_of(
 // The number of a vertex among the woven ones, or how many there are where it is none of them.
 pub fn find_vertex(query: &[u8], rules: &[u8], words: &[u32], count: usize, word: u32) -> usize
     requires { ⌜ count ≤ length (now words) ⌝ }
-    ensures { λ r. ⌜ r ≡ placeVertex (vertexOfWord (now (query .entry)) (now (rules .entry)) word) (verticesAt (now (query .entry)) (now (rules .entry)) (now (words .entry)) count) ⌝ }
+    ensures { λ r. ⌜ r ≡ placeVertex (vertexOfWord (now (query .entry)) (now (rules .entry)) word)
+        (verticesAt (now (query .entry)) (now (rules .entry)) (now (words .entry)) count) ⌝ }
 {
     let mut i = 0;
     while i < count {

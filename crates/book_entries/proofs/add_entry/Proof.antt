@@ -16,34 +16,72 @@ part-find-name-end : tie.Need-part-find-name-end
 part-find-name-end c = omega (arith, c .before .before .before .before .pre .name-inside)
 
 find-name-requires : tie.Need-find-name-requires
-find-name-requires c κs = (c .before .before .before .before .before .pre .table .names, omega (arith, c .before .before .before .before .before .pre .table .low, c .before .before .before .before .before .pre .table .few, c .before .before .before .before .before .pre .fits .room))
+find-name-requires c κs =
+    let at-pre = c .before .before .before .before .before in
+    (at-pre .pre .table .names, omega (arith, at-pre .pre .table .low, at-pre .pre .table .few, at-pre .pre .fits .room))
 
 add-t21 : tie.Need-add-t21
 add-t21 c = omega (arith, c .before .before .before .before .before .before .before .before .pre .counted)
 
 returns : tie.Need-returns
-returns c = entry-undeclared (c .before .before .before .before .before .before .before .before .args .text .now) (c .before .before .before .before .before .before .before .before .args .words .now) (c .before .before .before .before .before .before .before .before .args .counts) (c .before .before .before .before .before .before .before .before .args .offset) (c .before .before .before .before .before .before .before .before .args .declared) (c .before .before .before .before .before .before .before .before .args .name) (c .before .before .before .before .before .before .before .before .args .value) (c .before .before .before .before .before .before .before .before .args .known) (c .before .before .before .before .before .before .before .before .pre) _ (c .before .before .find-name .ensures ∙ ap (λ (w : Bytes). place w (namesAt (c .before .before .before .before .before .before .before .before .args .text .now) (c .before .before .before .before .before .before .before .before .args .words .now) (c .before .before .before .before .before .before .before .before .args .offset) (c .before .before .before .before .before .before .before .before .args .declared))) (part-slice (c .before .before .before .before .before .before .before .before .args .text .now) (c .before .before .before .before .before .before .before .before .args .name))) (c .before .if1 .taken)
+returns c =
+    let at-args = c .before .before .before .before .before .before .before .before in
+    entry-undeclared (at-args .args .text .now) (at-args .args .words .now) (at-args .args .counts) (at-args .args .offset) (at-args .args .declared)
+    (at-args .args .name) (at-args .args .value) (at-args .args .known) (at-args .pre) _
+    (c .before .before .find-name .ensures ∙ ap
+    (λ (w : Bytes). place w (namesAt (at-args .args .text .now) (at-args .args .words .now) (at-args .args .offset) (at-args .args .declared)))
+    (part-slice (at-args .args .text .now) (at-args .args .name))) (c .before .if1 .taken)
 
 slice-read-kind : tie.Need-slice-read-kind
-slice-read-kind c = omega (arith, c .before .before .before .before .before .before .before .before .pre .table .low, c .before .before .before .before .before .before .before .before .pre .table .few, c .before .before .before .before .before .before .before .before .pre .fits .room)
+slice-read-kind c =
+    let at-pre = c .before .before .before .before .before .before .before .before in
+    omega (arith, at-pre .pre .table .low, at-pre .pre .table .few, at-pre .pre .fits .room)
 
 has-requires : tie.Need-has-requires
 has-requires c κs = omega (arith, c .before .before .before .before .before .before .before .before .pre .table .few)
 
 add-put-entry : tie.Need-add-put-entry
-add-put-entry c = omega (arith, c .before .before .before .before .before .before .before .before .before .before .before .before .before .before .pre .counted, c .before .before .before .before .before .before .before .before .before .before .before .before .before .before .pre .fits .within .entries)
+add-put-entry c =
+    let at-pre = c .before .before .before .before .before .before .before .before .before .before .before .before .before .before in
+    omega (arith, at-pre .pre .counted, at-pre .pre .fits .within .entries)
 
 put-entry-requires : tie.Need-put-entry-requires
-put-entry-requires c κs = record { room = c .before .before .before .before .before .before .before .before .before .before .before .before .before .before .pre .fits .room; declared = omega (arith, c .before .before .before .before .before .before .before .before .before .before .before .before .before .before .pre .table .few); short = ends-later _ 65536 (c .before .before .before .before .before .before .before .before .before .before .before .before .before .before .pre .short) (c .before .before .before .before .before .before .before .before .before .before .before .before .before .before .args .value) (c .before .before .before .before .before .before .before .before .before .before .before .before .before .before .pre .value-inside) }
+put-entry-requires c κs =
+    let at-pre = c .before .before .before .before .before .before .before .before .before .before .before .before .before .before in
+    record {
+      room = at-pre .pre .fits .room;
+      declared = omega (arith, at-pre .pre .table .few);
+      short = ends-later _ 65536 (at-pre .pre .short)
+          (at-pre .args .value) (at-pre .pre .value-inside);
+    }
 
 with-requires : tie.Need-with-requires
-with-requires c κs = omega (arith, c .before .before .before .before .before .before .before .before .before .before .before .before .before .before .before .before .before .before .pre .table .few, c .before .before .before .before .before .before .before .before .before .before .before .if1 .left)
+with-requires c κs =
+    let at-if1 = c .before .before .before .before .before .before .before .before .before .before .before in
+    let at-pre = at-if1 .before .before .before .before .before .before .before in
+    omega (arith, at-pre .pre .table .few, at-if1 .if1 .left)
 
 add-t17 : tie.Need-add-t17
-add-t17 c = omega (arith, c .before .before .before .before .before .before .before .before .before .before .before .before .before .before .before .before .before .before .before .before .pre .counted)
+add-t17 c =
+    let at-pre = c .before .before .before .before .before .before .before .before .before .before .before .before .before .before .before .before .before .before .before .before in
+    omega (arith, at-pre .pre .counted)
 
 returns-2 : tie.Need-returns-2
-returns-2 c = rw (c .before .before .lower-fault .ensures, c .before .before .before .before .before .before .before .before .before .entry-fault .ensures, c .before .with .ensures) (entry-declared (c .before .before .before .before .before .before .before .before .before .before .before .before .before .before .before .before .before .before .before .before .args .text .now) (c .before .before .before .before .before .before .before .before .before .before .before .before .before .before .before .before .before .before .before .before .args .words .now) (c .before .before .before .before .before .before .before .before .before .before .before .before .before .before .before .before .before .before .before .before .args .counts) (c .before .before .before .before .before .before .before .before .before .before .before .before .before .before .before .before .before .before .before .before .args .offset) (c .before .before .before .before .before .before .before .before .before .before .before .before .before .before .before .before .before .before .before .before .args .declared) (c .before .before .before .before .before .before .before .before .before .before .before .before .before .before .before .before .before .before .before .before .args .name) (c .before .before .before .before .before .before .before .before .before .before .before .before .before .before .before .before .before .before .before .before .args .value) (c .before .before .before .before .before .before .before .before .before .before .before .before .before .before .before .before .before .before .before .before .args .known) (c .before .before .before .before .before .before .before .before .before .before .before .before .before .before .before .before .before .before .before .before .pre) _ (c .before .before .before .before .before .before .before .before .before .before .before .before .before .before .find-name .ensures ∙ ap (λ (w : Bytes). place w (namesAt (c .before .before .before .before .before .before .before .before .before .before .before .before .before .before .before .before .before .before .before .before .args .text .now) (c .before .before .before .before .before .before .before .before .before .before .before .before .before .before .before .before .before .before .before .before .args .words .now) (c .before .before .before .before .before .before .before .before .before .before .before .before .before .before .before .before .before .before .before .before .args .offset) (c .before .before .before .before .before .before .before .before .before .before .before .before .before .before .before .before .before .before .before .before .args .declared))) (part-slice (c .before .before .before .before .before .before .before .before .before .before .before .before .before .before .before .before .before .before .before .before .args .text .now) (c .before .before .before .before .before .before .before .before .before .before .before .before .before .before .before .before .before .before .before .before .args .name))) (c .before .before .before .before .before .before .before .before .before .before .before .before .before .if1 .left) _ (c .before .before .before .before .before .put-entry .ensures) _ _ (c .before .before .before .before .before .before .before .before .before .before .before .has .ensures) (c .before .before .before .before .before .before .before .before .before .before .of-kind .ensures (c .before .before .before .before .before .before .before .before .before .before .before .before .before .before .before .before .before .before .before .before .args .text .now)))
+returns-2 c =
+    let at-put-entry = c .before .before .before .before .before in
+    let at-entry-fault = at-put-entry .before .before .before .before in
+    let at-of-kind = at-entry-fault .before in
+    let at-has = at-of-kind .before in
+    let at-if1 = at-has .before .before in
+    let at-find-name = at-if1 .before in
+    let at-args = at-find-name .before .before .before .before .before .before in
+    rw (c .before .before .lower-fault .ensures, at-entry-fault .entry-fault .ensures, c .before .with .ensures)
+    (entry-declared (at-args .args .text .now) (at-args .args .words .now) (at-args .args .counts) (at-args .args .offset) (at-args .args .declared)
+    (at-args .args .name) (at-args .args .value) (at-args .args .known) (at-args .pre) _
+    (at-find-name .find-name .ensures ∙ ap (λ (w : Bytes). place w
+    (namesAt (at-args .args .text .now) (at-args .args .words .now) (at-args .args .offset) (at-args .args .declared)))
+    (part-slice (at-args .args .text .now) (at-args .args .name))) (at-if1 .if1 .left) _ (at-put-entry .put-entry .ensures) _ _ (at-has .has .ensures)
+    (at-of-kind .of-kind .ensures (at-args .args .text .now)))
 
 pub add-entry-spec : {M : Type 1} → statement M
 add-entry-spec =

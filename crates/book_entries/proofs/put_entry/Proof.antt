@@ -11,7 +11,15 @@ add-store-entry : tie.Need-add-store-entry
 add-store-entry c = omega (arith, c .before .before .before .value-words .ensures .type)
 
 returns : tie.Need-returns
-returns c = record { said = c .before .before .before .before .before .before .value-words .result; says = c .before .before .before .before .before .before .value-words .ensures; put = rw (lt-ltb _ 2048 (c .before .before .before .before .before .if1 .taken)) (c .before .before .store-entry .ensures) }
+returns c =
+    let at-if1 = c .before .before .before .before .before in
+    let at-value-words = at-if1 .before in
+    record {
+      said = at-value-words .value-words .result;
+      says = at-value-words .value-words .ensures;
+      put = rw (lt-ltb _ 2048 (at-if1 .if1 .taken))
+          (c .before .before .store-entry .ensures);
+    }
 
 returns-2 : tie.Need-returns-2
 returns-2 c = record { said = c .before .value-words .result; says = c .before .value-words .ensures; put = rw (le-ltb _ 2048 (c .if1 .left)) }

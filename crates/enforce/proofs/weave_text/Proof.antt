@@ -10,7 +10,9 @@ use Rattle.enforce.proofs.weave_text.Statement.{statement}
 use Rattle.enforce.proofs.weave_text.Tie as tie
 
 cast-actor-count : tie.Need-cast-actor-count
-cast-actor-count c = omega (arith, c .shared-slice-known7 .given (16 + 27 * c .before .before .before .before .before .before .before .before .args .place .category))
+cast-actor-count c =
+    let at-args = c .before .before .before .before .before .before .before .before in
+    omega (arith, c .shared-slice-known7 .given (16 + 27 * at-args .args .place .category))
 
 pattern-of-requires : tie.Need-pattern-of-requires
 pattern-of-requires c κs = c .before .before .before .before .before .before .before .before .before .pre .asked
@@ -27,13 +29,16 @@ add-pattern-requires c κs =
 
 returns : tie.Need-returns
 returns c =
-    let a = c .before .before .before .before .before .before .before .before .before .before .before .before .before .before .args in
-    let p = c .before .before .before .before .pattern-of in
+    let at-pattern-of = c .before .before .before .before in
+    let at-args = at-pattern-of .before .before .before .before .before .before .before .before .before .before in
+    let a = at-args .args in
+    let p = at-pattern-of .pattern-of in
     let w = c .before .before .add-pattern in (
       p .result,
       p .ensures,
       subst
-          (λ actors. TextAdded (a .query .now) (a .rules .now) actors (a .place .number) (a .place .base) (p .result) (a .woven .now) (w .last .1 .1 .1 .1 .1 .1 .1 .0) (a .shape) (w .result))
+          (λ actors. TextAdded (a .query .now) (a .rules .now) actors (a .place .number) (a .place .base) (p .result) (a .woven .now)
+          (w .last .1 .1 .1 .1 .1 .1 .1 .0) (a .shape) (w .result))
           (own-actors (a .rules .now) (a .rules-words .now) (a .place .category)) (w .ensures),
     )
 

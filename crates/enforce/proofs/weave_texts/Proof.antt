@@ -6,22 +6,33 @@ use Rattle.enforce.proofs.weave_texts.Tie as tie
 
 weave-text-requires : tie.Need-weave-text-requires
 weave-text-requires c κs =
-    let a = c .before .before .before .before .before .before .before .before .args in
-    query-ready (a .book .now) (a .words .now) (a .counts) (a .query .now) (a .rules .now) (a .rules-words .now) (a .rules-counts) (a .category) (c .before .before .before .before .before .before .before .before .pre .0) (a .woven .now) _ (c .empty .ensures) (c .before .before .before .before .before .before .before .before .pre .1)
+    let at-pre = c .before .before .before .before .before .before .before .before in
+    let a = at-pre .args in
+    query-ready (a .book .now) (a .words .now) (a .counts) (a .query .now) (a .rules .now) (a .rules-words .now) (a .rules-counts) (a .category)
+    (at-pre .pre .0) (a .woven .now) _ (c .empty .ensures) (at-pre .pre .1)
 
 returns : tie.Need-returns
 returns c =
-    let a = c .before .before .before .before .before .before .before .before .before .before .before .before .before .args in
-    let w = c .before .before .before .before .weave-text in
-    query-passed (a .book .now) (a .words .now) (a .counts) (a .query .now) (a .rules .now) (a .rules-words .now) (a .rules-counts) (a .category) (c .before .before .before .before .before .before .before .before .before .before .before .before .before .pre .0) (a .woven .now) _ (c .before .before .before .before .before .empty .ensures) (w .last .1 .1 .1 .1 .1 .1 .1 .1 .0) (w .result) (w .ensures) (c .enum-told .given .1)
+    let at-weave-text = c .before .before .before .before in
+    let at-empty = at-weave-text .before in
+    let at-pre = at-empty .before .before .before .before .before .before .before .before in
+    let a = at-pre .args in
+    let w = at-weave-text .weave-text in
+    query-passed (a .book .now) (a .words .now) (a .counts) (a .query .now) (a .rules .now) (a .rules-words .now) (a .rules-counts) (a .category)
+    (at-pre .pre .0) (a .woven .now) _ (at-empty .empty .ensures) (w .last .1 .1 .1 .1 .1 .1 .1 .1 .0) (w .result) (w .ensures) (c .enum-told .given .1)
 
 weave-policies-requires : tie.Need-weave-policies-requires
 weave-policies-requires c κs =
-    let a = c .before .before .before .before .before .before .before .before .before .before .before .before .before .before .before .args in
-    let w = c .before .before .before .before .before .before .weave-text in
+    let at-weave-text = c .before .before .before .before .before .before in
+    let at-empty = at-weave-text .before in
+    let at-pre = at-empty .before .before .before .before .before .before .before .before in
+    let a = at-pre .args in
+    let w = at-weave-text .weave-text in
     record {
-      texts = c .before .before .before .before .before .before .before .before .before .before .before .before .before .before .before .pre .0;
-      held = query-held (a .book .now) (a .words .now) (a .counts) (a .query .now) (a .rules .now) (a .rules-words .now) (a .rules-counts) (a .category) (c .before .before .before .before .before .before .before .before .before .before .before .before .before .before .before .pre .0) (a .woven .now) _ (c .before .before .before .before .before .before .before .empty .ensures) (w .last .1 .1 .1 .1 .1 .1 .1 .1 .0) (w .result) (w .ensures) _ (c .before .before .first .given .1);
+      texts = at-pre .pre .0;
+      held = query-held (a .book .now) (a .words .now) (a .counts) (a .query .now) (a .rules .now) (a .rules-words .now) (a .rules-counts) (a .category)
+          (at-pre .pre .0) (a .woven .now) _ (at-empty .empty .ensures) (w .last .1 .1 .1 .1 .1 .1 .1 .1 .0) (w .result) (w .ensures) _
+          (c .before .before .first .given .1);
     }
 
 pub weave-texts-spec : {M : Type 1} → statement M

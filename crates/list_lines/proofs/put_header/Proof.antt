@@ -5,11 +5,17 @@ use Rattle.list_lines.proofs.put_header.Statement.{statement}
 use Rattle.list_lines.proofs.put_header.Tie as tie
 
 same-length : tie.Need-same-length
-same-length c = puts-keeps-length (puts-then (puts-then (c .before .before .before .before .before .before .before .before .before .before .before .put-bytes .ensures) (c .before .before .before .before .before .before .before .put-digits .ensures)) (c .before .before .put-bytes2 .ensures))
+same-length c =
+    let at-put-digits = c .before .before .before .before .before .before .before in
+    let at-put-bytes = at-put-digits .before .before .before .before in
+    puts-keeps-length (puts-then (puts-then (at-put-bytes .put-bytes .ensures) (at-put-digits .put-digits .ensures)) (c .before .before .put-bytes2 .ensures))
 
 returns : tie.Need-returns
 unfolding headerText
-returns c = puts-then (puts-then (c .before .before .before .before .before .before .before .before .before .before .before .put-bytes .ensures) (c .before .before .before .before .before .before .before .put-digits .ensures)) (c .before .before .put-bytes2 .ensures)
+returns c =
+    let at-put-digits = c .before .before .before .before .before .before .before in
+    let at-put-bytes = at-put-digits .before .before .before .before in
+    puts-then (puts-then (at-put-bytes .put-bytes .ensures) (at-put-digits .put-digits .ensures)) (c .before .before .put-bytes2 .ensures)
 
 pub put-header-spec : {M : Type 1} → statement M
 put-header-spec =

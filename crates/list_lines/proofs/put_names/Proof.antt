@@ -19,7 +19,9 @@ abbrev μ-loop : tie.MeasureT-loop
 μ-loop book words counts row out₀ at next₀ i₀ out next i = length row - i
 
 loop-holds : tie.Need-loop-holds Inv-loop μ-loop
-loop-holds c = let a = c .before .before .before .before .args in (omega arith, no-names (nodeNames (bookAt (a .book .now) (a .words .now) (a .counts))) (a .row .now) (a .out .now) (a .at))
+loop-holds c =
+    let at-args = c .before .before .before .before in
+    let a = at-args .args in (omega arith, no-names (nodeNames (bookAt (a .book .now) (a .words .now) (a .counts))) (a .row .now) (a .out .now) (a .at))
 
 cast-put-node : tie.Need-cast-put-node Inv-loop μ-loop
 cast-put-node c = omega (arith, c .shared-slice-known4 .given (c .before .before .loop .i))
@@ -28,13 +30,23 @@ loop-less : tie.Need-loop-less Inv-loop μ-loop
 loop-less c = omega arith
 
 loop-again : tie.Need-loop-again Inv-loop μ-loop
-loop-again c = let a = c .before .before .before .before .before .before .before .before .before .before .before .args in (omega arith, names-more (nodeNames (bookAt (a .book .now) (a .words .now) (a .counts))) (a .row .now) (c .before .before .before .before .before .before .loop .i) (omega arith) (c .before .before .before .before .before .before .loop .inv .1) (c .before .before .put-node .ensures))
+loop-again c =
+    let at-loop = c .before .before .before .before .before .before in
+    let at-args = at-loop .before .before .before .before .before in
+    let a = at-args .args in (
+      omega arith,
+      names-more (nodeNames (bookAt (a .book .now) (a .words .now) (a .counts))) (a .row .now) (at-loop .loop .i)
+          (omega arith) (at-loop .loop .inv .1) (c .before .before .put-node .ensures),
+    )
 
 same-length : tie.Need-same-length Inv-loop μ-loop
 same-length c = puts-keeps-length (c .before .loop .inv .1)
 
 returns : tie.Need-returns Inv-loop μ-loop
-returns c = let a = c .before .before .before .before .before .before .args in let e : c .before .loop .i ≡ length (a .row .now) = omega arith in puts-same (ap (namesText (nodeNames (bookAt (a .book .now) (a .words .now) (a .counts))) (a .row .now)) e) (c .before .loop .inv .1)
+returns c =
+    let at-args = c .before .before .before .before .before .before in
+    let a = at-args .args in let e : c .before .loop .i ≡ length (a .row .now) = omega arith in
+    puts-same (ap (namesText (nodeNames (bookAt (a .book .now) (a .words .now) (a .counts))) (a .row .now)) e) (c .before .loop .inv .1)
 
 pub put-names-spec : {M : Type 1} → statement M
 put-names-spec =

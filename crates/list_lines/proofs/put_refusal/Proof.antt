@@ -6,11 +6,31 @@ use Rattle.list_lines.proofs.put_refusal.Statement.{statement}
 use Rattle.list_lines.proofs.put_refusal.Tie as tie
 
 same-length : tie.Need-same-length
-same-length c = puts-keeps-length (puts-then (puts-then (puts-then (puts-then (puts-then (puts-then (c .before .before .before .before .before .before .before .before .before .before .before .before .before .before .before .before .before .before .before .before .before .before .before .before .before .before .before .before .before .before .before .before .put-bytes .ensures) (c .before .before .before .before .before .before .before .before .before .before .before .before .before .before .before .before .before .before .before .before .before .before .before .before .before .before .before .put-digits .ensures)) (c .before .before .before .before .before .before .before .before .before .before .before .before .before .before .before .before .before .before .before .before .before .before .put-bytes2 .ensures)) (c .before .before .before .before .before .before .before .before .before .before .before .before .before .before .before .before .before .put-digits2 .ensures)) (c .before .before .before .before .before .before .before .before .before .before .before .before .put-bytes3 .ensures)) (c .before .before .before .before .before .before .before .put-digits3 .ensures)) (c .before .before .put-bytes4 .ensures))
+same-length c =
+    let at-put-digits3 = c .before .before .before .before .before .before .before in
+    let at-put-bytes3 = at-put-digits3 .before .before .before .before .before in
+    let at-put-digits2 = at-put-bytes3 .before .before .before .before .before in
+    let at-put-bytes2 = at-put-digits2 .before .before .before .before .before in
+    let at-put-digits = at-put-bytes2 .before .before .before .before .before in
+    let at-put-bytes = at-put-digits .before .before .before .before .before in
+    puts-keeps-length (puts-then (puts-then (puts-then
+    (puts-then (puts-then (puts-then (at-put-bytes .put-bytes .ensures) (at-put-digits .put-digits .ensures)) (at-put-bytes2 .put-bytes2 .ensures))
+    (at-put-digits2 .put-digits2 .ensures)) (at-put-bytes3 .put-bytes3 .ensures)) (at-put-digits3 .put-digits3 .ensures))
+    (c .before .before .put-bytes4 .ensures))
 
 returns : tie.Need-returns
 unfolding refusalText refusalOf
-returns c = puts-then (puts-then (puts-then (puts-then (puts-then (puts-then (c .before .before .before .before .before .before .before .before .before .before .before .before .before .before .before .before .before .before .before .before .before .before .before .before .before .before .before .before .before .before .before .before .put-bytes .ensures) (c .before .before .before .before .before .before .before .before .before .before .before .before .before .before .before .before .before .before .before .before .before .before .before .before .before .before .before .put-digits .ensures)) (c .before .before .before .before .before .before .before .before .before .before .before .before .before .before .before .before .before .before .before .before .before .before .put-bytes2 .ensures)) (c .before .before .before .before .before .before .before .before .before .before .before .before .before .before .before .before .before .put-digits2 .ensures)) (c .before .before .before .before .before .before .before .before .before .before .before .before .put-bytes3 .ensures)) (c .before .before .before .before .before .before .before .put-digits3 .ensures)) (c .before .before .put-bytes4 .ensures)
+returns c =
+    let at-put-digits3 = c .before .before .before .before .before .before .before in
+    let at-put-bytes3 = at-put-digits3 .before .before .before .before .before in
+    let at-put-digits2 = at-put-bytes3 .before .before .before .before .before in
+    let at-put-bytes2 = at-put-digits2 .before .before .before .before .before in
+    let at-put-digits = at-put-bytes2 .before .before .before .before .before in
+    let at-put-bytes = at-put-digits .before .before .before .before .before in
+    puts-then (puts-then (puts-then (puts-then
+    (puts-then (puts-then (at-put-bytes .put-bytes .ensures) (at-put-digits .put-digits .ensures)) (at-put-bytes2 .put-bytes2 .ensures))
+    (at-put-digits2 .put-digits2 .ensures)) (at-put-bytes3 .put-bytes3 .ensures)) (at-put-digits3 .put-digits3 .ensures))
+    (c .before .before .put-bytes4 .ensures)
 
 pub put-refusal-spec : {M : Type 1} → statement M
 put-refusal-spec =

@@ -24,7 +24,9 @@ abbrev μ-loop : tie.MeasureT-loop
 μ-loop book words counts rows count width out₀ at next₀ from₀ i₀ out next from i = count - i
 
 -- The row of this turn ends inside the row words.
-inside : (c : tie.In-loop Inv-loop μ-loop) → c .before .loop .from + c .before .before .before .before .before .before .args .width ≤ length (c .before .before .before .before .before .before .args .rows .now)
+inside : (c : tie.In-loop Inv-loop μ-loop)
+    → c .before .loop .from + c .before .before .before .before .before .before .args .width ≤ length
+    (c .before .before .before .before .before .before .args .rows .now)
 inside c =
     let s = c .before .before .before .before .before .before in
     let h : c .before .loop .i < s .args .count = omega arith in
@@ -32,8 +34,13 @@ inside c =
 
 loop-holds : tie.Need-loop-holds Inv-loop μ-loop
 loop-holds c =
-    let a = c .before .before .before .before .args in
-    (omega arith, omega arith, no-rows (rowText (nodeNames (bookAt (a .book .now) (a .words .now) (a .counts)))) (rowsIn (a .width) (a .count) (a .rows .now)) (a .out .now) (a .at))
+    let at-args = c .before .before .before .before in
+    let a = at-args .args in (
+      omega arith,
+      omega arith,
+      no-rows (rowText (nodeNames (bookAt (a .book .now) (a .words .now) (a .counts))))
+          (rowsIn (a .width) (a .count) (a .rows .now)) (a .out .now) (a .at),
+    )
 
 add-to : tie.Need-add-to Inv-loop μ-loop
 add-to c = omega (arith, inside c)
@@ -52,14 +59,18 @@ loop-less c = omega arith
 
 loop-again : tie.Need-loop-again Inv-loop μ-loop
 loop-again c =
-    let s = c .before .before .before .before .before .before .before .before .before .before .before in
-    let l = c .before .before .before .before .before .before .loop in
+    let at-loop = c .before .before .before .before .before .before in
+    let at-before = at-loop .before .before .before .before in
+    let s = at-before .before in
+    let l = at-loop .loop in
     let a = s .args in
     let h : l .i < a .count = omega arith in (
       omega arith,
       next-row (l .i) (a .width) (l .from) (l .inv .1),
-      rows-more (rowText (nodeNames (bookAt (a .book .now) (a .words .now) (a .counts)))) (rowsIn (a .width) (a .count) (a .rows .now)) (l .i) (rw length-rowsIn h) (l .inv .2)
-          (puts-same (ap (rowText (nodeNames (bookAt (a .book .now) (a .words .now) (a .counts)))) (row-part (a .rows .now) (a .width) (a .count) (s .pre .1) (l .i) h (l .from) (l .inv .1))) (c .before .before .put-row .ensures)),
+      rows-more (rowText (nodeNames (bookAt (a .book .now) (a .words .now) (a .counts)))) (rowsIn (a .width) (a .count) (a .rows .now)) (l .i)
+          (rw length-rowsIn h) (l .inv .2)
+          (puts-same (ap (rowText (nodeNames (bookAt (a .book .now) (a .words .now) (a .counts))))
+          (row-part (a .rows .now) (a .width) (a .count) (s .pre .1) (l .i) h (l .from) (l .inv .1))) (c .before .before .put-row .ensures)),
     )
 
 same-length : tie.Need-same-length Inv-loop μ-loop
@@ -67,9 +78,11 @@ same-length c = puts-keeps-length (c .before .loop .inv .2)
 
 returns : tie.Need-returns Inv-loop μ-loop
 returns c =
-    let a = c .before .before .before .before .before .before .args in
+    let at-args = c .before .before .before .before .before .before in
+    let a = at-args .args in
     let h : a .count ≤ c .before .loop .i = omega arith in
-    rows-all (rowText (nodeNames (bookAt (a .book .now) (a .words .now) (a .counts)))) (rowsIn (a .width) (a .count) (a .rows .now)) (c .before .loop .i) (rw length-rowsIn h) (c .before .loop .inv .2)
+    rows-all (rowText (nodeNames (bookAt (a .book .now) (a .words .now) (a .counts)))) (rowsIn (a .width) (a .count) (a .rows .now)) (c .before .loop .i)
+    (rw length-rowsIn h) (c .before .loop .inv .2)
 
 pub put-rows-spec : {M : Type 1} → statement M
 put-rows-spec =

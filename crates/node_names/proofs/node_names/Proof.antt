@@ -8,21 +8,36 @@ use Rattle.node_names.proofs.node_names.Statement.{statement}
 use Rattle.node_names.proofs.node_names.Tie as tie
 
 bytes-of-requires : tie.Need-bytes-of-requires
-bytes-of-requires c κs = book-fits _ _ _ _ _ _ _ _ (c .before .before .before .before .before .before .before .prepare .ensures) (c .before .enum-told .given .1)
+bytes-of-requires c κs =
+    let at-prepare = c .before .before .before .before .before .before .before in
+    book-fits _ _ _ _ _ _ _ _ (at-prepare .prepare .ensures) (c .before .enum-told .given .1)
 
 returns : tie.Need-returns
 returns c =
     let p = c .before .before .before .before .before .before .before .before .before .before .before .before .prepare .ensures in
     let e = c .before .before .before .before .before .before .enum-told .given .1 in
-    let a = c .before .before .before .before .before .before .before .before .before .before .before .before .before .before .before .before .before .before .before .before .args in
-    (book-counted _ _ _ _ _ _ _ _ p e, (c .before .before .before .before .bytes-of .ensures ∙ left-loaded _ (a .book .now) _ (book-there _ _ _ _ _ _ _ _ p e), cleared-all (a .work .now) _ _ (c .before .before .clear .ensures) (search needs)))
+    let a = c .before .before .before .before .before .before .before .before .before .before .before .before .before .before .before .before .before .before .before .before .args in (
+      book-counted _ _ _ _ _ _ _ _ p e,
+      (
+        c .before .before .before .before .bytes-of .ensures
+            ∙ left-loaded _ (a .book .now) _ (book-there _ _ _ _ _ _ _ _ p e),
+        cleared-all (a .work .now) _ _ (c .before .before .clear .ensures) (search needs),
+      ),
+    )
 
 returns-2 : tie.Need-returns-2
 returns-2 c =
     let p = c .before .before .before .before .before .before .before .before .before .before .before .before .prepare .ensures in
     let e = c .before .before .before .before .before .before .verdict .given .1 in
-    let a = c .before .before .before .before .before .before .before .before .before .before .before .before .before .before .before .before .before .before .before .before .args in
-    (book-refused _ _ _ _ _ _ _ _ p _ e, (c .before .before .before .before .no-bytes .ensures ∙ left-refused _ (a .book .now) _ (book-not-there _ _ _ _ _ _ _ _ p _ e), cleared-all (a .work .now) _ _ (c .before .before .clear2 .ensures) (search needs)))
+    let a = c .before .before .before .before .before .before .before .before .before .before .before .before .before .before .before .before .before .before .before .before .args in (
+      book-refused _ _ _ _ _ _ _ _ p _ e,
+      (
+        c .before .before .before .before .no-bytes .ensures
+            ∙ left-refused _ (a .book .now) _ (book-not-there _ _ _ _ _ _ _ _ p _ e),
+        cleared-all (a .work .now) _ _ (c .before .before .clear2 .ensures)
+            (search needs),
+      ),
+    )
 
 pub node-names-spec : {M : Type 1} → statement M
 node-names-spec =

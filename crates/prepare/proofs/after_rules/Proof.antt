@@ -11,8 +11,9 @@ returns c =
 
 returns-2 : tie.Need-returns-2
 returns-2 c =
+    let at-pre = c .before .before .before .before .before .before .before .before .before .before in
     let q = c .before .before .before .query in
-    request-read _ _ _ _ _ _ _ _ _ (c .before .before .before .before .before .before .before .before .before .before .pre) (q .result) (q .ensures) (c .before .enum-told .given .1) _ (c .request .ensures)
+    request-read _ _ _ _ _ _ _ _ _ (at-pre .pre) (q .result) (q .ensures) (c .before .enum-told .given .1) _ (c .request .ensures)
 
 pub after-rules-spec : {M : Type 1} → statement M
 after-rules-spec =

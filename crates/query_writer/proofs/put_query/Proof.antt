@@ -6,11 +6,19 @@ use Rattle.query_writer.proofs.put_query.Statement.{statement}
 use Rattle.query_writer.proofs.put_query.Tie as tie
 
 put-returns-requires : tie.Need-put-returns-requires
-put-returns-requires c κs = c .before .before .before .before .before .before .before .before .before .before .before .before .before .before .before .before .before .before .before .before .before .before .before .before .before .before .before .pre .0 .returns
+put-returns-requires c κs =
+    let at-pre = c .before .before .before .before .before .before .before .before .before .before .before .before .before .before .before .before .before .before .before .before .before .before .before .before .before .before .before in
+    at-pre .pre .0 .returns
 
 returns : tie.Need-returns
 unfolding patternText
-returns c = puts-then (puts-then (puts-then (puts-then (c .before .before .before .before .before .before .before .before .before .before .before .before .before .before .before .before .before .before .before .put-vertices .ensures) (c .before .before .before .before .before .before .before .before .before .before .before .before .before .before .before .put-edges .ensures)) (c .before .before .before .before .before .before .before .before .before .before .before .put-conditions .ensures)) (c .before .before .before .before .before .before .put-bytes .ensures)) (c .before .before .put-returns .ensures)
+returns c =
+    let at-put-bytes = c .before .before .before .before .before .before in
+    let at-put-conditions = at-put-bytes .before .before .before .before .before in
+    let at-put-edges = at-put-conditions .before .before .before .before in
+    let at-put-vertices = at-put-edges .before .before .before .before in
+    puts-then (puts-then (puts-then (puts-then (at-put-vertices .put-vertices .ensures) (at-put-edges .put-edges .ensures))
+    (at-put-conditions .put-conditions .ensures)) (at-put-bytes .put-bytes .ensures)) (c .before .before .put-returns .ensures)
 
 pub put-query-spec : {M : Type 1} → statement M
 put-query-spec =

@@ -9,15 +9,21 @@ use Rattle.service.proofs.list.Tie as tie
 returns : tie.Need-returns
 returns c =
     let a = c .before .before .before .before .before .before .before .before .before .before .before .before .before .before .before .before .before .before .before .before .before .before .before .args in
-    list-refused _ _ _ _ (a .rows .now) (a .work .now) _ _ _ _ _ (c .before .before .before .before .before .before .before .before .before .before .before .before .before .before .prepare .ensures) (cleared-all (c .before .before .before .before .before .before .before .before .before .before .before .before .before .before .before .before .before .before .before .before .before .before .before .args .work .now) _ _ (c .before .before .before .before .before .before .clear .ensures) (search needs)) _ (c .before .before .before .before .before .before .before .before .before .verdict .given .1) _ (c .before .before .refuse .ensures)
+    list-refused _ _ _ _ (a .rows .now) (a .work .now) _ _ _ _ _
+    (c .before .before .before .before .before .before .before .before .before .before .before .before .before .before .prepare .ensures)
+    (cleared-all (c .before .before .before .before .before .before .before .before .before .before .before .before .before .before .before .before .before .before .before .before .before .before .before .args .work .now) _ _ (c .before .before .before .before .before .before .clear .ensures) (search needs)) _ (c .before .before .before .before .before .before .before .before .before .verdict .given .1) _ (c .before .before .refuse .ensures)
 
 from-texts-requires : tie.Need-from-texts-requires
-from-texts-requires c κs = asked-ready _ _ _ _ _ _ _ _ (c .before .before .before .before .before .before .before .before .prepare .ensures) (c .before .before .before .enum-told .given .1)
+from-texts-requires c κs =
+    let at-prepare = c .before .before .before .before .before .before .before .before in
+    asked-ready _ _ _ _ _ _ _ _ (at-prepare .prepare .ensures) (c .before .before .before .enum-told .given .1)
 
 returns-2 : tie.Need-returns-2
 returns-2 c =
     let a = c .before .before .before .before .before .before .before .before .before .before .before .before .before .before .before .before .before .before .before .before .before .before .before .before .args in
-    list-ready _ _ _ _ (a .rows .now) (a .work .now) _ _ _ _ _ (c .before .before .before .before .before .before .before .before .before .before .before .before .before .before .before .prepare .ensures) (cleared-all (c .before .before .before .before .before .before .before .before .before .before .before .before .before .before .before .before .before .before .before .before .before .before .before .before .args .work .now) _ _ (c .before .before .clear2 .ensures) (search needs)) (c .before .before .before .before .before .before .before .before .before .before .enum-told .given .1) _ (c .before .before .before .before .before .before .from-texts .ensures)
+    list-ready _ _ _ _ (a .rows .now) (a .work .now) _ _ _ _ _
+    (c .before .before .before .before .before .before .before .before .before .before .before .before .before .before .before .prepare .ensures)
+    (cleared-all (c .before .before .before .before .before .before .before .before .before .before .before .before .before .before .before .before .before .before .before .before .before .before .before .before .args .work .now) _ _ (c .before .before .clear2 .ensures) (search needs)) (c .before .before .before .before .before .before .before .before .before .before .enum-told .given .1) _ (c .before .before .before .before .before .before .from-texts .ensures)
 
 pub list-spec : {M : Type 1} → statement M
 list-spec =

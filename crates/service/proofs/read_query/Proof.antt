@@ -7,15 +7,20 @@ use Rattle.service.proofs.read_query.Tie as tie
 
 returns : tie.Need-returns
 returns c =
-    let w = query-refused _ _ _ _ _ _ _ _ (c .before .before .before .before .before .before .before .before .before .before .prepare .ensures) _ (c .before .before .before .before .before .enum-told .given .1) _ (c .empty .ensures) in
+    let w = query-refused _ _ _ _ _ _ _ _ (c .before .before .before .before .before .before .before .before .before .before .prepare .ensures) _
+    (c .before .before .before .before .before .enum-told .given .1) _ (c .empty .ensures) in
     (w .0, (w .1, cleared-all (c .before .before .before .before .before .before .before .before .before .before .before .before .before .before .before .before .before .before .args .work .now) _ _ (c .before .before .before .clear .ensures) (search needs)))
 
 pattern-of-requires : tie.Need-pattern-of-requires
-pattern-of-requires c κs = query-asked _ _ _ _ _ _ _ _ (c .before .before .before .before .before .before .before .prepare .ensures) (c .before .before .enum-told2 .given .1)
+pattern-of-requires c κs =
+    let at-prepare = c .before .before .before .before .before .before .before in
+    query-asked _ _ _ _ _ _ _ _ (at-prepare .prepare .ensures) (c .before .before .enum-told2 .given .1)
 
 returns-2 : tie.Need-returns-2
 returns-2 c =
-    let w = query-accepted-as _ _ _ _ _ _ _ _ (c .before .before .before .before .before .before .before .before .before .before .before .before .prepare .ensures) (c .before .before .before .before .before .before .before .enum-told2 .given .1) _ (c .before .before .before .before .pattern-of .ensures) in
+    let w = query-accepted-as _ _ _ _ _ _ _ _
+    (c .before .before .before .before .before .before .before .before .before .before .before .before .prepare .ensures)
+    (c .before .before .before .before .before .before .before .enum-told2 .given .1) _ (c .before .before .before .before .pattern-of .ensures) in
     (w .0, (w .1, cleared-all (c .before .before .before .before .before .before .before .before .before .before .before .before .before .before .before .before .before .before .before .before .args .work .now) _ _ (c .before .before .clear2 .ensures) (search needs)))
 
 pub read-query-spec : {M : Type 1} → statement M

@@ -6,10 +6,19 @@ use Rattle.service.proofs.read_rules.Statement.{statement}
 use Rattle.service.proofs.read_rules.Tie as tie
 
 returns : tie.Need-returns
-returns c = (rules-counted _ _ _ _ _ _ _ _ (c .before .before .before .before .before .before .before .before .before .before .prepare .ensures) (c .enum-told .given .1), cleared-all (c .before .before .before .before .before .before .before .before .before .before .before .before .before .before .before .before .before .before .args .work .now) _ _ (c .before .before .before .before .before .before .clear .ensures) (search needs))
+returns c = (
+  rules-counted _ _ _ _ _ _ _ _ (c .before .before .before .before .before .before .before .before .before .before .prepare .ensures)
+      (c .enum-told .given .1),
+  cleared-all (c .before .before .before .before .before .before .before .before .before .before .before .before .before .before .before .before .before .before .args .work .now) _ _ (c .before .before .before .before .before .before .clear .ensures) (search needs),
+)
 
 returns-2 : tie.Need-returns-2
-returns-2 c = (rules-refused _ _ _ _ _ _ _ _ (c .before .before .before .before .before .before .before .before .before .before .before .prepare .ensures) _ (c .before .verdict .given .1), cleared-all (c .before .before .before .before .before .before .before .before .before .before .before .before .before .before .before .before .before .before .before .args .work .now) _ _ (c .before .before .before .before .before .before .before .clear .ensures) (search needs))
+returns-2 c = (
+  rules-refused _ _ _ _ _ _ _ _ (c .before .before .before .before .before .before .before .before .before .before .before .prepare .ensures)
+      _ (c .before .verdict .given .1),
+  cleared-all
+      (c .before .before .before .before .before .before .before .before .before .before .before .before .before .before .before .before .before .before .before .args .work .now) _ _ (c .before .before .before .before .before .before .before .clear .ensures) (search needs),
+)
 
 pub read-rules-spec : {M : Type 1} → statement M
 read-rules-spec =

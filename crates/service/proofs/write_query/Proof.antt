@@ -11,10 +11,18 @@ returns c =
     (w .0, (w .1, cleared-all (c .before .before .before .before .before .before .before .before .before .before .before .before .before .before .before .before .before .before .before .args .work .now) _ _ (c .before .before .clear .ensures) (search needs)))
 
 pattern-of-requires : tie.Need-pattern-of-requires
-pattern-of-requires c κs = writer-asked _ (c .before .before .before .before .before .before .before .before .before .before .before .before .before .before .before .before .args .text .now) _ _ _ _ _ _ _ (c .before .before .before .before .before .before .before .prepare .ensures) (c .before .before .enum-told .given .1)
+pattern-of-requires c κs =
+    let at-prepare = c .before .before .before .before .before .before .before in
+    let at-args = at-prepare .before .before .before .before .before .before .before .before .before in
+    writer-asked _ (at-args .args .text .now) _ _ _ _ _ _ _ (at-prepare .prepare .ensures) (c .before .before .enum-told .given .1)
 
 write-query-requires : tie.Need-write-query-requires
-write-query-requires c κs = writable _ (c .before .before .before .before .before .before .before .before .before .before .before .before .before .before .before .before .before .before .before .args .text .now) _ _ _ _ _ _ _ (c .before .before .before .before .before .before .before .before .before .before .prepare .ensures) (c .before .before .before .before .before .enum-told .given .1) _ (c .before .before .pattern-of .ensures)
+write-query-requires c κs =
+    let at-enum-told = c .before .before .before .before .before in
+    let at-prepare = at-enum-told .before .before .before .before .before in
+    let at-args = at-prepare .before .before .before .before .before .before .before .before .before in
+    writable _ (at-args .args .text .now) _ _ _ _ _ _ _ (at-prepare .prepare .ensures) (at-enum-told .enum-told .given .1) _
+    (c .before .before .pattern-of .ensures)
 
 returns-2 : tie.Need-returns-2
 returns-2 c =

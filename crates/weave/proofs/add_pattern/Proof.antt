@@ -10,48 +10,83 @@ use Rattle.weave.proofs.add_pattern.Tie as tie
 
 returns : tie.Need-returns
 returns c =
-    let a = c .before .before .before .before .before .before .before .before .before .before .before .before .args in
-    passed-by-vertices (a .query .now) (a .rules .now) (actorsAt (a .rules .now) (a .actors .now) (a .actor-count)) (a .k) (a .base) (a .pattern) (a .words .now) (a .counts) (c .before .before .before .before .add-vertices .ensures .passed (c .if1 .taken))
+    let at-add-vertices = c .before .before .before .before in
+    let at-args = at-add-vertices .before .before .before .before .before .before .before .before in
+    let a = at-args .args in
+    passed-by-vertices (a .query .now) (a .rules .now) (actorsAt (a .rules .now) (a .actors .now) (a .actor-count)) (a .k) (a .base) (a .pattern)
+    (a .words .now) (a .counts) (at-add-vertices .add-vertices .ensures .passed (c .if1 .taken))
 
 add-requirement-sum : tie.Need-add-requirement-sum
-add-requirement-sum c = omega (arith, c .before .before .before .before .before .before .before .before .before .before .before .before .before .before .before .before .before .before .before .pre .kept .requirements, c .before .before .before .before .before .before .before .before .before .before .before .before .before .before .before .before .before .before .before .pre .fits .few-clauses, c .before .before .before .before .before .count-exclusions .ensures .some)
+add-requirement-sum c =
+    let at-count-exclusions = c .before .before .before .before .before in
+    let at-pre = at-count-exclusions .before .before .before .before .before .before .before .before .before .before .before .before .before .before in
+    omega (arith, at-pre .pre .kept .requirements, at-pre .pre .fits .few-clauses, at-count-exclusions .count-exclusions .ensures .some)
 
 returns-2 : tie.Need-returns-2
 returns-2 c =
-    let a = c .before .before .before .before .before .before .before .before .before .before .before .before .before .before .before .before .before .before .before .before .args in
-    passed-by-edges (a .query .now) (a .rules .now) (actorsAt (a .rules .now) (a .actors .now) (a .actor-count)) (a .k) (a .base) (a .pattern) (a .words .now) (a .counts)
-    (sym (length-map _ (a .pattern .edges)) ∙ c .before .before .before .before .before .before .before .before .before .before .before .before .before .before .before .before .before .before .before .before .good .1 .1 .1 .1 .1 .1 .0 .1 .1 .1 .0 .1 .0 .1) (c .before .before .before .before .before .before .before .before .before .before .before .before .before .before .before .before .before .before .before .before .pre .fits .few-edges) (c .if2 .taken)
+    let at-pre = c .before .before .before .before .before .before .before .before .before .before .before .before .before .before .before .before .before .before .before .before in
+    let a = at-pre .args in
+    passed-by-edges (a .query .now) (a .rules .now) (actorsAt (a .rules .now) (a .actors .now) (a .actor-count)) (a .k) (a .base) (a .pattern)
+    (a .words .now) (a .counts)
+    (sym (length-map _ (a .pattern .edges)) ∙ at-pre .good .1 .1 .1 .1 .1 .1 .0 .1 .1 .1 .0 .1 .0 .1) (at-pre .pre .fits .few-edges) (c .if2 .taken)
 
 returns-3 : tie.Need-returns-3
 returns-3 c =
-    let a = c .before .before .before .before .before .before .before .before .before .before .before .before .before .before .before .before .before .before .before .before .before .args in
-    passed-by-exclusions (a .query .now) (a .rules .now) (actorsAt (a .rules .now) (a .actors .now) (a .actor-count)) (a .k) (a .base) (a .pattern) (a .words .now) (a .counts) (c .before .before .before .before .before .before .before .count-exclusions .result) (c .before .before .before .before .before .before .before .count-exclusions .ensures) (c .before .before .before .before .before .before .before .before .before .before .before .before .before .before .before .before .before .before .before .before .before .pre .kept) (c .if3 .taken)
+    let at-count-exclusions = c .before .before .before .before .before .before .before in
+    let at-pre = at-count-exclusions .before .before .before .before .before .before .before .before .before .before .before .before .before .before in
+    let a = at-pre .args in
+    passed-by-exclusions (a .query .now) (a .rules .now) (actorsAt (a .rules .now) (a .actors .now) (a .actor-count)) (a .k) (a .base) (a .pattern)
+    (a .words .now) (a .counts) (at-count-exclusions .count-exclusions .result) (at-count-exclusions .count-exclusions .ensures) (at-pre .pre .kept)
+    (c .if3 .taken)
 
 returns-4 : tie.Need-returns-4
 returns-4 c =
-    let a = c .before .before .before .before .before .before .before .before .before .before .before .before .before .before .before .before .before .before .before .before .before .before .args in
-    passed-by-requirements (a .query .now) (a .rules .now) (actorsAt (a .rules .now) (a .actors .now) (a .actor-count)) (a .k) (a .base) (a .pattern) (a .words .now) (a .counts) (c .before .before .before .before .before .before .before .before .count-exclusions .result) (c .before .before .before .before .before .before .before .before .count-exclusions .ensures) (c .before .before .before .before .before .before .before .before .before .before .before .before .before .before .before .before .before .before .before .before .before .before .pre .kept) (c .if4 .taken)
+    let at-count-exclusions = c .before .before .before .before .before .before .before .before in
+    let at-pre = at-count-exclusions .before .before .before .before .before .before .before .before .before .before .before .before .before .before in
+    let a = at-pre .args in
+    passed-by-requirements (a .query .now) (a .rules .now) (actorsAt (a .rules .now) (a .actors .now) (a .actor-count)) (a .k) (a .base) (a .pattern)
+    (a .words .now) (a .counts) (at-count-exclusions .count-exclusions .result) (at-count-exclusions .count-exclusions .ensures) (at-pre .pre .kept)
+    (c .if4 .taken)
 
 add-rest-requires : tie.Need-add-rest-requires
 add-rest-requires c κs =
-    let a = c .before .before .before .before .before .before .before .before .before .before .before .before .before .before .before .before .before .before .before .before .before .before .before .before .args in (
+    let at-if2 = c .before .before .before .before in
+    let at-count-exclusions = at-if2 .before .before .before .before .before .before in
+    let at-if1 = at-count-exclusions .before .before in
+    let at-add-vertices = at-if1 .before .before .before .before in
+    let at-pre = at-add-vertices .before .before .before .before .before .before .before .before in
+    let a = at-pre .args in (
       record {
-        few-texts = c .before .before .before .before .before .before .before .before .before .before .before .before .before .before .before .before .before .before .before .before .before .before .before .before .pre .few-texts;
-        fits = c .before .before .before .before .before .before .before .before .before .before .before .before .before .before .before .before .before .before .before .before .before .before .before .before .pre .fits;
-        numbers-low = number-low (a .query .now) (a .rules .now) (actorsAt (a .rules .now) (a .actors .now) (a .actor-count)) (a .k) (a .base) (a .pattern) (a .words .now) (c .before .before .before .before .before .before .before .before .before .before .before .before .before .before .before .before .add-vertices .last .1 .1 .1 .1 .1 .1 .1 .1 .0) (a .counts) (c .before .before .before .before .before .before .before .before .before .before .before .before .before .before .before .before .add-vertices .result) (c .before .before .before .before .before .before .before .before .before .before .before .before .before .before .before .before .before .before .before .before .before .before .before .before .pre .fits) (c .before .before .before .before .before .before .before .before .before .before .before .before .if1 .left) (c .before .before .before .before .before .before .before .before .before .before .before .before .before .before .before .before .add-vertices .ensures);
-        few-returns = c .before .before .before .before .before .before .before .before .before .before .before .before .before .before .before .before .before .before .before .before .before .before .before .before .pre .kept .returns;
-        room-edges = c .before .before .before .before .if2 .left;
-        room-clauses = omega (arith, c .before .before .before .if3 .left, c .before .before .if4 .left, c .before .before .before .before .before .before .before .before .before .before .count-exclusions .ensures .some);
+        few-texts = at-pre .pre .few-texts;
+        fits = at-pre .pre .fits;
+        numbers-low = number-low (a .query .now) (a .rules .now) (actorsAt (a .rules .now) (a .actors .now) (a .actor-count)) (a .k) (a .base) (a .pattern)
+            (a .words .now) (at-add-vertices .add-vertices .last .1 .1 .1 .1 .1 .1 .1 .1 .0) (a .counts) (at-add-vertices .add-vertices .result)
+            (at-pre .pre .fits) (at-if1 .if1 .left) (at-add-vertices .add-vertices .ensures);
+        few-returns = at-pre .pre .kept .returns;
+        room-edges = at-if2 .if2 .left;
+        room-clauses = omega (arith, c .before .before .before .if3 .left, c .before .before .if4 .left, at-count-exclusions .count-exclusions .ensures .some);
       },
-      omega (arith, c .before .before .before .before .before .before .before .before .before .before .before .before .before .before .before .before .before .before .before .before .before .before .before .before .pre .kept .room, c .before .before .before .before .before .before .before .before .before .before .before .before .before .before .before .before .add-vertices .kept .1 .1 .1 .1 .1 .1 .1 .1 .0),
+      omega (arith, at-pre .pre .kept .room, at-add-vertices .add-vertices .kept .1 .1 .1 .1 .1 .1 .1 .1 .0),
     )
 
 returns-5 : tie.Need-returns-5
 returns-5 c =
-    let a = c .before .before .before .before .before .before .before .before .before .before .before .before .before .before .before .before .before .before .before .before .before .before .before .before .before .before .before .args in
-    text-woven (a .query .now) (a .rules .now) (actorsAt (a .rules .now) (a .actors .now) (a .actor-count)) (a .k) (a .base) (a .pattern) (a .words .now) (c .before .before .before .before .before .before .before .before .before .before .before .before .before .before .before .before .before .before .before .add-vertices .last .1 .1 .1 .1 .1 .1 .1 .1 .0) (a .counts) (c .before .before .before .before .before .before .before .before .before .before .before .before .before .before .before .before .before .before .before .add-vertices .result) (c .before .before .before .before .before .before .before .before .before .before .before .before .before .before .before .before .before .before .before .before .before .before .before .before .before .before .before .pre .fits) (c .before .before .before .before .before .before .before .before .before .before .before .before .before .before .before .if1 .left) (c .before .before .before .before .before .before .before .before .before .before .before .before .before .before .before .before .before .before .before .add-vertices .ensures)
-    (c .before .before .add-rest .last .1 .1 .1 .1 .0) (c .before .before .add-rest .result) (c .before .before .before .before .before .before .before .before .before .before .before .before .before .count-exclusions .result) (c .before .before .add-rest .ensures) (c .before .before .before .before .before .before .before .before .before .before .before .before .before .count-exclusions .ensures) (c .before .before .before .before .before .before .before .before .before .before .before .before .before .before .before .before .before .before .before .before .before .before .before .before .before .before .before .pre .kept)
-    (omega (arith, c .before .before .before .before .before .before .before .before .before .before .before .before .before .before .before .before .before .before .before .before .before .before .before .before .before .before .before .pre .kept .room, c .before .before .before .before .before .before .before .before .before .before .before .before .before .before .before .before .before .before .before .add-vertices .kept .1 .1 .1 .1 .1 .1 .1 .1 .0, c .before .before .add-rest .kept .1 .1 .1 .1 .0)) (c .before .before .before .before .before .before .before .if2 .left) (c .before .before .before .before .before .before .if3 .left) (c .before .before .before .before .before .if4 .left)
+    let at-add-rest = c .before .before in
+    let at-if4 = at-add-rest .before .before .before in
+    let at-if3 = at-if4 .before in
+    let at-if2 = at-if3 .before in
+    let at-count-exclusions = at-if2 .before .before .before .before .before .before in
+    let at-if1 = at-count-exclusions .before .before in
+    let at-add-vertices = at-if1 .before .before .before .before in
+    let at-pre = at-add-vertices .before .before .before .before .before .before .before .before in
+    let a = at-pre .args in
+    text-woven (a .query .now) (a .rules .now) (actorsAt (a .rules .now) (a .actors .now) (a .actor-count)) (a .k) (a .base) (a .pattern) (a .words .now)
+    (at-add-vertices .add-vertices .last .1 .1 .1 .1 .1 .1 .1 .1 .0) (a .counts) (at-add-vertices .add-vertices .result) (at-pre .pre .fits)
+    (at-if1 .if1 .left) (at-add-vertices .add-vertices .ensures)
+    (at-add-rest .add-rest .last .1 .1 .1 .1 .0) (at-add-rest .add-rest .result) (at-count-exclusions .count-exclusions .result)
+    (at-add-rest .add-rest .ensures) (at-count-exclusions .count-exclusions .ensures) (at-pre .pre .kept)
+    (omega (arith, at-pre .pre .kept .room, at-add-vertices .add-vertices .kept .1 .1 .1 .1 .1 .1 .1 .1 .0, at-add-rest .add-rest .kept .1 .1 .1 .1 .0))
+    (at-if2 .if2 .left) (at-if3 .if3 .left) (at-if4 .if4 .left)
 
 pub add-pattern-spec : {M : Type 1} → statement M
 add-pattern-spec =

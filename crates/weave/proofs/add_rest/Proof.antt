@@ -9,25 +9,65 @@ add-before : tie.Need-add-before
 add-before c = omega (arith, c .before .before .before .before .before .pre .0 .room-clauses)
 
 add-edges-requires : tie.Need-add-edges-requires
-add-edges-requires c κs = (edges-ready (c .before .before .before .before .before .before .args .k) (c .before .before .before .before .before .before .args .base) (c .before .before .before .before .before .before .args .pattern) (c .before .before .before .before .before .before .args .numbers) (c .before .before .before .before .before .before .args .counts) (c .before .before .before .before .before .before .pre .0), c .before .before .before .before .before .before .pre .1)
+add-edges-requires c κs =
+    let at-args = c .before .before .before .before .before .before in (
+      edges-ready (at-args .args .k) (at-args .args .base) (at-args .args .pattern) (at-args .args .numbers) (at-args .args .counts)
+          (at-args .pre .0),
+      at-args .pre .1,
+    )
 
 add-clauses-requires : tie.Need-add-clauses-requires
-add-clauses-requires c κs = (clauses-ready (c .before .before .before .before .before .before .before .before .before .before .args .k) (c .before .before .before .before .before .before .before .before .before .before .args .base) (c .before .before .before .before .before .before .before .before .before .before .args .pattern) (c .before .before .before .before .before .before .before .before .before .before .args .numbers) (c .before .before .before .before .before .before .before .before .before .before .args .counts) (c .before .before .before .before .before .before .before .before .before .before .pre .0), omega (arith, c .before .before .before .before .before .before .before .before .before .before .pre .1, c .before .before .before .add-edges .kept .1 .1 .1 .1 .1 .0))
+add-clauses-requires c κs =
+    let at-args = c .before .before .before .before .before .before .before .before .before .before in (
+      clauses-ready (at-args .args .k) (at-args .args .base) (at-args .args .pattern) (at-args .args .numbers) (at-args .args .counts)
+          (at-args .pre .0),
+      omega (arith, at-args .pre .1, c .before .before .before .add-edges .kept .1 .1 .1 .1 .1 .0),
+    )
 
 add-returns-requires : tie.Need-add-returns-requires
-add-returns-requires c κs = (returns-ready (c .before .before .before .before .before .before .before .before .before .before .before .before .before .before .before .before .args .k) (c .before .before .before .before .before .before .before .before .before .before .before .before .before .before .before .before .args .base) (c .before .before .before .before .before .before .before .before .before .before .before .before .before .before .before .before .args .pattern) (c .before .before .before .before .before .before .before .before .before .before .before .before .before .before .before .before .args .numbers) (c .before .before .before .before .before .before .before .before .before .before .before .before .before .before .before .before .args .counts) (c .before .before .before .before .before .before .before .before .before .before .before .before .before .before .before .before .pre .0), omega (arith, c .before .before .before .before .before .before .before .before .before .before .before .before .before .before .before .before .pre .1, c .before .before .before .before .before .before .before .before .before .add-edges .kept .1 .1 .1 .1 .1 .0, c .before .before .before .before .before .add-clauses .kept .1 .1 .1 .1 .1 .1 .0))
+add-returns-requires c κs =
+    let at-add-clauses = c .before .before .before .before .before in
+    let at-add-edges = at-add-clauses .before .before .before .before in
+    let at-args = at-add-edges .before .before .before .before .before .before .before in (
+      returns-ready (at-args .args .k) (at-args .args .base) (at-args .args .pattern) (at-args .args .numbers) (at-args .args .counts)
+          (at-args .pre .0),
+      omega (
+        arith,
+        at-args .pre .1,
+        at-add-edges .add-edges .kept .1 .1 .1 .1 .1 .0,
+        at-add-clauses .add-clauses .kept .1 .1 .1 .1 .1 .1 .0,
+      ),
+    )
 
 same-length : tie.Need-same-length
-same-length c = c .before .before .add-returns .kept .1 .1 .1 .0 ∙ c .before .before .before .before .before .before .before .before .add-clauses .kept .1 .1 .1 .1 .1 .1 .0 ∙ c .before .before .before .before .before .before .before .before .before .before .before .before .add-edges .kept .1 .1 .1 .1 .1 .0
+same-length c =
+    let at-add-clauses = c .before .before .before .before .before .before .before .before in
+    let at-add-edges = at-add-clauses .before .before .before .before in
+    c .before .before .add-returns .kept .1 .1 .1 .0 ∙ at-add-clauses .add-clauses .kept .1 .1 .1 .1 .1 .1 .0 ∙ at-add-edges .add-edges .kept .1 .1 .1 .1 .1 .0
 
 returns : tie.Need-returns
-returns c = rest-of-query (c .before .before .before .before .before .before .before .before .before .before .before .before .before .before .before .before .before .before .before .args .k) (c .before .before .before .before .before .before .before .before .before .before .before .before .before .before .before .before .before .before .before .args .base) (c .before .before .before .before .before .before .before .before .before .before .before .before .before .before .before .before .before .before .before .args .pattern) (c .before .before .before .before .before .before .before .before .before .before .before .before .before .before .before .before .before .before .before .args .numbers) (c .before .before .before .before .before .before .before .before .before .before .before .before .before .before .before .before .before .before .before .args .counts) (c .before .before .before .before .before .before .before .before .before .before .before .before .before .before .before .before .before .before .before .pre .0) (c .before .before .before .before .before .before .before .before .before .before .before .before .before .before .before .before .before .before .before .args .words .now) (c .before .before .before .before .before .before .before .before .before .before .before .before .add-edges .last .1 .1 .1 .1 .1 .0) (c .before .before .before .before .before .before .before .before .add-clauses .last .1 .1 .1 .1 .1 .1 .0) (c .before .before .before .before .before .before .before .before .before .before .before .before .add-edges .ensures) (c .before .before .before .before .before .before .before .before .add-clauses .ensures) (c .before .before .add-returns .last .1 .1 .1 .0) (c .before .before .add-returns .ensures) (c .before .before .before .before .before .if1 .taken)
+returns c =
+    let at-if1 = c .before .before .before .before .before in
+    let at-add-clauses = at-if1 .before .before .before in
+    let at-add-edges = at-add-clauses .before .before .before .before in
+    let at-args = at-add-edges .before .before .before .before .before .before .before in
+    rest-of-query (at-args .args .k) (at-args .args .base) (at-args .args .pattern) (at-args .args .numbers) (at-args .args .counts) (at-args .pre .0)
+    (at-args .args .words .now) (at-add-edges .add-edges .last .1 .1 .1 .1 .1 .0) (at-add-clauses .add-clauses .last .1 .1 .1 .1 .1 .1 .0)
+    (at-add-edges .add-edges .ensures) (at-add-clauses .add-clauses .ensures) (c .before .before .add-returns .last .1 .1 .1 .0)
+    (c .before .before .add-returns .ensures) (at-if1 .if1 .taken)
 
 same-length-2 : tie.Need-same-length-2
-same-length-2 c = c .before .before .before .add-clauses .kept .1 .1 .1 .1 .1 .1 .0 ∙ c .before .before .before .before .before .before .before .add-edges .kept .1 .1 .1 .1 .1 .0
+same-length-2 c =
+    let at-add-edges = c .before .before .before .before .before .before .before in
+    c .before .before .before .add-clauses .kept .1 .1 .1 .1 .1 .1 .0 ∙ at-add-edges .add-edges .kept .1 .1 .1 .1 .1 .0
 
 returns-2 : tie.Need-returns-2
-returns-2 c = rest-of-policy (c .before .before .before .before .before .before .before .before .before .before .before .before .before .before .args .k) (c .before .before .before .before .before .before .before .before .before .before .before .before .before .before .args .base) (c .before .before .before .before .before .before .before .before .before .before .before .before .before .before .args .pattern) (c .before .before .before .before .before .before .before .before .before .before .before .before .before .before .args .numbers) (c .before .before .before .before .before .before .before .before .before .before .before .before .before .before .args .counts) (c .before .before .before .before .before .before .before .before .before .before .before .before .before .before .pre .0) (c .before .before .before .before .before .before .before .before .before .before .before .before .before .before .args .words .now) (c .before .before .before .before .before .before .before .add-edges .last .1 .1 .1 .1 .1 .0) (c .before .before .before .add-clauses .last .1 .1 .1 .1 .1 .1 .0) (c .before .before .before .before .before .before .before .add-edges .ensures) (c .before .before .before .add-clauses .ensures) (c .if1 .left)
+returns-2 c =
+    let at-add-edges = c .before .before .before .before .before .before .before in
+    let at-args = at-add-edges .before .before .before .before .before .before .before in
+    rest-of-policy (at-args .args .k) (at-args .args .base) (at-args .args .pattern) (at-args .args .numbers) (at-args .args .counts) (at-args .pre .0)
+    (at-args .args .words .now) (at-add-edges .add-edges .last .1 .1 .1 .1 .1 .0) (c .before .before .before .add-clauses .last .1 .1 .1 .1 .1 .1 .0)
+    (at-add-edges .add-edges .ensures) (c .before .before .before .add-clauses .ensures) (c .if1 .left)
 
 pub add-rest-spec : {M : Type 1} → statement M
 add-rest-spec =

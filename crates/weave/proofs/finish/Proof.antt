@@ -8,17 +8,25 @@ use Rattle.weave.proofs.finish.Tie as tie
 
 tied-requires : tie.Need-tied-requires
 tied-requires c κs =
-    let a = c .before .before .before .before .before .before .before .before .before .args in (
-      c .before .before .before .before .before .before .before .before .before .pre .kept .vertices,
-      c .before .before .before .before .before .before .before .before .before .pre .kept .edges,
-      omega (arith, c .before .before .before .before .before .before .before .before .before .pre .kept .room, c .before .before .before .give-identities .kept .1 .1 .1 .1 .1 .0),
-      low-stays (a .query .now) (a .rules .now) (identitiesIn (a .request .now) (a .identities) (a .count)) (a .words .now) (c .before .before .before .give-identities .last .1 .1 .1 .1 .1 .0) (a .counts) (c .before .before .before .give-identities .result) (c .before .before .before .before .before .before .before .before .before .pre .kept) (c .before .before .before .give-identities .ensures) (c .before .before .before .before .before .before .before .before .before .pre .low),
+    let at-give-identities = c .before .before .before in
+    let at-pre = at-give-identities .before .before .before .before .before .before in
+    let a = at-pre .args in (
+      at-pre .pre .kept .vertices,
+      at-pre .pre .kept .edges,
+      omega (arith, at-pre .pre .kept .room, at-give-identities .give-identities .kept .1 .1 .1 .1 .1 .0),
+      low-stays (a .query .now) (a .rules .now) (identitiesIn (a .request .now) (a .identities) (a .count)) (a .words .now)
+          (at-give-identities .give-identities .last .1 .1 .1 .1 .1 .0) (a .counts) (at-give-identities .give-identities .result) (at-pre .pre .kept)
+          (at-give-identities .give-identities .ensures) (at-pre .pre .low),
     )
 
 returns : tie.Need-returns
 returns c =
-    let a = c .before .before .before .before .before .before .before .before .before .before .before .args in
-    finished (a .query .now) (a .rules .now) (identitiesIn (a .request .now) (a .identities) (a .count)) (a .words .now) (c .before .before .before .before .before .give-identities .last .1 .1 .1 .1 .1 .0) (a .counts) (c .before .before .before .before .before .give-identities .result) (c .before .before .before .before .before .before .before .before .before .before .before .pre .kept) (c .before .before .before .before .before .give-identities .ensures) (c .before .tied .result) (c .before .tied .ensures) (c .all-marked .result) (c .all-marked .ensures)
+    let at-give-identities = c .before .before .before .before .before in
+    let at-pre = at-give-identities .before .before .before .before .before .before in
+    let a = at-pre .args in
+    finished (a .query .now) (a .rules .now) (identitiesIn (a .request .now) (a .identities) (a .count)) (a .words .now)
+    (at-give-identities .give-identities .last .1 .1 .1 .1 .1 .0) (a .counts) (at-give-identities .give-identities .result) (at-pre .pre .kept)
+    (at-give-identities .give-identities .ensures) (c .before .tied .result) (c .before .tied .ensures) (c .all-marked .result) (c .all-marked .ensures)
 
 pub finish-spec : {M : Type 1} → statement M
 finish-spec =

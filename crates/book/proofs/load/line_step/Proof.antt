@@ -5,14 +5,22 @@ use Rattle.book.proofs.load.line_step.Statement.{statement}
 use Rattle.book.proofs.load.line_step.Tie as tie
 
 returns : tie.Need-returns
-returns c = line-open (c .before .before .before .args .rule) (c .before .before .before .args .text .now) (c .before .before .before .args .from) (c .before .before .before .args .to) _ (c .if1 .taken)
+returns c =
+    let at-args = c .before .before .before in
+    line-open (at-args .args .rule) (at-args .args .text .now) (at-args .args .from) (at-args .args .to) _ (c .if1 .taken)
 
 read-line-requires : tie.Need-read-line-requires
-read-line-requires c κs = line-asked (c .before .before .before .before .before .args .text .now) (c .before .before .before .before .before .args .words .now) (c .before .before .before .before .before .args .counts) (c .before .before .before .before .before .args .from) (c .before .before .before .before .before .args .to) (c .before .before .before .before .before .pre)
+read-line-requires c κs =
+    let at-args = c .before .before .before .before .before in
+    line-asked (at-args .args .text .now) (at-args .args .words .now) (at-args .args .counts) (at-args .args .from) (at-args .args .to) (at-args .pre)
 
 returns-2 : tie.Need-returns-2
 unfolding partOf
-returns-2 c = rw (line-closed (c .before .before .before .before .before .before .before .before .args .rule) (c .before .before .before .before .before .before .before .before .args .text .now) (c .before .before .before .before .before .before .before .before .args .from) (c .before .before .before .before .before .before .before .before .args .to) _ (c .before .before .before .before .before .if1 .left)) (c .before .before .read-line .ensures)
+returns-2 c =
+    let at-if1 = c .before .before .before .before .before in
+    let at-args = at-if1 .before .before .before in
+    rw (line-closed (at-args .args .rule) (at-args .args .text .now) (at-args .args .from) (at-args .args .to) _ (at-if1 .if1 .left))
+    (c .before .before .read-line .ensures)
 
 pub line-step-spec : {M : Type 1} → statement M
 line-step-spec =

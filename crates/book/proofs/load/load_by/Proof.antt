@@ -10,21 +10,46 @@ use Rattle.book.proofs.load.load_by.Tie as tie
 
 returns : tie.Need-returns
 unfolding refusal refusalOf readBookBy
-returns c = (text-too-long 65536 (c .before .before .before .before .before .before .before .before .before .args .text .now) _ (c .before .before .before .before .before .before .bytes-read .ensures) 1 (λ l. l) _ (c .before .before .before .before .enum-told .given .1), filled-ones _ _ (c .before .before .fill .ensures))
+returns c =
+    let at-enum-told = c .before .before .before .before in
+    let at-bytes-read = at-enum-told .before .before in
+    let at-args = at-bytes-read .before .before .before in (
+      text-too-long 65536 (at-args .args .text .now) _ (at-bytes-read .bytes-read .ensures) 1 (λ l. l) _ (at-enum-told .enum-told .given .1),
+      filled-ones _
+          _ (c .before .before .fill .ensures),
+    )
 
 cast-t13 : tie.Need-cast-t13
-cast-t13 c = omega (arith, bad-small 65536 (c .before .before .before .before .before .before .before .before .before .before .args .text .now) _ (c .before .before .before .before .before .before .before .bytes-read .ensures) _ (c .before .before .before .before .before .line .given .1))
+cast-t13 c =
+    let at-line = c .before .before .before .before .before in
+    let at-bytes-read = at-line .before .before in
+    let at-args = at-bytes-read .before .before .before in
+    omega (arith, bad-small 65536 (at-args .args .text .now) _ (at-bytes-read .bytes-read .ensures) _ (at-line .line .given .1))
 
 returns-2 : tie.Need-returns-2
 unfolding refusal refusalOf readBookBy
-returns-2 c = (text-bad-line 65536 (c .before .before .before .before .before .before .before .before .before .before .args .text .now) _ (c .before .before .before .before .before .before .before .bytes-read .ensures) 1 (λ l. l) _ _ (c .before .before .before .before .before .line .given .1), filled-ones _ _ (c .before .before .fill2 .ensures))
+returns-2 c =
+    let at-line = c .before .before .before .before .before in
+    let at-bytes-read = at-line .before .before in
+    let at-args = at-bytes-read .before .before .before in (
+      text-bad-line 65536 (at-args .args .text .now) _ (at-bytes-read .bytes-read .ensures) 1 (λ l. l) _ _ (at-line .line .given .1),
+      filled-ones _ _
+          (c .before .before .fill2 .ensures),
+    )
 
 load-lines-requires : tie.Need-load-lines-requires
-load-lines-requires c κs = (text-short 65536 (c .before .before .before .before .before .before .args .text .now) _ (c .before .before .before .bytes-read .ensures) (c .before .enum-told2 .given .1), c .before .before .before .before .before .before .pre)
+load-lines-requires c κs =
+    let at-pre = c .before .before .before .before .before .before in
+    (text-short 65536 (at-pre .args .text .now) _ (c .before .before .before .bytes-read .ensures) (c .before .enum-told2 .given .1), at-pre .pre)
 
 returns-3 : tie.Need-returns-3
 unfolding readBookBy
-returns-3 c = rw (text-allowed 65536 (c .before .before .before .before .before .before .before .before .before .args .text .now) _ (c .before .before .before .before .before .before .bytes-read .ensures) 1 (λ l. l) _ (c .before .before .before .before .enum-told2 .given .1)) (c .before .before .load-lines .ensures)
+returns-3 c =
+    let at-enum-told2 = c .before .before .before .before in
+    let at-bytes-read = at-enum-told2 .before .before in
+    let at-args = at-bytes-read .before .before .before in
+    rw (text-allowed 65536 (at-args .args .text .now) _ (at-bytes-read .bytes-read .ensures) 1 (λ l. l) _ (at-enum-told2 .enum-told2 .given .1))
+    (c .before .before .load-lines .ensures)
 
 pub load-by-spec : {M : Type 1} → statement M
 load-by-spec =

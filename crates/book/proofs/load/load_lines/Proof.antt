@@ -16,43 +16,101 @@ use Rattle.book.proofs.load.load_lines.Statement.{statement}
 use Rattle.book.proofs.load.load_lines.Tie as tie
 
 abbrev Inv-loop : tie.InvT-loop
-Inv-loop text words₀ rule at₀ line₀ counts₀ words at line counts = (length words ≡ length words₀) × Fits text words counts × (at ≤ length text + 1) × (line ≤ at + 1) × (readLines 1 (bookStepBy rule) line (bookAt text words counts) (linesOf (drop at text)) ≡ readLines 1 (bookStepBy rule) 1 emptyBook (linesOf text))
+Inv-loop text words₀ rule at₀ line₀ counts₀ words at line counts = (length words ≡ length words₀) × Fits text words counts × (at ≤ length text + 1)
+    × (line ≤ at + 1) × (readLines 1 (bookStepBy rule) line (bookAt text words counts) (linesOf (drop at text))
+    ≡ readLines 1 (bookStepBy rule) 1 emptyBook (linesOf text))
 
 abbrev μ-loop : tie.MeasureT-loop
 μ-loop text words₀ rule at₀ line₀ counts₀ words at line counts = length text + 1 - at
 
 loop-holds : tie.Need-loop-holds Inv-loop μ-loop
 loop-holds c =
-    let a = c .before .before .before .before .before .before .before in (
+    let at-before = c .before .before .before .before .before .before in
+    let a = at-before .before in (
       refl,
       rw (c .no-counts .ensures, c .before .before .before .clear-chains .ensures) (empty-fits (a .args .text .now) (a .args .words .now) (a .pre .1)),
       omega arith,
       omega arith,
-      ap (λ (b : Book). readLines 1 (bookStepBy (a .args .rule)) 1 b (linesOf (a .args .text .now))) (ap (bookAt (a .args .text .now) _) (c .no-counts .ensures) ∙ empty-is (a .args .text .now) _),
+      ap (λ (b : Book). readLines 1 (bookStepBy (a .args .rule)) 1 b (linesOf (a .args .text .now)))
+          (ap (bookAt (a .args .text .now) _) (c .no-counts .ensures) ∙ empty-is (a .args .text .now) _),
     )
 
 line-step-requires : tie.Need-line-step-requires Inv-loop μ-loop
-line-step-requires c κs = record { fits = c .before .before .before .loop .inv .1; limit = c .before .before .before .before .before .before .before .before .before .before .before .pre .0; forward = line-forward (c .before .before .before .before .before .before .before .before .before .before .before .args .text .now) (c .before .before .before .loop .at) _ (c .before .line-end .ensures) (c .before .before .loop-test .taken); inside = line-inside (c .before .before .before .before .before .before .before .before .before .before .before .args .text .now) (c .before .before .before .loop .at) _ (c .before .line-end .ensures) (c .before .before .loop-test .taken) }
+line-step-requires c κs =
+    let at-loop = c .before .before .before in
+    let at-args = at-loop .before .before .before .before .before .before .before .before in
+    record {
+      fits = at-loop .loop .inv .1;
+      limit = at-args .pre .0;
+      forward = line-forward (at-args .args .text .now) (at-loop .loop .at) _
+          (c .before .line-end .ensures) (c .before .before .loop-test .taken);
+      inside = line-inside (at-args .args .text .now) (at-loop .loop .at) _
+          (c .before .line-end .ensures) (c .before .before .loop-test .taken);
+    }
 
 returns : tie.Need-returns Inv-loop μ-loop
 unfolding refusal refusalOf
-returns c = (sym (c .before .before .before .before .before .before .before .before .before .before .before .before .before .loop .inv .4) ∙ lines-fault (c .before .before .before .before .before .before .before .before .before .before .before .before .before .before .before .before .before .before .before .before .before .args .text .now) (c .before .before .before .before .before .before .before .before .before .before .before .before .before .loop .at) _ (c .before .before .before .before .before .before .before .before .before .before .before .line-end .ensures) (c .before .before .before .before .before .before .before .before .before .before .before .before .loop-test .taken) 1 (bookStepBy (c .before .before .before .before .before .before .before .before .before .before .before .before .before .before .before .before .before .before .before .before .before .args .rule)) (c .before .before .before .before .before .before .before .before .before .before .before .before .before .loop .line) _ _ (step-refuses (c .before .before .before .before .before .before .before .before .before .before .before .before .before .before .before .before .before .before .before .before .before .args .text .now) _ _ _ _ (c .before .before .before .before .before .number .given .1) (c .before .before .before .before .before .before .before .before .before .line-step .ensures)), filled-ones _ _ (c .before .before .fill .ensures))
+returns c =
+    let at-number = c .before .before .before .before .before in
+    let at-line-step = at-number .before .before .before .before in
+    let at-line-end = at-line-step .before .before in
+    let at-loop-test = at-line-end .before in
+    let at-loop = at-loop-test .before in
+    let at-args = at-loop .before .before .before .before .before .before .before .before in (
+      sym (at-loop .loop .inv .4) ∙ lines-fault (at-args .args .text .now) (at-loop .loop .at) _ (at-line-end .line-end .ensures)
+          (at-loop-test .loop-test .taken) 1 (bookStepBy (at-args .args .rule)) (at-loop .loop .line) _ _
+          (step-refuses (at-args .args .text .now) _ _ _ _ (at-number .number .given .1) (at-line-step .line-step .ensures)),
+      filled-ones _ _
+          (c .before .before .fill .ensures),
+    )
 
 add-at : tie.Need-add-at Inv-loop μ-loop
-add-at c = omega (arith, c .before .before .before .before .before .before .before .before .before .before .before .before .before .before .before .before .before .pre .0, line-inside (c .before .before .before .before .before .before .before .before .before .before .before .before .before .before .before .before .before .args .text .now) (c .before .before .before .before .before .before .before .before .before .loop .at) _ (c .before .before .before .before .before .before .before .line-end .ensures) (c .before .before .before .before .before .before .before .before .loop-test .taken))
+add-at c =
+    let at-line-end = c .before .before .before .before .before .before .before in
+    let at-loop-test = at-line-end .before in
+    let at-loop = at-loop-test .before in
+    let at-pre = at-loop .before .before .before .before .before .before .before .before in
+    omega (arith, at-pre .pre .0, line-inside (at-pre .args .text .now) (at-loop .loop .at) _ (at-line-end .line-end .ensures) (at-loop-test .loop-test .taken))
 
 add-line : tie.Need-add-line Inv-loop μ-loop
-add-line c = omega (arith, c .before .before .before .before .before .before .before .before .before .before .before .before .before .before .before .before .before .pre .0, c .before .before .before .before .before .before .before .before .before .loop .inv .3, c .before .before .before .before .before .before .before .before .loop-test .taken)
+add-line c =
+    let at-loop-test = c .before .before .before .before .before .before .before .before in
+    let at-loop = at-loop-test .before in
+    let at-pre = at-loop .before .before .before .before .before .before .before .before in
+    omega (arith, at-pre .pre .0, at-loop .loop .inv .3, at-loop-test .loop-test .taken)
 
 loop-less : tie.Need-loop-less Inv-loop μ-loop
-loop-less c = omega (arith, line-forward (c .before .before .before .before .before .before .before .before .before .before .before .before .before .before .before .before .before .args .text .now) (c .before .before .before .before .before .before .before .before .before .loop .at) _ (c .before .before .before .before .before .before .before .line-end .ensures) (c .before .before .before .before .before .before .before .before .loop-test .taken), line-inside (c .before .before .before .before .before .before .before .before .before .before .before .before .before .before .before .before .before .args .text .now) (c .before .before .before .before .before .before .before .before .before .loop .at) _ (c .before .before .before .before .before .before .before .line-end .ensures) (c .before .before .before .before .before .before .before .before .loop-test .taken))
+loop-less c =
+    let at-line-end = c .before .before .before .before .before .before .before in
+    let at-loop-test = at-line-end .before in
+    let at-loop = at-loop-test .before in
+    let at-args = at-loop .before .before .before .before .before .before .before .before in
+    omega (
+      arith,
+      line-forward (at-args .args .text .now) (at-loop .loop .at) _ (at-line-end .line-end .ensures) (at-loop-test .loop-test .taken),
+      line-inside (at-args .args .text .now) (at-loop .loop .at) _ (at-line-end .line-end .ensures) (at-loop-test .loop-test .taken),
+    )
 
 loop-again : tie.Need-loop-again Inv-loop μ-loop
-loop-again c = let s = step-adds (c .before .before .before .before .before .before .before .before .before .before .before .before .before .before .before .before .before .args .text .now) _ _ _ _ (c .before .more .given .1) (c .before .before .before .before .before .line-step .ensures) in
-    (search needs, s .1, omega (arith, line-inside (c .before .before .before .before .before .before .before .before .before .before .before .before .before .before .before .before .before .args .text .now) (c .before .before .before .before .before .before .before .before .before .loop .at) _ (c .before .before .before .before .before .before .before .line-end .ensures) (c .before .before .before .before .before .before .before .before .loop-test .taken)), omega (arith, c .before .before .before .before .before .before .before .before .before .loop .inv .3, line-forward (c .before .before .before .before .before .before .before .before .before .before .before .before .before .before .before .before .before .args .text .now) (c .before .before .before .before .before .before .before .before .before .loop .at) _ (c .before .before .before .before .before .before .before .line-end .ensures) (c .before .before .before .before .before .before .before .before .loop-test .taken)), sym (lines-known (c .before .before .before .before .before .before .before .before .before .before .before .before .before .before .before .before .before .args .text .now) (c .before .before .before .before .before .before .before .before .before .loop .at) _ (c .before .before .before .before .before .before .before .line-end .ensures) (c .before .before .before .before .before .before .before .before .loop-test .taken) 1 (bookStepBy (c .before .before .before .before .before .before .before .before .before .before .before .before .before .before .before .before .before .args .rule)) (c .before .before .before .before .before .before .before .before .before .loop .line) _ _ (s .0)) ∙ c .before .before .before .before .before .before .before .before .before .loop .inv .4)
+loop-again c = let s = step-adds (c .before .before .before .before .before .before .before .before .before .before .before .before .before .before .before .before .before .args .text .now) _ _ _ _ (c .before .more .given .1) (c .before .before .before .before .before .line-step .ensures) in (
+  search needs,
+  s .1,
+  omega (
+    arith,
+    line-inside
+        (c .before .before .before .before .before .before .before .before .before .before .before .before .before .before .before .before .before .args .text .now) (c .before .before .before .before .before .before .before .before .before .loop .at) _ (c .before .before .before .before .before .before .before .line-end .ensures) (c .before .before .before .before .before .before .before .before .loop-test .taken),
+  ),
+  omega (arith, c .before .before .before .before .before .before .before .before .before .loop .inv .3, line-forward (c .before .before .before .before .before .before .before .before .before .before .before .before .before .before .before .before .before .args .text .now) (c .before .before .before .before .before .before .before .before .before .loop .at) _ (c .before .before .before .before .before .before .before .line-end .ensures) (c .before .before .before .before .before .before .before .before .loop-test .taken)),
+  sym (lines-known (c .before .before .before .before .before .before .before .before .before .before .before .before .before .before .before .before .before .args .text .now) (c .before .before .before .before .before .before .before .before .before .loop .at) _ (c .before .before .before .before .before .before .before .line-end .ensures) (c .before .before .before .before .before .before .before .before .loop-test .taken) 1 (bookStepBy (c .before .before .before .before .before .before .before .before .before .before .before .before .before .before .before .before .before .args .rule)) (c .before .before .before .before .before .before .before .before .before .loop .line) _ _ (s .0)) ∙ c .before .before .before .before .before .before .before .before .before .loop .inv .4,
+)
 
 returns-2 : tie.Need-returns-2 Inv-loop μ-loop
-returns-2 c = (sym (c .before .loop .inv .4) ∙ lines-over (c .before .before .before .before .before .before .before .before .before .args .text .now) (c .before .loop .at) 1 (bookStepBy (c .before .before .before .before .before .before .before .before .before .args .rule)) (c .before .loop .line) _ (c .loop-test .left), c .before .loop .inv .1)
+returns-2 c =
+    let at-args = c .before .before .before .before .before .before .before .before .before in (
+      sym (c .before .loop .inv .4) ∙ lines-over (at-args .args .text .now) (c .before .loop .at) 1 (bookStepBy (at-args .args .rule))
+          (c .before .loop .line) _ (c .loop-test .left),
+      c .before .loop .inv .1,
+    )
 
 pub load-lines-spec : {M : Type 1} → statement M
 load-lines-spec =

@@ -8,9 +8,17 @@ use Rattle.book_lines.proofs.forms.attr_line.Tie as tie
 
 add-t15 : tie.Need-add-t15
 add-t15 c =
-    let s = c .before .before .before .before .before .before .before .before in
+    let at-read-attr = c .before .before .before .before in
+    let at-before = at-read-attr .before .before .before in
+    let s = at-before .before in
     let a = s .args in
-    omega (arith, s .pre .inside, s .pre .limit, attr-stands (a .line .now) (a .from) _ _ _ _ (c .before .before .before .before .read-attr .ensures .1) (c .before .before .p .given .1))
+    omega (
+      arith,
+      s .pre .inside,
+      s .pre .limit,
+      attr-stands (a .line .now) (a .from) _ _ _ _ (at-read-attr .read-attr .ensures .1)
+          (c .before .before .p .given .1),
+    )
 
 sub-t16 : tie.Need-sub-t16
 sub-t16 c =
@@ -20,23 +28,34 @@ sub-t16 c =
 
 add-attr-requires : tie.Need-add-attr-requires
 add-attr-requires c κs =
-    let s = c .before .before .before .before .before .before .before .before in
-    let a = s .args in
-    (piece-asked (a .text .now) (a .line .now) (a .words .now) (a .counts) (a .base) (a .from) _ _ (s .pre) (attr-stands (a .line .now) (a .from) _ _ _ _ (c .before .before .before .before .read-attr .ensures .1) (c .before .before .p .given .1)), s .pre .fits)
+    let at-read-attr = c .before .before .before .before in
+    let at-before = at-read-attr .before .before .before in
+    let s = at-before .before in
+    let a = s .args in (
+      piece-asked (a .text .now) (a .line .now) (a .words .now) (a .counts) (a .base) (a .from) _ _ (s .pre)
+          (attr-stands (a .line .now) (a .from) _ _ _ _ (at-read-attr .read-attr .ensures .1) (c .before .before .p .given .1)),
+      s .pre .fits,
+    )
 
 returns : tie.Need-returns
 returns c =
+    let at-p = c .before .before .before .before .before in
+    let at-read-attr = at-p .before .before in
+    let at-before = at-read-attr .before .before .before in
     λ rule.
-    let s = c .before .before .before .before .before .before .before .before .before .before .before in
+    let s = at-before .before in
     let a = s .args in
-    rw (attr-step rule (a .text .now) (a .line .now) (a .words .now) (a .counts) (a .base) (a .from) (s .pre) _ (c .before .before .before .before .before .before .before .read-attr .ensures .0) (c .before .before .before .before .before .before .before .read-attr .ensures .1) (declares (a .owner)) _ _ _ (c .before .before .before .before .before .p .given .1)) (c .before .before .add-attr .ensures rule)
+    rw (attr-step rule (a .text .now) (a .line .now) (a .words .now) (a .counts) (a .base) (a .from) (s .pre) _ (at-read-attr .read-attr .ensures .0)
+    (at-read-attr .read-attr .ensures .1) (declares (a .owner)) _ _ _ (at-p .p .given .1)) (c .before .before .add-attr .ensures rule)
 
 returns-2 : tie.Need-returns-2
 returns-2 c =
+    let at-before = c .before .before .before .before .before in
     λ rule.
-    let s = c .before .before .before .before .before .before in
+    let s = at-before .before in
     let a = s .args in
-    attr-broken rule (a .text .now) (a .line .now) (a .words .now) (a .counts) (a .base) (a .from) (s .pre) _ (c .before .before .read-attr .ensures .0) (c .before .before .read-attr .ensures .1) (declares (a .owner)) (c .enum-told .given .1)
+    attr-broken rule (a .text .now) (a .line .now) (a .words .now) (a .counts) (a .base) (a .from) (s .pre) _ (c .before .before .read-attr .ensures .0)
+    (c .before .before .read-attr .ensures .1) (declares (a .owner)) (c .enum-told .given .1)
 
 pub attr-line-spec : {M : Type 1} → statement M
 attr-line-spec =

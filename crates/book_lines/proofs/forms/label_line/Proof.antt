@@ -7,22 +7,60 @@ use Rattle.book_lines.proofs.forms.label_line.Statement.{statement}
 use Rattle.book_lines.proofs.forms.label_line.Tie as tie
 
 add-t14 : tie.Need-add-t14
-add-t14 c = omega (arith, c .before .before .before .before .before .before .before .before .before .before .pre .inside, c .before .before .before .before .before .before .before .before .before .before .pre .limit, placed-at (c .before .before .before .before .before .before .before .before .before .before .args .line .now) (c .before .before .before .before .before .before .before .before .before .before .args .from) _ (c .before .before .before .before .p .given .1) (c .before .before .before .before .before .before .next-name .ensures .placed))
+add-t14 c =
+    let at-p = c .before .before .before .before in
+    let at-next-name = at-p .before .before in
+    let at-pre = at-next-name .before .before .before .before in
+    omega (
+      arith,
+      at-pre .pre .inside,
+      at-pre .pre .limit,
+      placed-at (at-pre .args .line .now) (at-pre .args .from) _ (at-p .p .given .1)
+          (at-next-name .next-name .ensures .placed),
+    )
 
 sub-t15 : tie.Need-sub-t15
-sub-t15 c = omega (arith, placed-at (c .before .before .before .before .before .before .before .before .before .before .args .line .now) (c .before .before .before .before .before .before .before .before .before .before .args .from) _ (c .before .before .before .before .p .given .1) (c .before .before .before .before .before .before .next-name .ensures .placed))
+sub-t15 c =
+    let at-p = c .before .before .before .before in
+    let at-next-name = at-p .before .before in
+    let at-args = at-next-name .before .before .before .before in
+    omega (arith, placed-at (at-args .args .line .now) (at-args .args .from) _ (at-p .p .given .1) (at-next-name .next-name .ensures .placed))
 
 add-label-requires : tie.Need-add-label-requires
-add-label-requires c κs = (piece-asked (c .before .before .before .before .before .before .before .before .before .before .args .text .now) (c .before .before .before .before .before .before .before .before .before .before .args .line .now) (c .before .before .before .before .before .before .before .before .before .before .args .words .now) (c .before .before .before .before .before .before .before .before .before .before .args .counts) (c .before .before .before .before .before .before .before .before .before .before .args .base) (c .before .before .before .before .before .before .before .before .before .before .args .from) _ _ (c .before .before .before .before .before .before .before .before .before .before .pre) (placed-at (c .before .before .before .before .before .before .before .before .before .before .args .line .now) (c .before .before .before .before .before .before .before .before .before .before .args .from) _ (c .before .before .before .before .p .given .1) (c .before .before .before .before .before .before .next-name .ensures .placed)), c .before .before .before .before .before .before .before .before .before .before .pre .fits)
+add-label-requires c κs =
+    let at-p = c .before .before .before .before in
+    let at-next-name = at-p .before .before in
+    let at-args = at-next-name .before .before .before .before in (
+      piece-asked (at-args .args .text .now) (at-args .args .line .now) (at-args .args .words .now) (at-args .args .counts) (at-args .args .base)
+          (at-args .args .from) _ _ (at-args .pre)
+          (placed-at (at-args .args .line .now) (at-args .args .from) _ (at-p .p .given .1) (at-next-name .next-name .ensures .placed)),
+      at-args .pre .fits,
+    )
 
 returns : tie.Need-returns
-returns c = λ rule. rw (label-step rule (c .before .before .before .before .before .before .before .before .before .before .before .before .before .args .text .now) (c .before .before .before .before .before .before .before .before .before .before .before .before .before .args .line .now) (c .before .before .before .before .before .before .before .before .before .before .before .before .before .args .words .now) (c .before .before .before .before .before .before .before .before .before .before .before .before .before .args .counts) (c .before .before .before .before .before .before .before .before .before .before .before .before .before .args .base) (c .before .before .before .before .before .before .before .before .before .before .before .before .before .args .from) (c .before .before .before .before .before .before .before .before .before .before .before .before .before .pre) _ (c .before .before .before .before .before .before .before .before .before .next-name .ensures) _ _ (c .before .before .before .before .before .before .before .p .given .1) _ (c .before .before .before .before .before .form-closes .ensures) (c .before .before .before .before .if1 .taken)) (c .before .before .add-label .ensures rule)
+returns c =
+    let at-if1 = c .before .before .before .before in
+    let at-form-closes = at-if1 .before in
+    let at-p = at-form-closes .before .before in
+    let at-next-name = at-p .before .before in
+    let at-args = at-next-name .before .before .before .before in
+    λ rule. rw (label-step rule (at-args .args .text .now) (at-args .args .line .now) (at-args .args .words .now) (at-args .args .counts)
+    (at-args .args .base) (at-args .args .from) (at-args .pre) _ (at-next-name .next-name .ensures) _ _ (at-p .p .given .1) _
+    (at-form-closes .form-closes .ensures) (at-if1 .if1 .taken)) (c .before .before .add-label .ensures rule)
 
 returns-2 : tie.Need-returns-2
-returns-2 c = λ rule. label-open rule (c .before .before .before .before .before .before .before .before .before .args .text .now) (c .before .before .before .before .before .before .before .before .before .args .line .now) (c .before .before .before .before .before .before .before .before .before .args .words .now) (c .before .before .before .before .before .before .before .before .before .args .counts) (c .before .before .before .before .before .before .before .before .before .args .base) (c .before .before .before .before .before .before .before .before .before .args .from) (c .before .before .before .before .before .before .before .before .before .pre) _ (c .before .before .before .before .before .next-name .ensures) _ _ (c .before .before .before .p .given .1) _ (c .before .form-closes .ensures) (c .if1 .left)
+returns-2 c =
+    let at-next-name = c .before .before .before .before .before in
+    let at-args = at-next-name .before .before .before .before in
+    λ rule. label-open rule (at-args .args .text .now) (at-args .args .line .now) (at-args .args .words .now) (at-args .args .counts) (at-args .args .base)
+    (at-args .args .from) (at-args .pre) _ (at-next-name .next-name .ensures) _ _ (c .before .before .before .p .given .1) _
+    (c .before .form-closes .ensures) (c .if1 .left)
 
 returns-3 : tie.Need-returns-3
-returns-3 c = λ rule. label-broken rule (c .before .before .before .before .before .before .args .text .now) (c .before .before .before .before .before .before .args .line .now) (c .before .before .before .before .before .before .args .words .now) (c .before .before .before .before .before .before .args .counts) (c .before .before .before .before .before .before .args .base) (c .before .before .before .before .before .before .args .from) (c .before .before .before .before .before .before .pre) _ (c .before .before .next-name .ensures) (c .enum-told .given .1)
+returns-3 c =
+    let at-args = c .before .before .before .before .before .before in
+    λ rule. label-broken rule (at-args .args .text .now) (at-args .args .line .now) (at-args .args .words .now) (at-args .args .counts)
+    (at-args .args .base) (at-args .args .from) (at-args .pre) _ (c .before .before .next-name .ensures) (c .enum-told .given .1)
 
 pub label-line-spec : {M : Type 1} → statement M
 label-line-spec =

@@ -7,20 +7,34 @@ use Rattle.book_lines.proofs.forms.read_head.Statement.{statement}
 use Rattle.book_lines.proofs.forms.read_head.Tie as tie
 
 sub-head : tie.Need-sub-head
-sub-head c = omega (arith, placed-at (c .before .before .before .before .before .before .before .args .line .now) (c .before .before .before .before .before .before .before .args .from) _ (c .before .p .given .1) (c .before .before .before .next-word .ensures .placed))
+sub-head c =
+    let at-args = c .before .before .before .before .before .before .before in
+    omega (arith, placed-at (at-args .args .line .now) (at-args .args .from) _ (c .before .p .given .1) (c .before .before .before .next-word .ensures .placed))
 
 part-head-start : tie.Need-part-head-start
-part-head-start c = omega (arith, placed-at (c .before .before .before .before .before .before .before .args .line .now) (c .before .before .before .before .before .before .before .args .from) _ (c .before .p .given .1) (c .before .before .before .next-word .ensures .placed))
+part-head-start c =
+    let at-args = c .before .before .before .before .before .before .before in
+    omega (arith, placed-at (at-args .args .line .now) (at-args .args .from) _ (c .before .p .given .1) (c .before .before .before .next-word .ensures .placed))
 
 part-head-end : tie.Need-part-head-end
-part-head-end c = omega (arith, placed-at (c .before .before .before .before .before .before .before .args .line .now) (c .before .before .before .before .before .before .before .args .from) _ (c .before .p .given .1) (c .before .before .before .next-word .ensures .placed))
+part-head-end c =
+    let at-args = c .before .before .before .before .before .before .before in
+    omega (arith, placed-at (at-args .args .line .now) (at-args .args .from) _ (c .before .p .given .1) (c .before .before .before .next-word .ensures .placed))
 
 returns : tie.Need-returns
 unfolding partOf
-returns c = rw (headed (c .before .before .before .before .before .before .before .before .before .before .before .before .before .args .line .now) (c .before .before .before .before .before .before .before .before .before .before .before .before .before .args .from) _ (c .before .before .before .before .before .before .before .before .before .next-word .ensures) _ _ (c .before .before .before .before .before .before .before .p .given .1), ← c .before .before .before .before .head .ensures) (c .before .before .read-rest .ensures)
+returns c =
+    let at-head = c .before .before .before .before in
+    let at-p = at-head .before .before .before in
+    let at-next-word = at-p .before .before in
+    let at-args = at-next-word .before .before .before .before in
+    rw (headed (at-args .args .line .now) (at-args .args .from) _ (at-next-word .next-word .ensures) _ _ (at-p .p .given .1), ← at-head .head .ensures)
+    (c .before .before .read-rest .ensures)
 
 returns-2 : tie.Need-returns-2
-returns-2 c = step-broken _ _ _ (headless (c .before .before .before .before .before .before .args .line .now) (c .before .before .before .before .before .before .args .from) _ (c .before .before .next-word .ensures) (c .enum-told .given .1))
+returns-2 c =
+    let at-args = c .before .before .before .before .before .before in
+    step-broken _ _ _ (headless (at-args .args .line .now) (at-args .args .from) _ (c .before .before .next-word .ensures) (c .enum-told .given .1))
 
 pub read-head-spec : {M : Type 1} → statement M
 read-head-spec =

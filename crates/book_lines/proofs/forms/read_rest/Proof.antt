@@ -6,11 +6,17 @@ use Rattle.book_lines.proofs.forms.read_rest.Tie as tie
 
 returns : tie.Need-returns
 unfolding lineOf
-returns c = rw (c .before .before .before .before .before .head .given .1) (c .before .before .attr-line .ensures (c .before .before .before .before .before .before .before .before .before .before .args .rule))
+returns c =
+    let at-head = c .before .before .before .before .before in
+    let at-args = at-head .before .before .before .before .before in
+    rw (at-head .head .given .1) (c .before .before .attr-line .ensures (at-args .args .rule))
 
 returns-2 : tie.Need-returns-2
 unfolding lineOf
-returns-2 c = rw (c .before .before .before .before .enum-told .given .1) (c .before .before .label-line .ensures (c .before .before .before .before .before .before .before .before .before .args .rule))
+returns-2 c =
+    let at-enum-told = c .before .before .before .before in
+    let at-args = at-enum-told .before .before .before .before .before in
+    rw (at-enum-told .enum-told .given .1) (c .before .before .label-line .ensures (at-args .args .rule))
 
 returns-3 : tie.Need-returns-3
 unfolding lineOf
@@ -18,10 +24,15 @@ returns-3 c = rw (c .before .before .before .before .enum-told2 .given .1) (c .b
 
 returns-4 : tie.Need-returns-4
 unfolding lineOf
-returns-4 c = rw (c .before .before .before .before .enum-told3 .given .1) (c .before .before .rel-line .ensures (c .before .before .before .before .before .before .before .before .before .args .rule))
+returns-4 c =
+    let at-enum-told3 = c .before .before .before .before in
+    let at-args = at-enum-told3 .before .before .before .before .before in
+    rw (at-enum-told3 .enum-told3 .given .1) (c .before .before .rel-line .ensures (at-args .args .rule))
 
 returns-5 : tie.Need-returns-5
-returns-5 c = step-broken _ _ _ (form-other (c .before .before .before .before .before .args .line .now) (c .before .before .before .before .before .args .from) _ (c .enum-told4 .given .1))
+returns-5 c =
+    let at-args = c .before .before .before .before .before in
+    step-broken _ _ _ (form-other (at-args .args .line .now) (at-args .args .from) _ (c .enum-told4 .given .1))
 
 pub read-rest-spec : {M : Type 1} → statement M
 read-rest-spec =

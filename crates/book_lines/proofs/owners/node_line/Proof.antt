@@ -15,40 +15,71 @@ read-entries-requires c κs =
 
 add-t20 : tie.Need-add-t20
 add-t20 c =
-    let s = c .before .before .before .before .before .before .before .before .before .before .before .before .before .before .before in
+    let at-p = c .before .before .before .before .before .before .before .before .before in
+    let at-next-name = at-p .before .before in
+    let at-before = at-next-name .before .before .before in
+    let s = at-before .before in
     let a = s .args in
-    omega (arith, s .pre .inside, s .pre .limit, placed-at (a .line .now) (a .from) _ (c .before .before .before .before .before .before .before .before .before .p .given .1) (c .before .before .before .before .before .before .before .before .before .before .before .next-name .ensures .placed))
+    omega (arith, s .pre .inside, s .pre .limit, placed-at (a .line .now) (a .from) _ (at-p .p .given .1) (at-next-name .next-name .ensures .placed))
 
 sub-t21 : tie.Need-sub-t21
 sub-t21 c =
-    let s = c .before .before .before .before .before .before .before .before .before .before .before .before .before .before .before in
+    let at-p = c .before .before .before .before .before .before .before .before .before in
+    let at-next-name = at-p .before .before in
+    let at-before = at-next-name .before .before .before in
+    let s = at-before .before in
     let a = s .args in
-    omega (arith, placed-at (a .line .now) (a .from) _ (c .before .before .before .before .before .before .before .before .before .p .given .1) (c .before .before .before .before .before .before .before .before .before .before .before .next-name .ensures .placed))
+    omega (arith, placed-at (a .line .now) (a .from) _ (at-p .p .given .1) (at-next-name .next-name .ensures .placed))
 
 add-node-requires : tie.Need-add-node-requires
 add-node-requires c κs =
-    let s = c .before .before .before .before .before .before .before .before .before .before .before .before .before .before .before in
-    let a = s .args in
-    (piece-asked (a .text .now) (a .line .now) (a .words .now) (a .counts) (a .base) (a .from) _ _ (s .pre) (placed-at (a .line .now) (a .from) _ (c .before .before .before .before .before .before .before .before .before .p .given .1) (c .before .before .before .before .before .before .before .before .before .before .before .next-name .ensures .placed)), fits-kept (a .text .now) (a .words .now) _ (a .counts) (c .before .before .before .before .before .before .read-entries .ensures .agrees) (s .pre .fits), entries-got (a .text .now) (a .line .now) (a .words .now) _ (a .counts) _ _ _ _ _ (c .before .before .before .before .before .before .read-entries .ensures) (c .before .before .read .given .1) .few)
+    let at-read-entries = c .before .before .before .before .before .before in
+    let at-p = at-read-entries .before .before .before in
+    let at-next-name = at-p .before .before in
+    let at-before = at-next-name .before .before .before in
+    let s = at-before .before in
+    let a = s .args in (
+      piece-asked (a .text .now) (a .line .now) (a .words .now) (a .counts) (a .base) (a .from) _ _ (s .pre)
+          (placed-at (a .line .now) (a .from) _ (at-p .p .given .1) (at-next-name .next-name .ensures .placed)),
+      fits-kept (a .text .now) (a .words .now) _
+          (a .counts) (at-read-entries .read-entries .ensures .agrees) (s .pre .fits),
+      entries-got (a .text .now) (a .line .now) (a .words .now) _
+          (a .counts) _ _ _ _ _ (at-read-entries .read-entries .ensures) (c .before .before .read .given .1) .few,
+    )
 
 returns : tie.Need-returns
 returns c =
-    let s = c .before .before .before .before .before .before .before .before .before .before .before .before .before .before .before .before .before .before in
+    let at-read = c .before .before .before .before .before in
+    let at-read-entries = at-read .before .before .before .before in
+    let at-p = at-read-entries .before .before .before in
+    let at-next-name = at-p .before .before in
+    let at-before = at-next-name .before .before .before in
+    let s = at-before .before in
     let a = s .args in
-    let got = entries-got (a .text .now) (a .line .now) (a .words .now) _ (a .counts) _ _ _ _ _ (c .before .before .before .before .before .before .before .before .before .read-entries .ensures) (c .before .before .before .before .before .read .given .1) in
-    rw (node-step (a .rule) (a .text .now) (a .line .now) (a .words .now) (a .counts) (a .base) (a .from) (s .pre) _ (c .before .before .before .before .before .before .before .before .before .before .before .before .before .before .next-name .ensures) _ _ (c .before .before .before .before .before .before .before .before .before .before .before .before .p .given .1) _ _ _ _ (c .before .before .before .before .before .before .before .before .before .read-entries .ensures) _ (c .before .before .before .before .before .read .given .1) got) (c .before .before .add-node .ensures (got .got) (got .after))
+    let got = entries-got (a .text .now) (a .line .now) (a .words .now) _ (a .counts) _ _ _ _ _ (at-read-entries .read-entries .ensures)
+    (at-read .read .given .1) in
+    rw (node-step (a .rule) (a .text .now) (a .line .now) (a .words .now) (a .counts) (a .base) (a .from) (s .pre) _ (at-next-name .next-name .ensures) _ _
+    (at-p .p .given .1) _ _ _ _ (at-read-entries .read-entries .ensures) _ (at-read .read .given .1) got)
+    (c .before .before .add-node .ensures (got .got) (got .after))
 
 returns-2 : tie.Need-returns-2
 returns-2 c =
-    let s = c .before .before .before .before .before .before .before .before .before .before .before .before .before in
+    let at-read-entries = c .before .before .before .before in
+    let at-p = at-read-entries .before .before .before in
+    let at-next-name = at-p .before .before in
+    let at-before = at-next-name .before .before .before in
+    let s = at-before .before in
     let a = s .args in
-    node-spoilt (a .rule) (a .text .now) (a .line .now) (a .words .now) (a .counts) (a .base) (a .from) (s .pre) _ (c .before .before .before .before .before .before .before .before .before .next-name .ensures) _ _ (c .before .before .before .before .before .before .before .p .given .1) _ _ _ _ (c .before .before .before .before .read-entries .ensures) (c .enum-told .given .1)
+    node-spoilt (a .rule) (a .text .now) (a .line .now) (a .words .now) (a .counts) (a .base) (a .from) (s .pre) _ (at-next-name .next-name .ensures) _ _
+    (at-p .p .given .1) _ _ _ _ (at-read-entries .read-entries .ensures) (c .enum-told .given .1)
 
 returns-3 : tie.Need-returns-3
 returns-3 c =
-    let s = c .before .before .before .before .before .before in
+    let at-before = c .before .before .before .before .before in
+    let s = at-before .before in
     let a = s .args in
-    node-broken (a .rule) (a .text .now) (a .line .now) (a .words .now) (a .counts) (a .base) (a .from) (s .pre) _ (c .before .before .next-name .ensures) (c .enum-told2 .given .1)
+    node-broken (a .rule) (a .text .now) (a .line .now) (a .words .now) (a .counts) (a .base) (a .from) (s .pre) _ (c .before .before .next-name .ensures)
+    (c .enum-told2 .given .1)
 
 pub node-line-spec : {M : Type 1} → statement M
 node-line-spec =

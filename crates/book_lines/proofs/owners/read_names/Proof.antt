@@ -6,25 +6,56 @@ use Rattle.book_lines.proofs.owners.read_names.Statement.{statement}
 use Rattle.book_lines.proofs.owners.read_names.Tie as tie
 
 sub-t15 : tie.Need-sub-t15
-sub-t15 c = omega (arith, placed-at (c .before .before .before .before .before .before .before .before .before .before .before .before .before .args .line .now) (c .before .before .before .before .before .before .before .before .before .before .before .before .before .args .from) _ (c .before .before .before .before .before .before .before .before .before .a .given .1) (c .before .before .before .before .before .before .before .before .before .before .before .next-name .ensures .placed))
+sub-t15 c =
+    let at-a = c .before .before .before .before .before .before .before .before .before in
+    let at-next-name = at-a .before .before in
+    let at-args = at-next-name .before .before in
+    omega (arith, placed-at (at-args .args .line .now) (at-args .args .from) _ (at-a .a .given .1) (at-next-name .next-name .ensures .placed))
 
 sub-t17 : tie.Need-sub-t17
-sub-t17 c = omega (arith, placed-at (c .before .before .before .before .before .before .before .before .before .before .before .before .before .args .line .now) _ _ (c .before .before .before .before .before .c .given .1) (c .before .before .before .before .before .before .before .next-name2 .ensures .placed))
+sub-t17 c =
+    let at-c = c .before .before .before .before .before in
+    let at-next-name2 = at-c .before .before in
+    let at-args = at-next-name2 .before .before .before .before .before .before in
+    omega (arith, placed-at (at-args .args .line .now) _ _ (at-c .c .given .1) (at-next-name2 .next-name2 .ensures .placed))
 
 sub-t19 : tie.Need-sub-t19
-sub-t19 c = omega (arith, placed-at (c .before .before .before .before .before .before .before .before .before .before .before .before .before .args .line .now) _ _ (c .before .e .given .1) (c .before .before .before .next-name3 .ensures .placed))
+sub-t19 c =
+    let at-args = c .before .before .before .before .before .before .before .before .before .before .before .before .before in
+    omega (arith, placed-at (at-args .args .line .now) _ _ (c .before .e .given .1) (c .before .before .before .next-name3 .ensures .placed))
 
 returns : tie.Need-returns
-returns c = names-all (c .before .before .before .before .before .before .before .before .before .before .before .before .before .args .line .now) (c .before .before .before .before .before .before .before .before .before .before .before .before .before .args .from) _ (c .before .before .before .before .before .before .before .before .before .before .before .next-name .ensures) _ _ (c .before .before .before .before .before .before .before .before .before .a .given .1) _ (c .before .before .before .before .before .before .before .next-name2 .ensures) _ _ (c .before .before .before .before .before .c .given .1) _ (c .before .before .before .next-name3 .ensures) _ _ (c .before .e .given .1)
+returns c =
+    let at-c = c .before .before .before .before .before in
+    let at-next-name2 = at-c .before .before in
+    let at-a = at-next-name2 .before .before in
+    let at-next-name = at-a .before .before in
+    let at-args = at-next-name .before .before in
+    names-all (at-args .args .line .now) (at-args .args .from) _ (at-next-name .next-name .ensures) _ _ (at-a .a .given .1) _
+    (at-next-name2 .next-name2 .ensures) _ _ (at-c .c .given .1) _ (c .before .before .before .next-name3 .ensures) _ _ (c .before .e .given .1)
 
 returns-2 : tie.Need-returns-2
-returns-2 c = names-third (c .before .before .before .before .before .before .before .before .before .before .before .before .args .line .now) (c .before .before .before .before .before .before .before .before .before .before .before .before .args .from) _ (c .before .before .before .before .before .before .before .before .before .before .next-name .ensures) _ _ (c .before .before .before .before .before .before .before .before .a .given .1) _ (c .before .before .before .before .before .before .next-name2 .ensures) _ _ (c .before .before .before .before .c .given .1) _ (c .before .before .next-name3 .ensures) (c .enum-told .given .1)
+returns-2 c =
+    let at-c = c .before .before .before .before in
+    let at-next-name2 = at-c .before .before in
+    let at-a = at-next-name2 .before .before in
+    let at-next-name = at-a .before .before in
+    let at-args = at-next-name .before .before in
+    names-third (at-args .args .line .now) (at-args .args .from) _ (at-next-name .next-name .ensures) _ _ (at-a .a .given .1) _
+    (at-next-name2 .next-name2 .ensures) _ _ (at-c .c .given .1) _ (c .before .before .next-name3 .ensures) (c .enum-told .given .1)
 
 returns-3 : tie.Need-returns-3
-returns-3 c = names-second (c .before .before .before .before .before .before .before .before .args .line .now) (c .before .before .before .before .before .before .before .before .args .from) _ (c .before .before .before .before .before .before .next-name .ensures) _ _ (c .before .before .before .before .a .given .1) _ (c .before .before .next-name2 .ensures) (c .enum-told2 .given .1)
+returns-3 c =
+    let at-a = c .before .before .before .before in
+    let at-next-name = at-a .before .before in
+    let at-args = at-next-name .before .before in
+    names-second (at-args .args .line .now) (at-args .args .from) _ (at-next-name .next-name .ensures) _ _ (at-a .a .given .1) _
+    (c .before .before .next-name2 .ensures) (c .enum-told2 .given .1)
 
 returns-4 : tie.Need-returns-4
-returns-4 c = names-first (c .before .before .before .before .args .line .now) (c .before .before .before .before .args .from) _ (c .before .before .next-name .ensures) (c .enum-told3 .given .1)
+returns-4 c =
+    let at-args = c .before .before .before .before in
+    names-first (at-args .args .line .now) (at-args .args .from) _ (c .before .before .next-name .ensures) (c .enum-told3 .given .1)
 
 pub read-names-spec : {M : Type 1} → statement M
 read-names-spec =

@@ -8,7 +8,11 @@ use Rattle.book_lines.proofs.owners.shifted.Statement.{statement}
 use Rattle.book_lines.proofs.owners.shifted.Tie as tie
 
 add-t8 : tie.Need-add-t8
-add-t8 c = omega (arith, subst (λ (v : Value). EndsBefore 65536 (shift (c .before .before .before .args .base) v)) (c .before .value2 .given .1) (c .before .before .before .pre))
+add-t8 c = omega (
+  arith,
+  subst (λ (v : Value). EndsBefore 65536 (shift (c .before .before .before .args .base) v)) (c .before .value2 .given .1)
+      (c .before .before .before .pre),
+)
 
 returns : tie.Need-returns
 returns c = sym (ap (shift (c .before .before .before .args .base)) (c .before .value .given .1))

@@ -10,23 +10,79 @@ returns c = rw (sym (c .before .same-bytes .ensures) ∙ c .if1 .taken)
 
 returns-2 : tie.Need-returns-2
 unfolding headOf
-returns-2 c = rw (sym (c .before .before .before .before .same-bytes .ensures) ∙ c .before .before .before .if1 .left, sym (c .before .same-bytes2 .ensures) ∙ c .if2 .taken)
+returns-2 c =
+    let at-same-bytes = c .before .before .before .before in
+    rw (sym (at-same-bytes .same-bytes .ensures) ∙ c .before .before .before .if1 .left, sym (c .before .same-bytes2 .ensures) ∙ c .if2 .taken)
 
 returns-3 : tie.Need-returns-3
 unfolding headOf
-returns-3 c = rw (sym (c .before .before .before .before .before .before .before .same-bytes .ensures) ∙ c .before .before .before .before .before .before .if1 .left, sym (c .before .before .before .before .same-bytes2 .ensures) ∙ c .before .before .before .if2 .left, sym (c .before .same-bytes3 .ensures) ∙ c .if3 .taken)
+returns-3 c =
+    let at-same-bytes2 = c .before .before .before .before in
+    let at-if1 = at-same-bytes2 .before .before in
+    let at-same-bytes = at-if1 .before in
+    rw (
+      sym (at-same-bytes .same-bytes .ensures) ∙ at-if1 .if1 .left,
+      sym (at-same-bytes2 .same-bytes2 .ensures)
+          ∙ c .before .before .before .if2 .left,
+      sym (c .before .same-bytes3 .ensures) ∙ c .if3 .taken,
+    )
 
 returns-4 : tie.Need-returns-4
 unfolding headOf
-returns-4 c = rw (sym (c .before .before .before .before .before .before .before .before .before .before .same-bytes .ensures) ∙ c .before .before .before .before .before .before .before .before .before .if1 .left, sym (c .before .before .before .before .before .before .before .same-bytes2 .ensures) ∙ c .before .before .before .before .before .before .if2 .left, sym (c .before .before .before .before .same-bytes3 .ensures) ∙ c .before .before .before .if3 .left, sym (c .before .same-bytes4 .ensures) ∙ c .if4 .taken)
+returns-4 c =
+    let at-same-bytes3 = c .before .before .before .before in
+    let at-if2 = at-same-bytes3 .before .before in
+    let at-same-bytes2 = at-if2 .before in
+    let at-if1 = at-same-bytes2 .before .before in
+    let at-same-bytes = at-if1 .before in
+    rw (
+      sym (at-same-bytes .same-bytes .ensures) ∙ at-if1 .if1 .left,
+      sym (at-same-bytes2 .same-bytes2 .ensures)
+          ∙ at-if2 .if2 .left,
+      sym (at-same-bytes3 .same-bytes3 .ensures) ∙ c .before .before .before .if3 .left,
+      sym (c .before .same-bytes4 .ensures)
+          ∙ c .if4 .taken,
+    )
 
 returns-5 : tie.Need-returns-5
 unfolding headOf
-returns-5 c = rw (sym (c .before .before .before .before .before .before .before .before .before .before .before .before .before .same-bytes .ensures) ∙ c .before .before .before .before .before .before .before .before .before .before .before .before .if1 .left, sym (c .before .before .before .before .before .before .before .before .before .before .same-bytes2 .ensures) ∙ c .before .before .before .before .before .before .before .before .before .if2 .left, sym (c .before .before .before .before .before .before .before .same-bytes3 .ensures) ∙ c .before .before .before .before .before .before .if3 .left, sym (c .before .before .before .before .same-bytes4 .ensures) ∙ c .before .before .before .if4 .left, sym (c .before .same-bytes5 .ensures) ∙ c .if5 .taken)
+returns-5 c =
+    let at-same-bytes4 = c .before .before .before .before in
+    let at-if3 = at-same-bytes4 .before .before in
+    let at-same-bytes3 = at-if3 .before in
+    let at-if2 = at-same-bytes3 .before .before in
+    let at-same-bytes2 = at-if2 .before in
+    let at-if1 = at-same-bytes2 .before .before in
+    let at-same-bytes = at-if1 .before in
+    rw (
+      sym (at-same-bytes .same-bytes .ensures) ∙ at-if1 .if1 .left,
+      sym (at-same-bytes2 .same-bytes2 .ensures)
+          ∙ at-if2 .if2 .left,
+      sym (at-same-bytes3 .same-bytes3 .ensures) ∙ at-if3 .if3 .left,
+      sym (at-same-bytes4 .same-bytes4 .ensures)
+          ∙ c .before .before .before .if4 .left,
+      sym (c .before .same-bytes5 .ensures) ∙ c .if5 .taken,
+    )
 
 returns-6 : tie.Need-returns-6
 unfolding headOf
-returns-6 c = rw (sym (c .before .before .before .before .before .before .before .before .before .before .before .before .before .same-bytes .ensures) ∙ c .before .before .before .before .before .before .before .before .before .before .before .before .if1 .left, sym (c .before .before .before .before .before .before .before .before .before .before .same-bytes2 .ensures) ∙ c .before .before .before .before .before .before .before .before .before .if2 .left, sym (c .before .before .before .before .before .before .before .same-bytes3 .ensures) ∙ c .before .before .before .before .before .before .if3 .left, sym (c .before .before .before .before .same-bytes4 .ensures) ∙ c .before .before .before .if4 .left, sym (c .before .same-bytes5 .ensures) ∙ c .if5 .left)
+returns-6 c =
+    let at-same-bytes4 = c .before .before .before .before in
+    let at-if3 = at-same-bytes4 .before .before in
+    let at-same-bytes3 = at-if3 .before in
+    let at-if2 = at-same-bytes3 .before .before in
+    let at-same-bytes2 = at-if2 .before in
+    let at-if1 = at-same-bytes2 .before .before in
+    let at-same-bytes = at-if1 .before in
+    rw (
+      sym (at-same-bytes .same-bytes .ensures) ∙ at-if1 .if1 .left,
+      sym (at-same-bytes2 .same-bytes2 .ensures)
+          ∙ at-if2 .if2 .left,
+      sym (at-same-bytes3 .same-bytes3 .ensures) ∙ at-if3 .if3 .left,
+      sym (at-same-bytes4 .same-bytes4 .ensures)
+          ∙ c .before .before .before .if4 .left,
+      sym (c .before .same-bytes5 .ensures) ∙ c .if5 .left,
+    )
 
 pub head-spec : {M : Type 1} → statement M
 head-spec =

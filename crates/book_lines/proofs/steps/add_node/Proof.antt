@@ -7,27 +7,47 @@ use Rattle.book_lines.proofs.steps.add_node.Tie as tie
 
 returns : tie.Need-returns
 returns c =
+    let at-named = c .before .before .before .before in
+    let at-before = at-named .before .before .before in
     λ es after.
-    let s = c .before .before .before .before .before .before .before .before in
+    let s = at-before .before in
     let a = s .args in
     node-refused (a .text .now) (a .words .now) (a .counts) (s .pre .1) (a .read) es (a .rule) (a .name) (s .pre .0) after _
-    (rw (c .before .before .before .before .named .ensures) at (c .before .before .before .find-alike .ensures)) _ (rw (c .before .before .is-full .ensures) at (c .before .owner-fault .ensures)) (c .if1 .taken)
+    (rw (at-named .named .ensures) at (c .before .before .before .find-alike .ensures)) _
+    (rw (c .before .before .is-full .ensures) at (c .before .owner-fault .ensures)) (c .if1 .taken)
 
 store-owner-requires : tie.Need-store-owner-requires
 store-owner-requires c κs =
-    let s = c .before .before .before .before .before .before .before .before .before .before .before in
-    let r = owner-room _ _ _ (s .args .counts .nodes) 256 _ (sym (c .before .before .before .before .owner-fault .ensures) ∙ c .before .before .before .if1 .left) (c .before .before .before .before .before .is-full .ensures) in
+    let at-owner-fault = c .before .before .before .before in
+    let at-is-full = at-owner-fault .before in
+    let at-before = at-is-full .before .before .before .before .before in
+    let s = at-before .before in
+    let r = owner-room _ _ _ (s .args .counts .nodes) 256 _ (sym (at-owner-fault .owner-fault .ensures) ∙ c .before .before .before .if1 .left)
+    (at-is-full .is-full .ensures) in
     (s .pre .1 .room, s .pre .1 .within, omega (arith, r .0), c .before .slot-of .ensures .1, r .1)
 
 returns-2 : tie.Need-returns-2
 returns-2 c =
+    let at-slot-of = c .before .before .before .before in
+    let at-name-word = at-slot-of .before in
+    let at-if1 = at-name-word .before in
+    let at-owner-fault = at-if1 .before in
+    let at-is-full = at-owner-fault .before in
+    let at-find-alike = at-is-full .before in
+    let at-named = at-find-alike .before in
+    let at-before = at-named .before .before .before in
     λ es after.
-    let s = c .before .before .before .before .before .before .before .before .before .before .before .before .before .before in
+    let s = at-before .before in
     let a = s .args in
-    let fault = rw (c .before .before .before .before .before .before .before .before .is-full .ensures) at (c .before .before .before .before .before .before .before .owner-fault .ensures) in
-    rw (c .before .before .store-owner .ensures .0, c .before .before .store-owner .ensures .1, c .before .before .before .before .slot-of .ensures .0, c .before .before .before .before .before .name-word .ensures)
+    let fault = rw (at-is-full .is-full .ensures) at (at-owner-fault .owner-fault .ensures) in
+    rw (
+      c .before .before .store-owner .ensures .0,
+      c .before .before .store-owner .ensures .1,
+      at-slot-of .slot-of .ensures .0,
+      at-name-word .name-word .ensures,
+    )
     (node-fine (a .text .now) (a .words .now) (a .counts) (s .pre .1) (a .read) es (a .rule) (a .name) (s .pre .0) after _
-    (rw (c .before .before .before .before .before .before .before .before .before .before .named .ensures) at (c .before .before .before .before .before .before .before .before .before .find-alike .ensures)) (sym fault ∙ c .before .before .before .before .before .before .if1 .left))
+    (rw (at-named .named .ensures) at (at-find-alike .find-alike .ensures)) (sym fault ∙ at-if1 .if1 .left))
 
 pub add-node-spec : {M : Type 1} → statement M
 add-node-spec =

@@ -1,4 +1,5 @@
--- `lookup::entries::entry_of` meets its contract. The loop's invariant: what is sought among all the owner's entries is sought among those from `i` on. The measure is the number of entries left. Assumes nothing.
+-- `lookup::entries::entry_of` meets its contract. The loop's invariant: what is sought among all the owner's entries is sought among those from `i` on.
+-- The measure is the number of entries left. Assumes nothing.
 use Prim.Native.Nat.{_+_, _*_, _-_, _≤_}
 use mathlib.Core.Path.{_≡_, sym, _∙_}
 use native.Mathlib.Omega.{arith}
@@ -26,14 +27,27 @@ cast-if1 c = omega (arith, c .shared-slice-known .given (entries + 3 * (startPar
 
 returns : tie.Need-returns Inv-loop μ-loop
 unfolding found
-returns c = let a = c .before .before .before .before .args in sym (c .before .before .before .loop .inv .1 ∙ seek-finds (a .words .now) (a .attribute) (startPart (a .owner)) (countPart (a .owner)) (c .before .before .before .loop .i) (c .before .before .loop-test .taken) (eq-eqb _ _ (c .if1 .taken)))
+returns c =
+    let at-args = c .before .before .before .before in
+    let a = at-args .args in sym (c .before .before .before .loop .inv .1
+    ∙ seek-finds (a .words .now) (a .attribute) (startPart (a .owner)) (countPart (a .owner)) (c .before .before .before .loop .i)
+    (c .before .before .loop-test .taken) (eq-eqb _ _ (c .if1 .taken)))
 
 loop-again : tie.Need-loop-again Inv-loop μ-loop
-loop-again c = let a = c .before .before .before .before .args in (omega arith, c .before .before .before .loop .inv .1 ∙ seek-passes (a .words .now) (a .attribute) (startPart (a .owner)) (countPart (a .owner)) (c .before .before .before .loop .i) (c .before .before .loop-test .taken) (ne-eqb _ _ (c .if1 .left)))
+loop-again c =
+    let at-args = c .before .before .before .before in
+    let a = at-args .args in (
+      omega arith,
+      c .before .before .before .loop .inv .1
+          ∙ seek-passes (a .words .now) (a .attribute) (startPart (a .owner)) (countPart (a .owner)) (c .before .before .before .loop .i)
+          (c .before .before .loop-test .taken) (ne-eqb _ _ (c .if1 .left)),
+    )
 
 returns-2 : tie.Need-returns-2 Inv-loop μ-loop
 unfolding found
-returns-2 c = let a = c .before .before .args in sym (c .before .loop .inv .1 ∙ seek-ends (a .words .now) (a .attribute) (startPart (a .owner)) (countPart (a .owner)) (c .before .loop .i) (c .loop-test .left))
+returns-2 c = let a = c .before .before .args in
+    sym (c .before .loop .inv .1 ∙ seek-ends (a .words .now) (a .attribute) (startPart (a .owner)) (countPart (a .owner)) (c .before .loop .i)
+    (c .loop-test .left))
 
 pub entry-of-spec : {M : Type 1} → statement M
 entry-of-spec =

@@ -12,22 +12,34 @@ use Rattle.book_lookup.proofs.meeting.entry_meets.Statement.{statement}
 use Rattle.book_lookup.proofs.meeting.entry_meets.Tie as tie
 
 add-entry-meets-text : tie.Need-add-entry-meets-text
-add-entry-meets-text c = omega (arith, subst (ValueInside (c .before .before .before .before .before .before .args .text .now)) (c .before .value2 .given .1) (c .before .before .before .before .before .before .pre .1))
+add-entry-meets-text c =
+    let at-pre = c .before .before .before .before .before .before in
+    omega (arith, subst (ValueInside (at-pre .args .text .now)) (c .before .value2 .given .1) (at-pre .pre .1))
 
 part-entry-meets-text-end : tie.Need-part-entry-meets-text-end
-part-entry-meets-text-end c = omega (arith, subst (ValueInside (c .before .before .before .before .before .before .args .text .now)) (c .before .value2 .given .1) (c .before .before .before .before .before .before .pre .1))
+part-entry-meets-text-end c =
+    let at-pre = c .before .before .before .before .before .before in
+    omega (arith, subst (ValueInside (at-pre .args .text .now)) (c .before .value2 .given .1) (at-pre .pre .1))
 
 returns : tie.Need-returns
 unfolding valueOf
-returns c = rw (c .before .before .value .given .1) (c .entry-meets-number .ensures (c .before .before .before .before .before .before .before .args .book .now))
+returns c =
+    let at-args = c .before .before .before .before .before .before .before in
+    rw (c .before .before .value .given .1) (c .entry-meets-number .ensures (at-args .args .book .now))
 
 returns-2 : tie.Need-returns-2
 unfolding valueOf
-returns-2 c = let a = c .before .before .before .before .before .before .before .before .args in rw (c .before .before .before .value2 .given .1) (c .entry-meets-text .ensures ∙ ap (λ t. inRelation (relationOf (a .relation)) (entryValue (a .book .now) (a .words .now) (a .entry)) (str t)) (part-between (a .text .now) _ _))
+returns-2 c =
+    let at-args = c .before .before .before .before .before .before .before .before in
+    let a = at-args .args in rw (c .before .before .before .value2 .given .1)
+    (c .entry-meets-text .ensures ∙ ap (λ t. inRelation (relationOf (a .relation)) (entryValue (a .book .now) (a .words .now) (a .entry)) (str t))
+    (part-between (a .text .now) _ _))
 
 returns-3 : tie.Need-returns-3
 unfolding valueOf
-returns-3 c = rw (c .before .before .value3 .given .1) (c .entry-meets-truth .ensures (c .before .before .before .before .before .before .before .args .book .now))
+returns-3 c =
+    let at-args = c .before .before .before .before .before .before .before in
+    rw (c .before .before .value3 .given .1) (c .entry-meets-truth .ensures (at-args .args .book .now))
 
 pub entry-meets-spec : {M : Type 1} → statement M
 entry-meets-spec =

@@ -8,7 +8,8 @@ use Rattle.book_lookup.proofs.meeting.entry_meets_number.Statement.{sta
 use Rattle.book_lookup.proofs.meeting.entry_meets_number.Tie as tie
 
 returns : tie.Need-returns
-returns c = let a = c .before .before .before .args in λ book. sym (number-unmet book (a .words .now) (a .entry) (relationOf (a .relation)) (a .number) (λ e. c .if1 .taken (c .before .kind-of .ensures ∙ e)))
+returns c = let a = c .before .before .before .args in
+    λ book. sym (number-unmet book (a .words .now) (a .entry) (relationOf (a .relation)) (a .number) (λ e. c .if1 .taken (c .before .kind-of .ensures ∙ e)))
 
 number-of-requires : tie.Need-number-of-requires
 number-of-requires c κs = record { room = c .before .before .before .pre; is = kind-ints _ (sym (c .before .kind-of .ensures) ∙ c .if1 .left) }

@@ -8,10 +8,15 @@ use Rattle.book_lookup.proofs.meeting.entry_meets_text.Statement.{state
 use Rattle.book_lookup.proofs.meeting.entry_meets_text.Tie as tie
 
 returns : tie.Need-returns
-returns c = let a = c .before .before .before .before .before .args in sym (text-unmet (a .book .now) (a .words .now) (a .entry) (relationOf (a .relation)) (a .text .now) (λ e. c .if1 .taken (c .before .kind-of .ensures ∙ e)))
+returns c =
+    let at-args = c .before .before .before .before .before in
+    let a = at-args .args in sym (text-unmet (a .book .now) (a .words .now) (a .entry) (relationOf (a .relation)) (a .text .now)
+    (λ e. c .if1 .taken (c .before .kind-of .ensures ∙ e)))
 
 text-of-requires : tie.Need-text-of-requires
-text-of-requires c κs = (c .before .before .before .before .before .pre, record { room = c .before .before .before .before .before .pre .room; is = kind-strs _ (sym (c .before .kind-of .ensures) ∙ c .if1 .left) })
+text-of-requires c κs =
+    let at-pre = c .before .before .before .before .before in
+    (at-pre .pre, record { room = at-pre .pre .room; is = kind-strs _ (sym (c .before .kind-of .ensures) ∙ c .if1 .left) })
 
 returns-2 : tie.Need-returns-2
 unfolding inRelation

@@ -9,7 +9,8 @@ use Rattle.book_lookup.proofs.meeting.entry_meets_truth.Statement.{stat
 use Rattle.book_lookup.proofs.meeting.entry_meets_truth.Tie as tie
 
 returns : tie.Need-returns
-returns c = let a = c .before .before .before .args in λ book. sym (truth-unmet book (a .words .now) (a .entry) (relationOf (a .relation)) (a .truth) (omega (arith, c .before .kind-of .ensures)))
+returns c = let a = c .before .before .before .args in
+    λ book. sym (truth-unmet book (a .words .now) (a .entry) (relationOf (a .relation)) (a .truth) (omega (arith, c .before .kind-of .ensures)))
 
 truth-of-requires : tie.Need-truth-of-requires
 truth-of-requires c κs = record { room = c .before .before .before .pre; is = kind-bools _ (omega (arith, c .before .kind-of .ensures)) }

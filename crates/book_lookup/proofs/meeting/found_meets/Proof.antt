@@ -8,7 +8,9 @@ use Rattle.book_lookup.proofs.meeting.found_meets.Statement.{statement}
 use Rattle.book_lookup.proofs.meeting.found_meets.Tie as tie
 
 entry-meets-requires : tie.Need-entry-meets-requires
-entry-meets-requires c κs = let a = c .before .before .before .before .before .before .args in (subst (FoundReady (a .book .now) (a .words .now)) (c .before .found .given .1) (c .before .before .before .before .before .before .pre .0), c .before .before .before .before .before .before .pre .1)
+entry-meets-requires c κs =
+    let at-pre = c .before .before .before .before .before .before in
+    let a = at-pre .args in (subst (FoundReady (a .book .now) (a .words .now)) (c .before .found .given .1) (at-pre .pre .0), at-pre .pre .1)
 
 returns : tie.Need-returns
 unfolding meets valueAt maybeValue found

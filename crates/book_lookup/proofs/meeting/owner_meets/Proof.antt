@@ -7,10 +7,16 @@ use Rattle.book_lookup.proofs.meeting.owner_meets.Statement.{statement}
 use Rattle.book_lookup.proofs.meeting.owner_meets.Tie as tie
 
 found-meets-requires : tie.Need-found-meets-requires
-found-meets-requires c κs = (c .owner-entry .ensures (c .before .before .before .before .args .book .now) (c .before .before .before .before .pre .0 .fits) .ready, c .before .before .before .before .pre .1)
+found-meets-requires c κs =
+    let at-pre = c .before .before .before .before in
+    (c .owner-entry .ensures (at-pre .args .book .now) (at-pre .pre .0 .fits) .ready, at-pre .pre .1)
 
 returns : tie.Need-returns
-returns c = let a = c .before .before .before .before .before .args in c .found-meets .ensures ∙ ap (λ v. meets v (relationOf (a .relation)) (valueOf (a .text .now) (a .value))) (c .before .owner-entry .ensures (a .book .now) (c .before .before .before .before .before .pre .0 .fits) .value)
+returns c =
+    let at-pre = c .before .before .before .before .before in
+    let a = at-pre .args in c .found-meets .ensures
+    ∙ ap (λ v. meets v (relationOf (a .relation)) (valueOf (a .text .now) (a .value)))
+    (c .before .owner-entry .ensures (a .book .now) (at-pre .pre .0 .fits) .value)
 
 pub owner-meets-spec : {M : Type 1} → statement M
 owner-meets-spec = tie.close (tie.spec (λ c κs. search needs) found-meets-requires returns)

@@ -10,13 +10,26 @@ use Rattle.book_lookup.proofs.meeting.texts_meet.Statement.{statement}
 use Rattle.book_lookup.proofs.meeting.texts_meet.Tie as tie
 
 returns : tie.Need-returns
-returns c = let a = c .before .before .before .before .before .before .args in c .same-meets .ensures ∙ ap (sameOrNot (relationOf (a .relation))) (sym (less-not-same (a .x .now) (a .y .now) (sym (c .before .before .before .compare .ensures) ∙ c .before .enum-told .given .1)))
+returns c =
+    let at-args = c .before .before .before .before .before .before in
+    let a = at-args .args in c .same-meets .ensures
+    ∙ ap (sameOrNot (relationOf (a .relation)))
+    (sym (less-not-same (a .x .now) (a .y .now) (sym (c .before .before .before .compare .ensures) ∙ c .before .enum-told .given .1)))
 
 returns-2 : tie.Need-returns-2
-returns-2 c = let a = c .before .before .before .before .before .before .args in c .same-meets2 .ensures ∙ ap (sameOrNot (relationOf (a .relation))) (sym (equal-same (a .x .now) (a .y .now) (compare-equal (a .x .now) (a .y .now) (sym (c .before .before .before .compare .ensures) ∙ c .before .enum-told2 .given .1))))
+returns-2 c =
+    let at-args = c .before .before .before .before .before .before in
+    let a = at-args .args in c .same-meets2 .ensures
+    ∙ ap (sameOrNot (relationOf (a .relation)))
+    (sym (equal-same (a .x .now) (a .y .now)
+    (compare-equal (a .x .now) (a .y .now) (sym (c .before .before .before .compare .ensures) ∙ c .before .enum-told2 .given .1))))
 
 returns-3 : tie.Need-returns-3
-returns-3 c = let a = c .before .before .before .before .before .before .args in c .same-meets3 .ensures ∙ ap (sameOrNot (relationOf (a .relation))) (sym (greater-not-same (a .x .now) (a .y .now) (sym (c .before .before .before .compare .ensures) ∙ c .before .enum-told3 .given .1)))
+returns-3 c =
+    let at-args = c .before .before .before .before .before .before in
+    let a = at-args .args in c .same-meets3 .ensures
+    ∙ ap (sameOrNot (relationOf (a .relation)))
+    (sym (greater-not-same (a .x .now) (a .y .now) (sym (c .before .before .before .compare .ensures) ∙ c .before .enum-told3 .given .1)))
 
 pub texts-meet-spec : {M : Type 1} → statement M
 texts-meet-spec =

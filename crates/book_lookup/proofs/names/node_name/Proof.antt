@@ -19,7 +19,8 @@ part-result-end : tie.Need-part-result-end
 part-result-end c = omega (arith, c .before .pre .fits .nodes .inside (c .before .args .node) (c .before .pre .counted))
 
 returns : tie.Need-returns
-returns c = let a = c .before .before .args in λ counts l. name-slice (a .book .now) (a .words .now) nodeNames (a .node) ∙ sym (node-named (a .book .now) (a .words .now) counts (a .node) l)
+returns c = let a = c .before .before .args in
+    λ counts l. name-slice (a .book .now) (a .words .now) nodeNames (a .node) ∙ sym (node-named (a .book .now) (a .words .now) counts (a .node) l)
 
 pub node-name-spec : {M : Type 1} → statement M
 node-name-spec =

@@ -8,10 +8,15 @@ use Rattle.book_lookup.proofs.values.text_of.Statement.{statement}
 use Rattle.book_lookup.proofs.values.text_of.Tie as tie
 
 part-result-end : tie.Need-part-result-end
-part-result-end c = let a = c .before .before .before .before .args in omega (arith, c .before .before .before .before .pre .0 .inside (text-value (a .book .now) (a .words .now) (a .entry) (c .before .before .before .before .pre .1 .is) .0))
+part-result-end c =
+    let at-pre = c .before .before .before .before in
+    let a = at-pre .args in omega (arith, at-pre .pre .0 .inside (text-value (a .book .now) (a .words .now) (a .entry) (at-pre .pre .1 .is) .0))
 
 returns : tie.Need-returns
-returns c = let a = c .before .before .before .before .before .args in rw (c .before .before .word-of .ensures, c .before .word-of2 .ensures) (text-value (a .book .now) (a .words .now) (a .entry) (c .before .before .before .before .before .pre .1 .is) .1 ∙ ap str (sym (part-between (a .book .now) _ _)))
+returns c =
+    let at-pre = c .before .before .before .before .before in
+    let a = at-pre .args in rw (c .before .before .word-of .ensures, c .before .word-of2 .ensures)
+    (text-value (a .book .now) (a .words .now) (a .entry) (at-pre .pre .1 .is) .1 ∙ ap str (sym (part-between (a .book .now) _ _)))
 
 pub text-of-spec : {M : Type 1} → statement M
 text-of-spec =

@@ -14,8 +14,10 @@ find-name-requires c κs =
 
 returns : tie.Need-returns
 returns c =
-    let a = c .before .before .before .before .before .args in
-    c .find-name .ensures ∙ rw (c .before .tables .ensures .is) (ap (place (a .name .now)) (sym (owner-names (a .text .now) (a .words .now) (a .counts) (a .owner))))
+    let at-args = c .before .before .before .before .before in
+    let a = at-args .args in
+    c .find-name .ensures ∙ rw (c .before .tables .ensures .is)
+    (ap (place (a .name .now)) (sym (owner-names (a .text .now) (a .words .now) (a .counts) (a .owner))))
 
 pub find-attr-spec : {M : Type 1} → statement M
 find-attr-spec = tie.close (tie.spec (λ c κs. search needs) find-name-requires returns)

@@ -28,15 +28,25 @@ is-named-requires c κs = (omega arith, c .before .before .before .before .befor
 returns : tie.Need-returns Inv-loop μ-loop
 unfolding nameOf
 returns c =
-    let a = c .before .before .before .before .before .before .before .args in found-name (a .name .now) (a .text .now) (a .words .now) (a .offset) (a .count) (c .before .before .before .loop .i) (c .before .before .loop-test .taken) (c .before .before .before .loop .inv .1) (sym (c .before .is-named .ensures) ∙ c .if1 .taken)
+    let at-args = c .before .before .before .before .before .before .before in
+    let a = at-args .args in found-name (a .name .now) (a .text .now) (a .words .now) (a .offset) (a .count) (c .before .before .before .loop .i)
+    (c .before .before .loop-test .taken) (c .before .before .before .loop .inv .1) (sym (c .before .is-named .ensures) ∙ c .if1 .taken)
 
 loop-again : tie.Need-loop-again Inv-loop μ-loop
 unfolding nameOf
 loop-again c =
-    let a = c .before .before .before .before .before .before .before .args in (omega arith, scan-on (same (a .name .now)) (nameOf (a .text .now) (a .words .now) (a .offset)) (c .before .before .before .loop .i) (c .before .before .before .loop .inv .1) (sym (c .before .is-named .ensures) ∙ c .if1 .left))
+    let at-args = c .before .before .before .before .before .before .before in
+    let a = at-args .args in (
+      omega arith,
+      scan-on (same (a .name .now)) (nameOf (a .text .now) (a .words .now) (a .offset))
+          (c .before .before .before .loop .i) (c .before .before .before .loop .inv .1) (sym (c .before .is-named .ensures) ∙ c .if1 .left),
+    )
 
 returns-2 : tie.Need-returns-2 Inv-loop μ-loop
-returns-2 c = let a = c .before .before .before .before .before .args in found-none (a .name .now) (a .text .now) (a .words .now) (a .offset) (a .count) (c .before .loop .i) (omega arith) (c .before .loop .inv .1)
+returns-2 c =
+    let at-args = c .before .before .before .before .before in
+    let a = at-args .args in found-none (a .name .now) (a .text .now) (a .words .now) (a .offset) (a .count) (c .before .loop .i) (omega arith)
+    (c .before .loop .inv .1)
 
 pub find-name-spec : {M : Type 1} → statement M
 find-name-spec =

@@ -15,7 +15,9 @@ add-end : tie.Need-add-end
 add-end c = omega (arith, c .shared-slice-known4 .given (c .before .before .before .before .args .at))
 
 returns : tie.Need-returns
-returns c = let a = c .before .before .before .before .before .before .args in c .is-alike .ensures ∙ ap (alike (a .rule) (a .name .now)) (word-slice (a .text .now) (wordAt (a .words .now) (a .at)))
+returns c =
+    let at-args = c .before .before .before .before .before .before in
+    let a = at-args .args in c .is-alike .ensures ∙ ap (alike (a .rule) (a .name .now)) (word-slice (a .text .now) (wordAt (a .words .now) (a .at)))
 
 pub is-named-spec : {M : Type 1} → statement M
 is-named-spec =

@@ -26,15 +26,23 @@ loop-holds c = refl
 
 returns-2 : tie.Need-returns-2 Inv-loop μ-loop
 returns-2 c =
-    let a = c .before .before .before .before .before .before .before .before .before .before .args in
-    let e = c .before .before .before .before .before .before .before .if1 .left in
-    sym (case-differs (a .a .now) (a .b .now) (c .before .before .before .before .before .before .loop .i) (omega arith) (omega arith) (rw (c .before .before .before .small .ensures, c .before .small2 .ensures) at (c .if2 .taken))) ∙ c .before .before .before .before .before .before .loop .inv
+    let at-loop = c .before .before .before .before .before .before in
+    let at-if1 = at-loop .before in
+    let at-args = at-if1 .before .before .before in
+    let a = at-args .args in
+    let e = at-if1 .if1 .left in
+    sym (case-differs (a .a .now) (a .b .now) (at-loop .loop .i) (omega arith) (omega arith)
+    (rw (c .before .before .before .small .ensures, c .before .small2 .ensures) at (c .if2 .taken))) ∙ at-loop .loop .inv
 
 loop-again : tie.Need-loop-again Inv-loop μ-loop
 loop-again c =
-    let a = c .before .before .before .before .before .before .before .before .before .before .args in
-    let e = c .before .before .before .before .before .before .before .if1 .left in
-    sym (case-step (a .a .now) (a .b .now) (c .before .before .before .before .before .before .loop .i) (omega arith) (omega arith) (rw (c .before .before .before .small .ensures, c .before .small2 .ensures) at (c .if2 .left))) ∙ c .before .before .before .before .before .before .loop .inv
+    let at-loop = c .before .before .before .before .before .before in
+    let at-if1 = at-loop .before in
+    let at-args = at-if1 .before .before .before in
+    let a = at-args .args in
+    let e = at-if1 .if1 .left in
+    sym (case-step (a .a .now) (a .b .now) (at-loop .loop .i) (omega arith) (omega arith)
+    (rw (c .before .before .before .small .ensures, c .before .small2 .ensures) at (c .if2 .left))) ∙ at-loop .loop .inv
 
 returns-3 : tie.Need-returns-3 Inv-loop μ-loop
 returns-3 c =

@@ -11,7 +11,9 @@ use Rattle.book_tables.proofs.stores.clear_chains.Tie as tie
 
 returns : tie.Need-returns
 unfolding withoutChains
-returns c = c .before .before .clear2 .ensures ∙ ap (λ (w : List ℕ). cleared w fromHeads keys) (c .before .before .before .before .before .before .clear .ensures)
+returns c =
+    let at-clear = c .before .before .before .before .before .before in
+    c .before .before .clear2 .ensures ∙ ap (λ (w : List ℕ). cleared w fromHeads keys) (at-clear .clear .ensures)
 
 pub clear-chains-spec : {M : Type 1} → statement M
 clear-chains-spec = tie.close (tie.spec (λ c κs. search needs) (λ c κs. search needs) (λ c. search needs) returns)

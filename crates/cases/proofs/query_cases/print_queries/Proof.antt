@@ -14,67 +14,82 @@ abbrev μ-loop : tie.MeasureT-loop
 μ-loop book rules queries at₀ at = length queries + 1 - at
 
 sub-print-query : tie.Need-sub-print-query Inv-loop μ-loop
-sub-print-query c = omega (
-  arith,
-  c .line-end .ensures,
-  past-on isInLine (c .before .before .before .before .before .before .args .queries .now)
-      (c .before .before .loop .at),
-  past-within isInLine (c .before .before .before .before .before .before .args .queries .now)
-      (c .before .before .loop .at) (omega arith),
-)
+sub-print-query c =
+    let at-args = c .before .before .before .before .before .before in
+    omega (
+      arith,
+      c .line-end .ensures,
+      past-on isInLine (at-args .args .queries .now)
+          (c .before .before .loop .at),
+      past-within isInLine (at-args .args .queries .now)
+          (c .before .before .loop .at) (omega arith),
+    )
 
 part-print-query-start : tie.Need-part-print-query-start Inv-loop μ-loop
-part-print-query-start c = omega (
-  arith,
-  c .line-end .ensures,
-  past-on isInLine (c .before .before .before .before .before .before .args .queries .now)
-      (c .before .before .loop .at),
-  past-within isInLine (c .before .before .before .before .before .before .args .queries .now)
-      (c .before .before .loop .at) (omega arith),
-)
+part-print-query-start c =
+    let at-args = c .before .before .before .before .before .before in
+    omega (
+      arith,
+      c .line-end .ensures,
+      past-on isInLine (at-args .args .queries .now)
+          (c .before .before .loop .at),
+      past-within isInLine (at-args .args .queries .now)
+          (c .before .before .loop .at) (omega arith),
+    )
 
 part-print-query-end : tie.Need-part-print-query-end Inv-loop μ-loop
-part-print-query-end c = omega (
-  arith,
-  c .line-end .ensures,
-  past-on isInLine (c .before .before .before .before .before .before .args .queries .now)
-      (c .before .before .loop .at),
-  past-within isInLine (c .before .before .before .before .before .before .args .queries .now)
-      (c .before .before .loop .at) (omega arith),
-)
+part-print-query-end c =
+    let at-args = c .before .before .before .before .before .before in
+    omega (
+      arith,
+      c .line-end .ensures,
+      past-on isInLine (at-args .args .queries .now)
+          (c .before .before .loop .at),
+      past-within isInLine (at-args .args .queries .now)
+          (c .before .before .loop .at) (omega arith),
+    )
 
 add-at : tie.Need-add-at Inv-loop μ-loop
-add-at c = omega (
-  arith,
-  c .before .before .line-end .ensures,
-  past-on isInLine
-      (c .before .before .before .before .before .before .before .before .args .queries .now) (c .before .before .before .before .loop .at),
-  past-within
-      isInLine (c .before .before .before .before .before .before .before .before .args .queries .now) (c .before .before .before .before .loop .at)
-      (omega arith),
-)
+add-at c =
+    let at-loop = c .before .before .before .before in
+    let at-args = at-loop .before .before .before .before in
+    omega (
+      arith,
+      c .before .before .line-end .ensures,
+      past-on isInLine
+          (at-args .args .queries .now) (at-loop .loop .at),
+      past-within
+          isInLine (at-args .args .queries .now) (at-loop .loop .at)
+          (omega arith),
+    )
 
 loop-less : tie.Need-loop-less Inv-loop μ-loop
-loop-less c = omega (
-  arith,
-  c .before .before .line-end .ensures,
-  past-on isInLine
-      (c .before .before .before .before .before .before .before .before .args .queries .now) (c .before .before .before .before .loop .at),
-  past-within
-      isInLine (c .before .before .before .before .before .before .before .before .args .queries .now) (c .before .before .before .before .loop .at)
-      (omega arith),
-)
+loop-less c =
+    let at-loop = c .before .before .before .before in
+    let at-args = at-loop .before .before .before .before in
+    omega (
+      arith,
+      c .before .before .line-end .ensures,
+      past-on isInLine
+          (at-args .args .queries .now) (at-loop .loop .at),
+      past-within
+          isInLine (at-args .args .queries .now) (at-loop .loop .at)
+          (omega arith),
+    )
 
 loop-again : tie.Need-loop-again Inv-loop μ-loop
-loop-again c = omega (
-  arith,
-  c .before .before .line-end .ensures,
-  past-on isInLine
-      (c .before .before .before .before .before .before .before .before .args .queries .now) (c .before .before .before .before .loop .at),
-  past-within
-      isInLine (c .before .before .before .before .before .before .before .before .args .queries .now) (c .before .before .before .before .loop .at)
-      (omega arith),
-)
+loop-again c =
+    let at-loop = c .before .before .before .before in
+    let at-args = at-loop .before .before .before .before in
+    omega (
+      arith,
+      c .before .before .line-end .ensures,
+      past-on isInLine
+          (at-args .args .queries .now) (at-loop .loop .at),
+      past-within
+          isInLine (at-args .args .queries .now) (at-loop .loop .at)
+          (omega arith),
+    )
 
 pub print-queries-spec : {M : Type 1} → statement M
 print-queries-spec =

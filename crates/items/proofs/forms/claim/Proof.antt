@@ -11,7 +11,12 @@ use Rattle.items.proofs.forms.claim.Tie as tie
 
 returns : tie.Need-returns
 unfolding claimHead
-returns c = at-claim (c .before .before .before .before .before .before .before .before .args .depth) (c .before .before .before .before .before .before .before .before .args .s .now) (c .before .before .before .before .before .before .before .before .args .from) (c .before .before .before .before .i .given .0 .0) (sym (c .before .before .before .before .i .given .1) ∙ c .before .before .before .before .before .before .open-list .ensures) _ (sym (c .enum-told .given .1) ∙ c .before .before .next-word .ensures .is)
+returns c =
+    let at-i = c .before .before .before .before in
+    let at-open-list = at-i .before .before in
+    let at-args = at-open-list .before .before in
+    at-claim (at-args .args .depth) (at-args .args .s .now) (at-args .args .from) (at-i .i .given .0 .0)
+    (sym (at-i .i .given .1) ∙ at-open-list .open-list .ensures) _ (sym (c .enum-told .given .1) ∙ c .before .before .next-word .ensures .is)
 
 sub-same-bytes : tie.Need-sub-same-bytes
 sub-same-bytes c = omega (arith, placed-at _ _ _ (c .before .p .given .1) (c .before .before .before .next-word .ensures .placed))
@@ -24,19 +29,41 @@ part-same-bytes-end c = omega (arith, placed-at _ _ _ (c .before .p .given .1) (
 
 returns-2 : tie.Need-returns-2
 unfolding partOf
-returns-2 c = c .claim-rest .ensures ∙ claim-yes (c .before .before .before .before .before .before .before .before .before .before .before .before .before .before .args .depth) (c .before .before .before .before .before .before .before .before .before .before .before .before .before .before .args .s .now) (c .before .before .before .before .before .before .p .given .0 .0) (c .before .before .before .before .before .before .p .given .0 .1 .0) (sym (c .before .before .same-bytes .ensures) ∙ c .before .if1 .taken) ∙ at-claim (c .before .before .before .before .before .before .before .before .before .before .before .before .before .before .args .depth) (c .before .before .before .before .before .before .before .before .before .before .before .before .before .before .args .s .now) (c .before .before .before .before .before .before .before .before .before .before .before .before .before .before .args .from) (c .before .before .before .before .before .before .before .before .before .before .i .given .0 .0) (sym (c .before .before .before .before .before .before .before .before .before .before .i .given .1) ∙ c .before .before .before .before .before .before .before .before .before .before .before .before .open-list .ensures) _ (sym (c .before .before .before .before .before .before .p .given .1) ∙ c .before .before .before .before .before .before .before .before .next-word .ensures .is)
+returns-2 c =
+    let at-p = c .before .before .before .before .before .before in
+    let at-next-word = at-p .before .before in
+    let at-i = at-next-word .before .before in
+    let at-open-list = at-i .before .before in
+    let at-args = at-open-list .before .before in
+    c .claim-rest .ensures ∙ claim-yes (at-args .args .depth) (at-args .args .s .now) (at-p .p .given .0 .0) (at-p .p .given .0 .1 .0)
+    (sym (c .before .before .same-bytes .ensures) ∙ c .before .if1 .taken)
+    ∙ at-claim (at-args .args .depth) (at-args .args .s .now) (at-args .args .from) (at-i .i .given .0 .0)
+    (sym (at-i .i .given .1) ∙ at-open-list .open-list .ensures) _ (sym (at-p .p .given .1) ∙ at-next-word .next-word .ensures .is)
 
 returns-3 : tie.Need-returns-3
 unfolding partOf
-returns-3 c = claim-no (c .before .before .before .before .before .before .before .before .before .before .before .before .before .args .depth) (c .before .before .before .before .before .before .before .before .before .before .before .before .before .args .s .now) (c .before .before .before .before .before .p .given .0 .0) (c .before .before .before .before .before .p .given .0 .1 .0) (sym (c .before .same-bytes .ensures) ∙ c .if1 .left) ∙ at-claim (c .before .before .before .before .before .before .before .before .before .before .before .before .before .args .depth) (c .before .before .before .before .before .before .before .before .before .before .before .before .before .args .s .now) (c .before .before .before .before .before .before .before .before .before .before .before .before .before .args .from) (c .before .before .before .before .before .before .before .before .before .i .given .0 .0) (sym (c .before .before .before .before .before .before .before .before .before .i .given .1) ∙ c .before .before .before .before .before .before .before .before .before .before .before .open-list .ensures) _ (sym (c .before .before .before .before .before .p .given .1) ∙ c .before .before .before .before .before .before .before .next-word .ensures .is)
+returns-3 c =
+    let at-p = c .before .before .before .before .before in
+    let at-next-word = at-p .before .before in
+    let at-i = at-next-word .before .before in
+    let at-open-list = at-i .before .before in
+    let at-args = at-open-list .before .before in
+    claim-no (at-args .args .depth) (at-args .args .s .now) (at-p .p .given .0 .0) (at-p .p .given .0 .1 .0)
+    (sym (c .before .same-bytes .ensures) ∙ c .if1 .left)
+    ∙ at-claim (at-args .args .depth) (at-args .args .s .now) (at-args .args .from) (at-i .i .given .0 .0)
+    (sym (at-i .i .given .1) ∙ at-open-list .open-list .ensures) _ (sym (at-p .p .given .1) ∙ at-next-word .next-word .ensures .is)
 
 returns-4 : tie.Need-returns-4
 unfolding claimNext claimAfter
-returns-4 c = ap (claimAfter (c .before .before .before .before .before .args .depth) (c .before .before .before .before .before .args .s .now)) (sym (c .before .e .given .1) ∙ c .before .before .before .open-list .ensures)
+returns-4 c =
+    let at-args = c .before .before .before .before .before in
+    ap (claimAfter (at-args .args .depth) (at-args .args .s .now)) (sym (c .before .e .given .1) ∙ c .before .before .before .open-list .ensures)
 
 returns-5 : tie.Need-returns-5
 unfolding claimNext claimAfter
-returns-5 c = ap (claimAfter (c .before .before .before .before .args .depth) (c .before .before .before .before .args .s .now)) (sym (c .enum-told2 .given .1) ∙ c .before .before .open-list .ensures)
+returns-5 c =
+    let at-args = c .before .before .before .before in
+    ap (claimAfter (at-args .args .depth) (at-args .args .s .now)) (sym (c .enum-told2 .given .1) ∙ c .before .before .open-list .ensures)
 
 pub claim-spec : {M : Type 1} → statement M
 claim-spec =

@@ -11,7 +11,10 @@ returns c = ap (spacesBehind (c .before .before .before .before .args .s .now)) 
 
 returns-2 : tie.Need-returns-2
 unfolding formCloses spacesBehind
-returns-2 c = c .only-spaces .ensures ∙ ap (spacesBehind (c .before .before .before .before .before .before .args .s .now)) (sym (c .before .before .e .given .1) ∙ c .before .before .before .before .close-list .ensures)
+returns-2 c =
+    let at-close-list = c .before .before .before .before in
+    let at-args = at-close-list .before .before in
+    c .only-spaces .ensures ∙ ap (spacesBehind (at-args .args .s .now)) (sym (c .before .before .e .given .1) ∙ at-close-list .close-list .ensures)
 
 pub form-closes-spec : {M : Type 1} → statement M
 form-closes-spec =

@@ -8,7 +8,9 @@ use Rattle.items.proofs.forms.only_spaces.Statement.{statement}
 use Rattle.items.proofs.forms.only_spaces.Tie as tie
 
 returns : tie.Need-returns
-returns c = ap (leb (length (c .before .before .args .s .now))) (c .spaces-end .ensures) ∙ spaces-from (c .before .before .args .s .now) (c .before .before .args .from)
+returns c =
+    let at-args = c .before .before in
+    ap (leb (length (at-args .args .s .now))) (c .spaces-end .ensures) ∙ spaces-from (at-args .args .s .now) (at-args .args .from)
 
 pub only-spaces-spec : {M : Type 1} → statement M
 only-spaces-spec = tie.close (tie.spec (λ c κs. search needs) returns)

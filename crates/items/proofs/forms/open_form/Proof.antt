@@ -8,13 +8,21 @@ use Rattle.items.proofs.forms.open_form.Statement.{statement}
 use Rattle.items.proofs.forms.open_form.Tie as tie
 
 add-t5 : tie.Need-add-t5
-add-t5 c = omega (arith, peek-in (c .before .before .before .before .args .s .now) (c .before .before .spaces-end .result) (omega (arith, c .before .peek .ensures, c .if1 .taken)))
+add-t5 c =
+    let at-args = c .before .before .before .before in
+    omega (arith, peek-in (at-args .args .s .now) (c .before .before .spaces-end .result) (omega (arith, c .before .peek .ensures, c .if1 .taken)))
 
 returns : tie.Need-returns
-returns c = form-opens (c .before .before .before .before .args .s .now) (c .before .before .spaces-end .result) (c .before .before .spaces-end .ensures) (sym (c .before .peek .ensures) ∙ c .if1 .taken)
+returns c =
+    let at-args = c .before .before .before .before in
+    form-opens (at-args .args .s .now) (c .before .before .spaces-end .result) (c .before .before .spaces-end .ensures)
+    (sym (c .before .peek .ensures) ∙ c .if1 .taken)
 
 returns-2 : tie.Need-returns-2
-returns-2 c = form-shut (c .before .before .before .before .args .s .now) (c .before .before .spaces-end .result) (c .before .before .spaces-end .ensures) (λ h. c .if1 .left (c .before .peek .ensures ∙ h))
+returns-2 c =
+    let at-args = c .before .before .before .before in
+    form-shut (at-args .args .s .now) (c .before .before .spaces-end .result) (c .before .before .spaces-end .ensures)
+    (λ h. c .if1 .left (c .before .peek .ensures ∙ h))
 
 pub open-form-spec : {M : Type 1} → statement M
 open-form-spec = tie.close (tie.spec (λ c κs. search needs) (λ c κs. search needs) add-t5 returns returns-2)

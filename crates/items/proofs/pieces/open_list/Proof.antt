@@ -9,15 +9,25 @@ use Rattle.items.proofs.pieces.open_list.Statement.{statement}
 use Rattle.items.proofs.pieces.open_list.Tie as tie
 
 add-t9 : tie.Need-add-t9
-add-t9 c = omega (arith, peek-in (c .before .before .before .before .before .before .before .args .s .now) (c .before .before .before .p .given .0 .0) (omega (arith, c .before .peek .ensures, c .if1 .taken)))
+add-t9 c =
+    let at-args = c .before .before .before .before .before .before .before in
+    omega (arith, peek-in (at-args .args .s .now) (c .before .before .before .p .given .0 .0) (omega (arith, c .before .peek .ensures, c .if1 .taken)))
 
 returns : tie.Need-returns
 unfolding openNext
-returns c = open-yes (c .before .before .before .before .before .before .before .args .s .now) (c .before .before .before .p .given .0 .0) (sym (c .before .peek .ensures) ∙ c .if1 .taken) ∙ ap (openAfter (c .before .before .before .before .before .before .before .args .s .now)) (sym (c .before .before .before .p .given .1) ∙ c .before .before .before .before .before .next .ensures)
+returns c =
+    let at-next = c .before .before .before .before .before in
+    let at-args = at-next .before .before in
+    open-yes (at-args .args .s .now) (c .before .before .before .p .given .0 .0) (sym (c .before .peek .ensures) ∙ c .if1 .taken)
+    ∙ ap (openAfter (at-args .args .s .now)) (sym (c .before .before .before .p .given .1) ∙ at-next .next .ensures)
 
 returns-2 : tie.Need-returns-2
 unfolding openNext
-returns-2 c = open-no (c .before .before .before .before .before .before .before .args .s .now) (c .before .before .before .p .given .0 .0) (λ h. c .if1 .left (c .before .peek .ensures ∙ h)) ∙ ap (openAfter (c .before .before .before .before .before .before .before .args .s .now)) (sym (c .before .before .before .p .given .1) ∙ c .before .before .before .before .before .next .ensures)
+returns-2 c =
+    let at-next = c .before .before .before .before .before in
+    let at-args = at-next .before .before in
+    open-no (at-args .args .s .now) (c .before .before .before .p .given .0 .0) (λ h. c .if1 .left (c .before .peek .ensures ∙ h))
+    ∙ ap (openAfter (at-args .args .s .now)) (sym (c .before .before .before .p .given .1) ∙ at-next .next .ensures)
 
 returns-3 : tie.Need-returns-3
 unfolding openNext openAfter

@@ -8,7 +8,8 @@ use Rattle.items.proofs.pieces.word_at.Tie as tie
 
 returns : tie.Need-returns
 unfolding wordOf
-returns c = rw (ap isLetter (sym (c .before .before .before .peek .ensures)) ∙ sym (c .before .before .is-letter .ensures) ∙ c .before .if1 .taken) (c .word .ensures)
+returns c = rw (ap isLetter (sym (c .before .before .before .peek .ensures)) ∙ sym (c .before .before .is-letter .ensures) ∙ c .before .if1 .taken)
+    (c .word .ensures)
 
 returns-2 : tie.Need-returns-2
 unfolding wordOf

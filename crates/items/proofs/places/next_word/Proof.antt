@@ -8,15 +8,33 @@ use Rattle.items.proofs.places.next_word.Statement.{statement}
 use Rattle.items.proofs.places.next_word.Tie as tie
 
 returns : tie.Need-returns
-returns c = told-word (no-word (c .before .before .before .before .before .args .depth) (c .before .before .before .before .before .args .free) (c .before .before .before .before .before .args .s .now) (c .before .before .before .before .before .args .from) (sym (c .enum-told .given .1) ∙ c .before .before .item-place .ensures ∙ ap itemPlace (c .before .before .before .next .ensures)))
+returns c =
+    let at-args = c .before .before .before .before .before in
+    told-word (no-word (at-args .args .depth) (at-args .args .free) (at-args .args .s .now) (at-args .args .from)
+    (sym (c .enum-told .given .1) ∙ c .before .before .item-place .ensures ∙ ap itemPlace (c .before .before .before .next .ensures)))
 
 returns-2 : tie.Need-returns-2
 unfolding afterEnd
-returns-2 c = told-word (at-word (c .before .before .before .before .before .before .before .before .before .args .depth) (c .before .before .before .before .before .before .before .before .before .args .free) (c .before .before .before .before .before .before .before .before .before .args .s .now) (c .before .before .before .before .before .before .before .before .before .args .from) (c .before .before .before .before .p .given .0 .0) (sym (c .before .before .before .before .p .given .1) ∙ c .before .before .before .before .before .before .item-place .ensures ∙ ap itemPlace (c .before .before .before .before .before .before .before .next .ensures)) _ (sym (c .enum-told2 .given .1) ∙ c .before .before .word-at .ensures ∙ word-of (c .before .before .before .before .before .before .before .before .before .args .s .now) (c .before .before .before .before .p .given .0 .0) (c .before .before .before .before .before .before .before .before .before .args .depth)))
+returns-2 c =
+    let at-p = c .before .before .before .before in
+    let at-item-place = at-p .before .before in
+    let at-next = at-item-place .before in
+    let at-args = at-next .before .before in
+    told-word (at-word (at-args .args .depth) (at-args .args .free) (at-args .args .s .now) (at-args .args .from) (at-p .p .given .0 .0)
+    (sym (at-p .p .given .1) ∙ at-item-place .item-place .ensures ∙ ap itemPlace (at-next .next .ensures)) _
+    (sym (c .enum-told2 .given .1) ∙ c .before .before .word-at .ensures ∙ word-of (at-args .args .s .now) (at-p .p .given .0 .0) (at-args .args .depth)))
 
 returns-3 : tie.Need-returns-3
 unfolding afterEnd
-returns-3 c = told-word (at-word (c .before .before .before .before .before .before .before .before .before .before .args .depth) (c .before .before .before .before .before .before .before .before .before .before .args .free) (c .before .before .before .before .before .before .before .before .before .before .args .s .now) (c .before .before .before .before .before .before .before .before .before .before .args .from) (c .before .before .before .before .before .p .given .0 .0) (sym (c .before .before .before .before .before .p .given .1) ∙ c .before .before .before .before .before .before .before .item-place .ensures ∙ ap itemPlace (c .before .before .before .before .before .before .before .before .next .ensures)) _ (sym (c .before .q .given .1) ∙ c .before .before .before .word-at .ensures ∙ word-of (c .before .before .before .before .before .before .before .before .before .before .args .s .now) (c .before .before .before .before .before .p .given .0 .0) (c .before .before .before .before .before .before .before .before .before .before .args .depth)))
+returns-3 c =
+    let at-p = c .before .before .before .before .before in
+    let at-item-place = at-p .before .before in
+    let at-next = at-item-place .before in
+    let at-args = at-next .before .before in
+    told-word (at-word (at-args .args .depth) (at-args .args .free) (at-args .args .s .now) (at-args .args .from) (at-p .p .given .0 .0)
+    (sym (at-p .p .given .1) ∙ at-item-place .item-place .ensures ∙ ap itemPlace (at-next .next .ensures)) _
+    (sym (c .before .q .given .1) ∙ c .before .before .before .word-at .ensures
+    ∙ word-of (at-args .args .s .now) (at-p .p .given .0 .0) (at-args .args .depth)))
 
 pub next-word-spec : {M : Type 1} → statement M
 next-word-spec =

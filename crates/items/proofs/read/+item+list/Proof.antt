@@ -1,4 +1,5 @@
--- `items::read::item` and `items::read::list` meet their contracts. Bytes left fall from each to the other. The list's invariant: the rest of the list from i on ends where the whole list ends.
+-- `items::read::item` and `items::read::list` meet their contracts. Bytes left fall from each to the other. The list's invariant: the rest of the list
+-- from i on ends where the whole list ends.
 use Rattle.items.proofs.NextLaws.{begins, item-follows, close-follows, none-follows, toEnd, ends, list-end, ends-none, ends-at}
 use Rattle.items.proofs.RestLaws.{rest-end}
 use Rattle.items.proofs.ReadLaws.{end-read, read-deep, read-opened, read-plain}
@@ -64,7 +65,10 @@ item-returns : (t : ℕ) → item-lts.Need-returns (
   plain-reads.Asked,
   plain-reads.Learnt,
 ) (item-at t) item.Post
-item-returns t c = read-deep (c .before .before .before .before .args .depth) (c .before .before .before .before .args .s .now) (c .before .before .before .before .args .at) (c .if2 .taken) (sym (c .before .before .peek .ensures) ∙ c .before .if1 .taken)
+item-returns t c =
+    let at-args = c .before .before .before .before in
+    read-deep (at-args .args .depth) (at-args .args .s .now) (at-args .args .at) (c .if2 .taken)
+    (sym (c .before .before .peek .ensures) ∙ c .before .if1 .taken)
 
 item-add-list : (t : ℕ) → item-lts.Need-add-list (
   peek-reads.Asked,
@@ -74,7 +78,9 @@ item-add-list : (t : ℕ) → item-lts.Need-add-list (
   plain-reads.Asked,
   plain-reads.Learnt,
 ) (item-at t) item.Post
-item-add-list t c = omega (arith, peek-in (c .before .before .before .before .args .s .now) (c .before .before .before .before .args .at) (omega (arith, c .before .before .peek .ensures, c .before .if1 .taken)))
+item-add-list t c =
+    let at-args = c .before .before .before .before in
+    omega (arith, peek-in (at-args .args .s .now) (at-args .args .at) (omega (arith, c .before .before .peek .ensures, c .before .if1 .taken)))
 
 item-sub-list : (t : ℕ) → item-lts.Need-sub-list (
   peek-reads.Asked,
@@ -94,7 +100,9 @@ item-list-requires : (t : ℕ) → item-lts.Need-list-requires (
   plain-reads.Asked,
   plain-reads.Learnt,
 ) (item-at t) item.Post
-item-list-requires t c κs = (omega (arith, peek-in (c .before .before .before .before .args .s .now) (c .before .before .before .before .args .at) (omega (arith, c .before .before .peek .ensures, c .before .if1 .taken))), tt)
+item-list-requires t c κs =
+    let at-args = c .before .before .before .before in
+    (omega (arith, peek-in (at-args .args .s .now) (at-args .args .at) (omega (arith, c .before .before .peek .ensures, c .before .if1 .taken))), tt)
 
 item-enum-known-q : (t : ℕ) → item-lts.Need-enum-known-q (
   peek-reads.Asked,
@@ -124,7 +132,13 @@ item-returns-2 : (t : ℕ) → item-lts.Need-returns-2 (
   plain-reads.Asked,
   plain-reads.Learnt,
 ) (item-at t) item.Post
-item-returns-2 t c = ap (onEnd List) (sym (c .enum-told .given .1) ∙ c .before .before .list .ensures) ∙ read-opened (c .before .before .before .before .before .before .before .args .depth) (c .before .before .before .before .before .before .before .args .s .now) (c .before .before .before .before .before .before .before .args .at) (c .before .before .before .before .before .before .before .args .depth - 1) (omega (arith, c .before .before .before .if2 .left)) (sym (c .before .before .before .before .before .peek .ensures) ∙ c .before .before .before .before .if1 .taken)
+item-returns-2 t c =
+    let at-if1 = c .before .before .before .before in
+    let at-peek = at-if1 .before in
+    let at-args = at-peek .before .before in
+    ap (onEnd List) (sym (c .enum-told .given .1) ∙ c .before .before .list .ensures)
+    ∙ read-opened (at-args .args .depth) (at-args .args .s .now) (at-args .args .at) (at-args .args .depth - 1)
+    (omega (arith, c .before .before .before .if2 .left)) (sym (at-peek .peek .ensures) ∙ at-if1 .if1 .taken)
 
 item-returns-3 : (t : ℕ) → item-lts.Need-returns-3 (
   peek-reads.Asked,
@@ -134,7 +148,14 @@ item-returns-3 : (t : ℕ) → item-lts.Need-returns-3 (
   plain-reads.Asked,
   plain-reads.Learnt,
 ) (item-at t) item.Post
-item-returns-3 t c = ap (onEnd List) (sym (c .before .q .given .1) ∙ c .before .before .before .list .ensures) ∙ read-opened (c .before .before .before .before .before .before .before .before .args .depth) (c .before .before .before .before .before .before .before .before .args .s .now) (c .before .before .before .before .before .before .before .before .args .at) (c .before .before .before .before .before .before .before .before .args .depth - 1) (omega (arith, c .before .before .before .before .if2 .left)) (sym (c .before .before .before .before .before .before .peek .ensures) ∙ c .before .before .before .before .before .if1 .taken)
+item-returns-3 t c =
+    let at-if2 = c .before .before .before .before in
+    let at-if1 = at-if2 .before in
+    let at-peek = at-if1 .before in
+    let at-args = at-peek .before .before in
+    ap (onEnd List) (sym (c .before .q .given .1) ∙ c .before .before .before .list .ensures)
+    ∙ read-opened (at-args .args .depth) (at-args .args .s .now) (at-args .args .at) (at-args .args .depth - 1) (omega (arith, at-if2 .if2 .left))
+    (sym (at-peek .peek .ensures) ∙ at-if1 .if1 .taken)
 
 item-plain-requires : (t : ℕ) → item-lts.Need-plain-requires (
   peek-reads.Asked,
@@ -154,7 +175,10 @@ item-returns-4 : (t : ℕ) → item-lts.Need-returns-4 (
   plain-reads.Asked,
   plain-reads.Learnt,
 ) (item-at t) item.Post
-item-returns-4 t c = c .plain .ensures ∙ read-plain (c .before .before .before .before .args .depth) (c .before .before .before .before .args .s .now) (c .before .before .before .before .args .at) (λ h. c .before .if1 .left (c .before .before .peek .ensures ∙ h))
+item-returns-4 t c =
+    let at-args = c .before .before .before .before in
+    c .plain .ensures ∙ read-plain (at-args .args .depth) (at-args .args .s .now) (at-args .args .at)
+    (λ h. c .before .if1 .left (c .before .before .peek .ensures ∙ h))
 
 abbrev list-Inv-loop : list-lts.InvT-loop
 list-Inv-loop s from free depth i₀ here₀ i here = (from ≤ i) × (restAt depth here i s ends ≡ restAt depth free from s ends)
@@ -220,7 +244,17 @@ list-item-requires : (t : ℕ) → list-lts.Need-item-requires (
   item-end-reads.Asked,
   item-end-reads.Learnt,
 ) (list-at t) list.Post list-Inv-loop list-μ-loop
-list-item-requires t c κs = (omega (arith, begins (c .before .before .before .before .before .before .loop .free-here) (c .before .before .before .before .before .before .before .before .args .s .now) (c .before .before .before .before .before .before .loop .i) (c .before .before .p .given .0 .0) (sym (c .before .before .p .given .1) ∙ c .before .before .before .before .next .ensures)), tt)
+list-item-requires t c κs =
+    let at-next = c .before .before .before .before in
+    let at-loop = at-next .before .before in
+    let at-args = at-loop .before .before in (
+      omega (
+        arith,
+        begins (at-loop .loop .free-here) (at-args .args .s .now) (at-loop .loop .i) (c .before .before .p .given .0 .0)
+            (sym (c .before .before .p .given .1) ∙ at-next .next .ensures),
+      ),
+      tt,
+    )
 
 list-item-end-requires : (t : ℕ) → list-lts.Need-item-end-requires (
   next-reads.Asked,
@@ -269,10 +303,19 @@ list-returns : (t : ℕ) → list-lts.Need-returns (
   item-end-reads.Learnt,
 ) (list-at t) list.Post list-Inv-loop list-μ-loop
 unfolding toEnd
-list-returns t c = let b = begins (c .before .before .before .before .before .before .before .before .before .before .loop .free-here) (c .before .before .before .before .before .before .before .before .before .before .before .before .args .s .now) (c .before .before .before .before .before .before .before .before .before .before .loop .i) (c .before .before .before .before .before .before .p .given .0 .0) (sym (c .before .before .before .before .before .before .p .given .1) ∙ c .before .before .before .before .before .before .before .before .next .ensures) in
-    ap toEnd (sym (ends-none (c .before .before .before .before .before .before .before .before .before .before .before .before .args .depth) (c .before .before .before .before .before .before .before .before .before .before .before .before .args .s .now) (c .before .before .before .before .before .before .before .before .before .before .loop .i) (c .before .before .before .before .before .before .p .given .0 .0) b (sym (c .enum-told .given .1) ∙ c .before .before .item-end .ensures ∙ ap endRead (c .before .before .before .item .ensures) ∙ end-read (c .before .before .before .before .before .before .p .given .0 .0) (itemAt (c .before .before .before .before .before .before .before .before .before .before .before .before .args .depth) (drop (c .before .before .before .before .before .before .p .given .0 .0) (c .before .before .before .before .before .before .before .before .before .before .before .before .args .s .now)))))
-    ∙ sym (item-follows (c .before .before .before .before .before .before .before .before .before .before .before .before .args .depth) (c .before .before .before .before .before .before .before .before .before .before .before .before .args .s .now) ends (c .before .before .before .before .before .before .before .before .before .before .loop .free-here) (c .before .before .before .before .before .before .before .before .before .before .loop .i) (c .before .before .before .before .before .before .p .given .0 .0) (sym (c .before .before .before .before .before .before .p .given .1) ∙ c .before .before .before .before .before .before .before .before .next .ensures)) ∙ c .before .before .before .before .before .before .before .before .before .before .loop .inv .1)
-    ∙ list-end (c .before .before .before .before .before .before .before .before .before .before .before .before .args .depth) (c .before .before .before .before .before .before .before .before .before .before .before .before .args .free) (c .before .before .before .before .before .before .before .before .before .before .before .before .args .s .now) (c .before .before .before .before .before .before .before .before .before .before .before .before .args .from)
+list-returns t c =
+    let at-p = c .before .before .before .before .before .before in
+    let at-next = at-p .before .before in
+    let at-loop = at-next .before .before in
+    let at-args = at-loop .before .before in
+    let b = begins (at-loop .loop .free-here) (at-args .args .s .now) (at-loop .loop .i) (at-p .p .given .0 .0)
+    (sym (at-p .p .given .1) ∙ at-next .next .ensures) in
+    ap toEnd (sym (ends-none (at-args .args .depth) (at-args .args .s .now) (at-loop .loop .i) (at-p .p .given .0 .0) b
+    (sym (c .enum-told .given .1) ∙ c .before .before .item-end .ensures ∙ ap endRead (c .before .before .before .item .ensures)
+    ∙ end-read (at-p .p .given .0 .0) (itemAt (at-args .args .depth) (drop (at-p .p .given .0 .0) (at-args .args .s .now)))))
+    ∙ sym (item-follows (at-args .args .depth) (at-args .args .s .now) ends (at-loop .loop .free-here) (at-loop .loop .i) (at-p .p .given .0 .0)
+    (sym (at-p .p .given .1) ∙ at-next .next .ensures)) ∙ at-loop .loop .inv .1)
+    ∙ list-end (at-args .args .depth) (at-args .args .free) (at-args .args .s .now) (at-args .args .from)
 
 list-loop-less : (t : ℕ) → list-lts.Need-loop-less (
   next-reads.Asked,
@@ -284,9 +327,19 @@ list-loop-less : (t : ℕ) → list-lts.Need-loop-less (
   item-end-reads.Asked,
   item-end-reads.Learnt,
 ) (list-at t) list.Post list-Inv-loop list-μ-loop
-list-loop-less t c = let b = begins (c .before .before .before .before .before .before .before .before .before .before .before .loop .free-here) (c .before .before .before .before .before .before .before .before .before .before .before .before .before .args .s .now) (c .before .before .before .before .before .before .before .before .before .before .before .loop .i) (c .before .before .before .before .before .before .before .p .given .0 .0) (sym (c .before .before .before .before .before .before .before .p .given .1) ∙ c .before .before .before .before .before .before .before .before .before .next .ensures) in
-    let a = ends-at (c .before .before .before .before .before .before .before .before .before .before .before .before .before .args .depth) (c .before .before .before .before .before .before .before .before .before .before .before .before .before .args .s .now) (c .before .before .before .before .before .before .before .before .before .before .before .loop .i) (c .before .before .before .before .before .before .before .p .given .0 .0) b (c .before .q .given .0 .0) (sym (c .before .q .given .1) ∙ c .before .before .before .item-end .ensures ∙ ap endRead (c .before .before .before .before .item .ensures) ∙ end-read (c .before .before .before .before .before .before .before .p .given .0 .0) (itemAt (c .before .before .before .before .before .before .before .before .before .before .before .before .before .args .depth) (drop (c .before .before .before .before .before .before .before .p .given .0 .0) (c .before .before .before .before .before .before .before .before .before .before .before .before .before .args .s .now)))) in
-    omega (arith, a .0, b .after, c .before .before .before .before .before .before .before .before .before .before .loop-test .taken)
+list-loop-less t c =
+    let at-item = c .before .before .before .before in
+    let at-p = at-item .before .before .before in
+    let at-next = at-p .before .before in
+    let at-loop-test = at-next .before in
+    let at-loop = at-loop-test .before in
+    let at-args = at-loop .before .before in
+    let b = begins (at-loop .loop .free-here) (at-args .args .s .now) (at-loop .loop .i) (at-p .p .given .0 .0)
+    (sym (at-p .p .given .1) ∙ at-next .next .ensures) in
+    let a = ends-at (at-args .args .depth) (at-args .args .s .now) (at-loop .loop .i) (at-p .p .given .0 .0) b (c .before .q .given .0 .0)
+    (sym (c .before .q .given .1) ∙ c .before .before .before .item-end .ensures ∙ ap endRead (at-item .item .ensures)
+    ∙ end-read (at-p .p .given .0 .0) (itemAt (at-args .args .depth) (drop (at-p .p .given .0 .0) (at-args .args .s .now)))) in
+    omega (arith, a .0, b .after, at-loop-test .loop-test .taken)
 
 list-loop-again : (t : ℕ) → list-lts.Need-loop-again (
   next-reads.Asked,
@@ -298,11 +351,22 @@ list-loop-again : (t : ℕ) → list-lts.Need-loop-again (
   item-end-reads.Asked,
   item-end-reads.Learnt,
 ) (list-at t) list.Post list-Inv-loop list-μ-loop
-list-loop-again t c = let b = begins (c .before .before .before .before .before .before .before .before .before .before .before .loop .free-here) (c .before .before .before .before .before .before .before .before .before .before .before .before .before .args .s .now) (c .before .before .before .before .before .before .before .before .before .before .before .loop .i) (c .before .before .before .before .before .before .before .p .given .0 .0) (sym (c .before .before .before .before .before .before .before .p .given .1) ∙ c .before .before .before .before .before .before .before .before .before .next .ensures) in
-    let a = ends-at (c .before .before .before .before .before .before .before .before .before .before .before .before .before .args .depth) (c .before .before .before .before .before .before .before .before .before .before .before .before .before .args .s .now) (c .before .before .before .before .before .before .before .before .before .before .before .loop .i) (c .before .before .before .before .before .before .before .p .given .0 .0) b (c .before .q .given .0 .0) (sym (c .before .q .given .1) ∙ c .before .before .before .item-end .ensures ∙ ap endRead (c .before .before .before .before .item .ensures) ∙ end-read (c .before .before .before .before .before .before .before .p .given .0 .0) (itemAt (c .before .before .before .before .before .before .before .before .before .before .before .before .before .args .depth) (drop (c .before .before .before .before .before .before .before .p .given .0 .0) (c .before .before .before .before .before .before .before .before .before .before .before .before .before .args .s .now)))) in (
-      omega (arith, a .0, b .after, c .before .before .before .before .before .before .before .before .before .before .before .loop .inv .0),
-      ap (λ (x : ℕ). restAt (c .before .before .before .before .before .before .before .before .before .before .before .before .before .args .depth) (eqb x 40) (c .before .q .given .0 .0) (c .before .before .before .before .before .before .before .before .before .before .before .before .before .args .s .now) ends) (c .before .before .before .before .before .peek .ensures) ∙ sym (a .1)
-          ∙ sym (item-follows (c .before .before .before .before .before .before .before .before .before .before .before .before .before .args .depth) (c .before .before .before .before .before .before .before .before .before .before .before .before .before .args .s .now) ends (c .before .before .before .before .before .before .before .before .before .before .before .loop .free-here) (c .before .before .before .before .before .before .before .before .before .before .before .loop .i) (c .before .before .before .before .before .before .before .p .given .0 .0) (sym (c .before .before .before .before .before .before .before .p .given .1) ∙ c .before .before .before .before .before .before .before .before .before .next .ensures)) ∙ c .before .before .before .before .before .before .before .before .before .before .before .loop .inv .1,
+list-loop-again t c =
+    let at-item = c .before .before .before .before in
+    let at-peek = at-item .before in
+    let at-p = at-peek .before .before in
+    let at-next = at-p .before .before in
+    let at-loop = at-next .before .before in
+    let at-args = at-loop .before .before in
+    let b = begins (at-loop .loop .free-here) (at-args .args .s .now) (at-loop .loop .i) (at-p .p .given .0 .0)
+    (sym (at-p .p .given .1) ∙ at-next .next .ensures) in
+    let a = ends-at (at-args .args .depth) (at-args .args .s .now) (at-loop .loop .i) (at-p .p .given .0 .0) b (c .before .q .given .0 .0)
+    (sym (c .before .q .given .1) ∙ c .before .before .before .item-end .ensures ∙ ap endRead (at-item .item .ensures)
+    ∙ end-read (at-p .p .given .0 .0) (itemAt (at-args .args .depth) (drop (at-p .p .given .0 .0) (at-args .args .s .now)))) in (
+      omega (arith, a .0, b .after, at-loop .loop .inv .0),
+      ap (λ (x : ℕ). restAt (at-args .args .depth) (eqb x 40) (c .before .q .given .0 .0) (at-args .args .s .now) ends) (at-peek .peek .ensures) ∙ sym (a .1)
+          ∙ sym (item-follows (at-args .args .depth) (at-args .args .s .now) ends (at-loop .loop .free-here) (at-loop .loop .i) (at-p .p .given .0 .0)
+          (sym (at-p .p .given .1) ∙ at-next .next .ensures)) ∙ at-loop .loop .inv .1,
     )
 
 list-enum-known-e : (t : ℕ) → list-lts.Need-enum-known-e (
@@ -328,7 +392,12 @@ list-returns-2 : (t : ℕ) → list-lts.Need-returns-2 (
   item-end-reads.Learnt,
 ) (list-at t) list.Post list-Inv-loop list-μ-loop
 unfolding toEnd
-list-returns-2 t c = ap toEnd (sym (close-follows (c .before .before .before .before .before .before .before .args .depth) (c .before .before .before .before .before .before .before .args .s .now) ends (c .before .before .before .before .before .loop .free-here) (c .before .before .before .before .before .loop .i) (c .before .e .given .0 .0) (sym (c .before .e .given .1) ∙ c .before .before .before .next .ensures)) ∙ c .before .before .before .before .before .loop .inv .1) ∙ list-end (c .before .before .before .before .before .before .before .args .depth) (c .before .before .before .before .before .before .before .args .free) (c .before .before .before .before .before .before .before .args .s .now) (c .before .before .before .before .before .before .before .args .from)
+list-returns-2 t c =
+    let at-loop = c .before .before .before .before .before in
+    let at-args = at-loop .before .before in
+    ap toEnd (sym (close-follows (at-args .args .depth) (at-args .args .s .now) ends (at-loop .loop .free-here) (at-loop .loop .i)
+    (c .before .e .given .0 .0) (sym (c .before .e .given .1) ∙ c .before .before .before .next .ensures)) ∙ at-loop .loop .inv .1)
+    ∙ list-end (at-args .args .depth) (at-args .args .free) (at-args .args .s .now) (at-args .args .from)
 
 list-enum-told-2 : (t : ℕ) → list-lts.Need-enum-told-2 (
   next-reads.Asked,
@@ -353,7 +422,12 @@ list-returns-3 : (t : ℕ) → list-lts.Need-returns-3 (
   item-end-reads.Learnt,
 ) (list-at t) list.Post list-Inv-loop list-μ-loop
 unfolding toEnd
-list-returns-3 t c = ap toEnd (sym (none-follows (c .before .before .before .before .before .before .args .depth) (c .before .before .before .before .before .before .args .s .now) ends (c .before .before .before .before .loop .free-here) (c .before .before .before .before .loop .i) (sym (c .enum-told2 .given .1) ∙ c .before .before .next .ensures)) ∙ c .before .before .before .before .loop .inv .1) ∙ list-end (c .before .before .before .before .before .before .args .depth) (c .before .before .before .before .before .before .args .free) (c .before .before .before .before .before .before .args .s .now) (c .before .before .before .before .before .before .args .from)
+list-returns-3 t c =
+    let at-loop = c .before .before .before .before in
+    let at-args = at-loop .before .before in
+    ap toEnd (sym (none-follows (at-args .args .depth) (at-args .args .s .now) ends (at-loop .loop .free-here) (at-loop .loop .i)
+    (sym (c .enum-told2 .given .1) ∙ c .before .before .next .ensures)) ∙ at-loop .loop .inv .1)
+    ∙ list-end (at-args .args .depth) (at-args .args .free) (at-args .args .s .now) (at-args .args .from)
 
 list-returns-4 : (t : ℕ) → list-lts.Need-returns-4 (
   next-reads.Asked,
@@ -366,7 +440,10 @@ list-returns-4 : (t : ℕ) → list-lts.Need-returns-4 (
   item-end-reads.Learnt,
 ) (list-at t) list.Post list-Inv-loop list-μ-loop
 unfolding toEnd
-list-returns-4 t c = ap toEnd (sym (rest-end (c .before .before .before .args .depth) (c .before .loop .free-here) (c .before .before .before .args .s .now) (c .before .loop .i) ends (c .loop-test .left)) ∙ c .before .loop .inv .1) ∙ list-end (c .before .before .before .args .depth) (c .before .before .before .args .free) (c .before .before .before .args .s .now) (c .before .before .before .args .from)
+list-returns-4 t c =
+    let at-args = c .before .before .before in
+    ap toEnd (sym (rest-end (at-args .args .depth) (c .before .loop .free-here) (at-args .args .s .now) (c .before .loop .i) ends (c .loop-test .left))
+    ∙ c .before .loop .inv .1) ∙ list-end (at-args .args .depth) (at-args .args .free) (at-args .args .s .now) (at-args .args .from)
 
 pub +item+list-spec : {M : Type 1} → statement M
 +item+list-spec = close μ-item μ-list (λ t. item-lts.spec (

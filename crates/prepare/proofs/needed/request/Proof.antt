@@ -6,8 +6,10 @@ use Rattle.prepare.proofs.needed.request.Tie as tie
 
 returns : tie.Need-returns
 returns c =
-    let a = c .before .before .before .before .before .before .before .args in
-    request-needed _ (a .book .now) (a .words .now) (a .counts) (a .rules .now) (a .table .now) (a .sizes) (a .text .now) _ (c .before .if1 .taken) (c .read .ensures)
+    let at-args = c .before .before .before .before .before .before .before in
+    let a = at-args .args in
+    request-needed _ (a .book .now) (a .words .now) (a .counts) (a .rules .now) (a .table .now) (a .sizes) (a .text .now) _ (c .before .if1 .taken)
+    (c .read .ensures)
 
 returns-2 : tie.Need-returns-2
 returns-2 c =

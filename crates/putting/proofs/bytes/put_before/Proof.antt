@@ -7,10 +7,16 @@ use Rattle.putting.proofs.bytes.put_before.Statement.{statement}
 use Rattle.putting.proofs.bytes.put_before.Tie as tie
 
 returns : tie.Need-returns
-returns c = let a = c .before .before .before .before .before .before .before .before .args in puts-same (sym (before-first (a .first .now) (a .next .now) (a .i) (c .before .before .before .before .if1 .taken))) (c .before .before .put-bytes .ensures)
+returns c =
+    let at-if1 = c .before .before .before .before in
+    let at-args = at-if1 .before .before .before .before in
+    let a = at-args .args in puts-same (sym (before-first (a .first .now) (a .next .now) (a .i) (at-if1 .if1 .taken))) (c .before .before .put-bytes .ensures)
 
 returns-2 : tie.Need-returns-2
-returns-2 c = let a = c .before .before .before .before .before .before .before .before .args in puts-same (sym (before-next (a .first .now) (a .next .now) (a .i) (c .before .before .before .before .if1 .left))) (c .before .before .put-bytes2 .ensures)
+returns-2 c =
+    let at-if1 = c .before .before .before .before in
+    let at-args = at-if1 .before .before .before .before in
+    let a = at-args .args in puts-same (sym (before-next (a .first .now) (a .next .now) (a .i) (at-if1 .if1 .left))) (c .before .before .put-bytes2 .ensures)
 
 pub put-before-spec : {M : Type 1} → statement M
 put-before-spec =

@@ -9,10 +9,14 @@ use Rattle.putting.proofs.bytes.put_byte.Statement.{statement}
 use Rattle.putting.proofs.bytes.put_byte.Tie as tie
 
 returns : tie.Need-returns
-returns c = let a = c .before .before .before .args in subst (λ n. Puts (a .out .now) (a .at) (a .byte ∷ []) (set (a .out .now) (a .at) (a .byte)) n) (sym (c .further .ensures)) (puts-byte (a .out .now) (a .at) (a .byte))
+returns c = let a = c .before .before .before .args in
+    subst (λ n. Puts (a .out .now) (a .at) (a .byte ∷ []) (set (a .out .now) (a .at) (a .byte)) n) (sym (c .further .ensures))
+    (puts-byte (a .out .now) (a .at) (a .byte))
 
 returns-2 : tie.Need-returns-2
-returns-2 c = let a = c .before .before .before .args in subst (λ n. Puts (a .out .now) (a .at) (a .byte ∷ []) (a .out .now) n) (sym (c .further2 .ensures)) (puts-no-room (a .out .now) (a .at) (a .byte) (c .before .if1 .left))
+returns-2 c = let a = c .before .before .before .args in
+    subst (λ n. Puts (a .out .now) (a .at) (a .byte ∷ []) (a .out .now) n) (sym (c .further2 .ensures))
+    (puts-no-room (a .out .now) (a .at) (a .byte) (c .before .if1 .left))
 
 pub put-byte-spec : {M : Type 1} → statement M
 put-byte-spec =

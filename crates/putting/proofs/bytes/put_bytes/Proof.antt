@@ -18,7 +18,10 @@ loop-holds : tie.Need-loop-holds Inv-loop μ-loop
 loop-holds c = let a = c .before .before .args in (omega arith, puts-nothing (a .out .now) (a .at))
 
 loop-again : tie.Need-loop-again Inv-loop μ-loop
-loop-again c = (omega arith, puts-more (c .before .before .before .before .before .before .before .before .before .args .bytes .now) (c .before .before .before .before .before .before .loop .i) (omega arith) (c .before .before .before .before .before .before .loop .inv .1) (c .before .before .put-byte .ensures))
+loop-again c =
+    let at-loop = c .before .before .before .before .before .before in
+    let at-args = at-loop .before .before .before in
+    (omega arith, puts-more (at-args .args .bytes .now) (at-loop .loop .i) (omega arith) (at-loop .loop .inv .1) (c .before .before .put-byte .ensures))
 
 same-length : tie.Need-same-length Inv-loop μ-loop
 same-length c = puts-keeps-length (c .before .loop .inv .1)

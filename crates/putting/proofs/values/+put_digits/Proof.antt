@@ -70,7 +70,11 @@ put-digits-returns-2 : (t : ℕ) → put-digits-lts.Need-returns-2 (
   put-digits-below t,
   put-digits.Post,
 ) (put-digits-at t) put-digits.Post
-put-digits-returns-2 t c = let a = c .before .before .before .before .before .before .before .args in puts-same (one-digit (a .most) (a .n) (c .before .before .before .before .before .if1 .left) (c .before .before .before .before .if2 .taken)) (c .before .before .put-byte .ensures)
+put-digits-returns-2 t c =
+    let at-if2 = c .before .before .before .before in
+    let at-if1 = at-if2 .before in
+    let at-args = at-if1 .before .before in
+    let a = at-args .args in puts-same (one-digit (a .most) (a .n) (at-if1 .if1 .left) (at-if2 .if2 .taken)) (c .before .before .put-byte .ensures)
 
 put-digits-sub-put-digits : (t : ℕ) → put-digits-lts.Need-sub-put-digits (
   put-byte-reads.Asked,
@@ -118,7 +122,9 @@ put-digits-same-length-2 : (t : ℕ) → put-digits-lts.Need-same-length-2 (
   put-digits-below t,
   put-digits.Post,
 ) (put-digits-at t) put-digits.Post
-put-digits-same-length-2 t c = puts-keeps-length (puts-then (c .before .before .before .before .before .before .put-digits .ensures) (c .before .before .put-byte2 .ensures))
+put-digits-same-length-2 t c =
+    let at-put-digits = c .before .before .before .before .before .before in
+    puts-keeps-length (puts-then (at-put-digits .put-digits .ensures) (c .before .before .put-byte2 .ensures))
 
 put-digits-returns-3 : (t : ℕ) → put-digits-lts.Need-returns-3 (
   put-byte-reads.Asked,
@@ -126,7 +132,13 @@ put-digits-returns-3 : (t : ℕ) → put-digits-lts.Need-returns-3 (
   put-digits-below t,
   put-digits.Post,
 ) (put-digits-at t) put-digits.Post
-put-digits-returns-3 t c = let a = c .before .before .before .before .before .before .before .before .before .before .before .args in puts-same (more-digits (a .most) (a .n) (c .before .before .before .before .before .before .before .before .before .if1 .left) (c .before .before .before .before .before .before .before .before .if2 .left)) (puts-then (c .before .before .before .before .before .before .put-digits .ensures) (c .before .before .put-byte2 .ensures))
+put-digits-returns-3 t c =
+    let at-put-digits = c .before .before .before .before .before .before in
+    let at-if2 = at-put-digits .before .before in
+    let at-if1 = at-if2 .before in
+    let at-args = at-if1 .before .before in
+    let a = at-args .args in puts-same (more-digits (a .most) (a .n) (at-if1 .if1 .left) (at-if2 .if2 .left))
+    (puts-then (at-put-digits .put-digits .ensures) (c .before .before .put-byte2 .ensures))
 
 pub +put-digits-spec : {M : Type 1} → statement M
 +put-digits-spec = close μ-put-digits λ t. put-digits-lts.spec (

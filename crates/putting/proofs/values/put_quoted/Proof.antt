@@ -7,7 +7,10 @@ use Rattle.putting.proofs.values.put_quoted.Tie as tie
 
 returns : tie.Need-returns
 unfolding valueText
-returns c = puts-then (c .before .before .before .before .before .before .before .before .before .before .put-byte .ensures) (puts-then (c .before .before .before .before .before .before .put-part .ensures) (c .before .before .put-byte2 .ensures))
+returns c =
+    let at-put-part = c .before .before .before .before .before .before in
+    let at-put-byte = at-put-part .before .before .before .before in
+    puts-then (at-put-byte .put-byte .ensures) (puts-then (at-put-part .put-part .ensures) (c .before .before .put-byte2 .ensures))
 
 pub put-quoted-spec : {M : Type 1} → statement M
 put-quoted-spec =

@@ -6,10 +6,17 @@ use Rattle.putting.proofs.values.put_whole.Statement.{statement}
 use Rattle.putting.proofs.values.put_whole.Tie as tie
 
 returns : tie.Need-returns
-returns c = puts-same (not-negative (c .before .before .before .before .before .before .args .n) (c .before .before .before .before .if1 .taken)) (c .before .before .put-digits .ensures)
+returns c =
+    let at-if1 = c .before .before .before .before in
+    let at-args = at-if1 .before .before in
+    puts-same (not-negative (at-args .args .n) (at-if1 .if1 .taken)) (c .before .before .put-digits .ensures)
 
 returns-2 : tie.Need-returns-2
-returns-2 c = puts-same (negative (c .before .before .before .before .before .before .before .before .before .before .args .n) (c .before .before .before .before .before .before .before .before .if1 .left)) (puts-then (c .before .before .before .before .before .before .put-byte .ensures) (c .before .before .put-digits2 .ensures))
+returns-2 c =
+    let at-put-byte = c .before .before .before .before .before .before in
+    let at-if1 = at-put-byte .before .before in
+    let at-args = at-if1 .before .before in
+    puts-same (negative (at-args .args .n) (at-if1 .if1 .left)) (puts-then (at-put-byte .put-byte .ensures) (c .before .before .put-digits2 .ensures))
 
 pub put-whole-spec : {M : Type 1} → statement M
 put-whole-spec =

@@ -14,19 +14,24 @@ use Rattle.query.proofs.clauses.requirement.Tie as tie
 returns : tie.Need-returns
 unfolding demandIn
 returns c =
-    let a = c .before .before .before .before .before .before .before .before .args in
-    let size : length (a .found .parts) ≡ 8 = sym (length-map (a .found .parts) _) ∙ c .before .before .before .before .before .before .before .before .good .1 .1 .1 .1 .0 .1 .1 .0 .1 .0 .1 in
-    let few = names-counted (a .s .now) (a .found) size (c .before .before .before .before .before .before .before .before .pre .1) in
-    let there = place-known (nameAt (a .s .now) (a .d .subject)) (namesOf (a .s .now) (a .found)) (omega (arith, few, c .before .if1 .taken, c .before .before .before .vertex-number .ensures)) in
+    let at-pre = c .before .before .before .before .before .before .before .before in
+    let a = at-pre .args in
+    let size : length (a .found .parts) ≡ 8 = sym (length-map (a .found .parts) _) ∙ at-pre .good .1 .1 .1 .1 .0 .1 .1 .0 .1 .0 .1 in
+    let few = names-counted (a .s .now) (a .found) size (at-pre .pre .1) in
+    let there = place-known (nameAt (a .s .now) (a .d .subject)) (namesOf (a .s .now) (a .found))
+    (omega (arith, few, c .before .if1 .taken, c .before .before .before .vertex-number .ensures)) in
     rw there (ap₂ OfVertex (c .before .before .before .vertex-number .ensures) (c .requirement-of .ensures))
 
 returns-2 : tie.Need-returns-2
 unfolding demandIn
 returns-2 c =
-    let a = c .before .before .before .before .before .before .before .before .before .args in
-    let size : length (a .found .parts) ≡ 8 = sym (length-map (a .found .parts) _) ∙ c .before .before .before .before .before .before .before .before .before .good .1 .1 .1 .1 .0 .1 .1 .0 .1 .0 .1 in
-    let few = names-counted (a .s .now) (a .found) size (c .before .before .before .before .before .before .before .before .before .pre .1) in
-    let absent = place-new (nameAt (a .s .now) (a .d .subject)) (namesOf (a .s .now) (a .found)) (omega (arith, few, c .before .before .if1 .left, c .before .before .before .before .vertex-number .ensures)) in
+    let at-vertex-number = c .before .before .before .before in
+    let at-pre = at-vertex-number .before .before .before .before .before in
+    let a = at-pre .args in
+    let size : length (a .found .parts) ≡ 8 = sym (length-map (a .found .parts) _) ∙ at-pre .good .1 .1 .1 .1 .0 .1 .1 .0 .1 .0 .1 in
+    let few = names-counted (a .s .now) (a .found) size (at-pre .pre .1) in
+    let absent = place-new (nameAt (a .s .now) (a .d .subject)) (namesOf (a .s .now) (a .found))
+    (omega (arith, few, c .before .before .if1 .left, at-vertex-number .vertex-number .ensures)) in
     rw absent (ap₂ OfEdge (c .before .edge-number .ensures) (c .requirement-of2 .ensures))
 
 pub requirement-spec : {M : Type 1} → statement M

@@ -27,23 +27,34 @@ element-copy-out-e c = omega (arith, c .before .before .before .pre)
 
 returns : tie.Need-returns Inv-loop μ-loop
 returns c =
-    let a = c .before .before .before .before .before .before .before .args in
-    let size : length (a .t2 .edges) ≡ 16 = sym (length-map (a .t2 .edges) _) ∙ c .before .before .before .before .before .before .before .good .1 .0 .1 .1 .0 .1 .0 .1 in
-    let l = c .before .before .before .before .before .loop in
-    number-found (λ (e : Edge). nameAt (a .s .now) (e .name)) noEdge (a .t2 .edges) (nameAt (a .s .now) (a .name)) (a .t2 .count) (omega (arith, size, c .before .before .before .before .before .before .before .pre)) (l .k) (c .before .before .before .before .loop-test .taken) (l .inv .1) (sym (c .before .same-part .ensures) ∙ c .if1 .taken)
+    let at-loop-test = c .before .before .before .before in
+    let at-loop = at-loop-test .before in
+    let at-pre = at-loop .before .before in
+    let a = at-pre .args in
+    let size : length (a .t2 .edges) ≡ 16 = sym (length-map (a .t2 .edges) _) ∙ at-pre .good .1 .0 .1 .1 .0 .1 .0 .1 in
+    let l = at-loop .loop in
+    number-found (λ (e : Edge). nameAt (a .s .now) (e .name)) noEdge (a .t2 .edges) (nameAt (a .s .now) (a .name)) (a .t2 .count)
+    (omega (arith, size, at-pre .pre)) (l .k) (at-loop-test .loop-test .taken) (l .inv .1) (sym (c .before .same-part .ensures) ∙ c .if1 .taken)
 
 loop-again : tie.Need-loop-again Inv-loop μ-loop
 loop-again c =
-    let a = c .before .before .before .before .before .before .before .args in
-    let l = c .before .before .before .before .before .loop in
-    (omega arith, number-on (λ (e : Edge). nameAt (a .s .now) (e .name)) noEdge (a .t2 .edges) (nameAt (a .s .now) (a .name)) (l .k) (l .inv .1) (sym (c .before .same-part .ensures) ∙ c .if1 .left))
+    let at-loop = c .before .before .before .before .before in
+    let at-args = at-loop .before .before in
+    let a = at-args .args in
+    let l = at-loop .loop in (
+      omega arith,
+      number-on (λ (e : Edge). nameAt (a .s .now) (e .name)) noEdge (a .t2 .edges) (nameAt (a .s .now) (a .name)) (l .k) (l .inv .1)
+          (sym (c .before .same-part .ensures) ∙ c .if1 .left),
+    )
 
 returns-2 : tie.Need-returns-2 Inv-loop μ-loop
 returns-2 c =
-    let a = c .before .before .before .args in
-    let size : length (a .t2 .edges) ≡ 16 = sym (length-map (a .t2 .edges) _) ∙ c .before .before .before .good .1 .0 .1 .1 .0 .1 .0 .1 in
+    let at-pre = c .before .before .before in
+    let a = at-pre .args in
+    let size : length (a .t2 .edges) ≡ 16 = sym (length-map (a .t2 .edges) _) ∙ at-pre .good .1 .0 .1 .1 .0 .1 .0 .1 in
     let l = c .before .loop in
-    number-none (λ (e : Edge). nameAt (a .s .now) (e .name)) noEdge (a .t2 .edges) (nameAt (a .s .now) (a .name)) (a .t2 .count) (omega (arith, size, c .before .before .before .pre)) (l .k) (l .inv .0) (c .loop-test .left) (l .inv .1)
+    number-none (λ (e : Edge). nameAt (a .s .now) (e .name)) noEdge (a .t2 .edges) (nameAt (a .s .now) (a .name)) (a .t2 .count)
+    (omega (arith, size, at-pre .pre)) (l .k) (l .inv .0) (c .loop-test .left) (l .inv .1)
 
 pub edge-number-spec : {M : Type 1} → statement M
 edge-number-spec =

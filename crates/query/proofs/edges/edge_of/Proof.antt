@@ -10,8 +10,10 @@ use Rattle.query.proofs.edges.edge_of.Tie as tie
 returns : tie.Need-returns
 unfolding nameAt
 returns c =
-    let a = c .before .before .before .before .before .before .before .args in
-    let label = c .before .find-label .ensures ∙ ap (λ w. place w (bookAt (a .book .now) (a .words .now) (a .counts) .labels)) (c .before .before .part .ensures) in
+    let at-args = c .before .before .before .before .before .before .before in
+    let a = at-args .args in
+    let label = c .before .find-label .ensures
+    ∙ ap (λ w. place w (bookAt (a .book .now) (a .words .now) (a .counts) .labels)) (c .before .before .part .ensures) in
     λ i. record { name = a .link .edge; label = label i; from = a .from; to = a .to }
 
 pub edge-of-spec : {M : Type 1} → statement M

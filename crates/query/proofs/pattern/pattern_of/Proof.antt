@@ -37,7 +37,10 @@ abbrev μ-loop : tie.MeasureT-loop
 μ-loop book words counts s place₀ last₀ found₀ links₀ conditions₀ returned₀ place last found links conditions returned = length (foundAt s place)
 
 loop-holds : tie.Need-loop-holds Inv-loop μ-loop
-loop-holds c = pattern-start (c .before .before .before .before .before .before .before .before .pre) (c .before .before .before .before .text-start .ensures) (c .before .before .before .no-vertices .ensures) (c .before .before .no-edges .ensures)
+loop-holds c =
+    let at-text-start = c .before .before .before .before in
+    let at-pre = at-text-start .before .before .before .before in
+    pattern-start (at-pre .pre) (at-text-start .text-start .ensures) (c .before .before .before .no-vertices .ensures) (c .before .before .no-edges .ensures)
     (c .before .no-clauses .ensures) (c .no-returns .ensures)
 
 returns : tie.Need-returns Inv-loop μ-loop
@@ -52,7 +55,8 @@ vertex-number-requires c κs = c .before .before .before .before .before .before
 with-vertex-requires : tie.Need-with-vertex-requires Inv-loop μ-loop
 with-vertex-requires c κs =
     let t = c .before .before .before .before in
-    start-own (t .before .before .before .before .before .loop .inv) (t .before .before .before .before .next-piece .ensures) (t .before .before .x .given .1) (c .before .before .p .given .1) (c .vertex-number .ensures)
+    start-own (t .before .before .before .before .before .loop .inv) (t .before .before .before .before .next-piece .ensures)
+    (t .before .before .x .given .1) (c .before .before .p .given .1) (c .vertex-number .ensures)
 
 loop-less : tie.Need-loop-less Inv-loop μ-loop
 loop-less c =
@@ -61,16 +65,20 @@ loop-less c =
 
 loop-again : tie.Need-loop-again Inv-loop μ-loop
 loop-again c =
-    let t = c .before .before .before .before .before in
-    start-on (t .before .before .before .before .before .loop .inv) (t .before .before .before .before .next-piece .ensures) (t .before .before .x .given .1) (c .before .before .before .p .given .1) (c .before .vertex-number .ensures) (c .with-vertex .ensures)
+    let at-before = c .before .before .before .before in
+    let t = at-before .before in
+    start-on (t .before .before .before .before .before .loop .inv) (t .before .before .before .before .next-piece .ensures)
+    (t .before .before .x .given .1) (c .before .before .before .p .given .1) (c .before .vertex-number .ensures) (c .with-vertex .ensures)
 
 vertex-number-requires-2 : tie.Need-vertex-number-requires-2 Inv-loop μ-loop
 vertex-number-requires-2 c κs = c .before .before .before .before .before .before .before .before .before .loop .inv .vertices .stored .within
 
 with-vertex-requires-2 : tie.Need-with-vertex-requires-2 Inv-loop μ-loop
 with-vertex-requires-2 c κs =
-    let t = c .before .before .before .before .before in
-    goes-own (t .before .before .before .before .before .loop .inv) (t .before .before .before .before .next-piece .ensures) (t .before .before .x .given .1) (c .before .before .before .p2 .given .1) (c .vertex-number2 .ensures)
+    let at-before = c .before .before .before .before in
+    let t = at-before .before in
+    goes-own (t .before .before .before .before .before .loop .inv) (t .before .before .before .before .next-piece .ensures)
+    (t .before .before .x .given .1) (c .before .before .before .p2 .given .1) (c .vertex-number2 .ensures)
 
 edge-of-requires : tie.Need-edge-of-requires Inv-loop μ-loop
 edge-of-requires c κs = c .before .before .before .before .before .before .before .before .before .before .before .loop .inv .asked .fits
@@ -80,8 +88,11 @@ mul-t41 c = omega (arith, c .before .before .before .before .before .before .bef
 
 element-set-from-links : tie.Need-element-set-from-links Inv-loop μ-loop
 element-set-from-links c =
-    let t = c .before .before .before .before .before .before .before in
-    goes-room (t .before .before .before .before .before .loop .inv) (t .before .before .before .before .next-piece .ensures) (t .before .before .x .given .1) (c .before .before .before .before .before .p2 .given .1)
+    let at-p2 = c .before .before .before .before .before in
+    let at-before = at-p2 .before in
+    let t = at-before .before in
+    goes-room (t .before .before .before .before .before .loop .inv) (t .before .before .before .before .next-piece .ensures)
+    (t .before .before .x .given .1) (at-p2 .p2 .given .1)
 
 add-links : tie.Need-add-links Inv-loop μ-loop
 add-links c = omega (arith, c .before .before .before .before .before .before .before .before .before .before .before .before .loop .inv .edges .stored .few)
@@ -93,16 +104,22 @@ loop-less-2 c =
 
 loop-again-2 : tie.Need-loop-again-2 Inv-loop μ-loop
 loop-again-2 c =
-    let t = c .before .before .before .before .before .before .before in
-    goes-on (t .before .before .before .before .before .loop .inv) (t .before .before .before .before .next-piece .ensures) (t .before .before .x .given .1) (c .before .before .before .before .before .p2 .given .1) (c .before .before .vertex-number2 .ensures) (c .before .with-vertex2 .ensures) (c .edge-of .ensures)
+    let at-p2 = c .before .before .before .before .before in
+    let at-before = at-p2 .before in
+    let t = at-before .before in
+    goes-on (t .before .before .before .before .before .loop .inv) (t .before .before .before .before .next-piece .ensures)
+    (t .before .before .x .given .1) (at-p2 .p2 .given .1) (c .before .before .vertex-number2 .ensures) (c .before .with-vertex2 .ensures)
+    (c .edge-of .ensures)
 
 vertex-number-requires-3 : tie.Need-vertex-number-requires-3 Inv-loop μ-loop
 vertex-number-requires-3 c κs = c .before .before .before .before .before .before .before .before .before .loop .inv .vertices .stored .within
 
 with-vertex-requires-3 : tie.Need-with-vertex-requires-3 Inv-loop μ-loop
 with-vertex-requires-3 c κs =
-    let t = c .before .before .before .before .before in
-    comes-own (t .before .before .before .before .before .loop .inv) (t .before .before .before .before .next-piece .ensures) (t .before .before .x .given .1) (c .before .before .before .p3 .given .1) (c .vertex-number3 .ensures)
+    let at-before = c .before .before .before .before in
+    let t = at-before .before in
+    comes-own (t .before .before .before .before .before .loop .inv) (t .before .before .before .before .next-piece .ensures)
+    (t .before .before .x .given .1) (c .before .before .before .p3 .given .1) (c .vertex-number3 .ensures)
 
 edge-of-requires-2 : tie.Need-edge-of-requires-2 Inv-loop μ-loop
 edge-of-requires-2 c κs = c .before .before .before .before .before .before .before .before .before .before .before .loop .inv .asked .fits
@@ -112,8 +129,11 @@ mul-t45 c = omega (arith, c .before .before .before .before .before .before .bef
 
 element-set-from-links-2 : tie.Need-element-set-from-links-2 Inv-loop μ-loop
 element-set-from-links-2 c =
-    let t = c .before .before .before .before .before .before .before in
-    comes-room (t .before .before .before .before .before .loop .inv) (t .before .before .before .before .next-piece .ensures) (t .before .before .x .given .1) (c .before .before .before .before .before .p3 .given .1)
+    let at-p3 = c .before .before .before .before .before in
+    let at-before = at-p3 .before in
+    let t = at-before .before in
+    comes-room (t .before .before .before .before .before .loop .inv) (t .before .before .before .before .next-piece .ensures)
+    (t .before .before .x .given .1) (at-p3 .p3 .given .1)
 
 add-links-2 : tie.Need-add-links-2 Inv-loop μ-loop
 add-links-2 c = omega (arith, c .before .before .before .before .before .before .before .before .before .before .before .before .loop .inv .edges .stored .few)
@@ -125,8 +145,12 @@ loop-less-3 c =
 
 loop-again-3 : tie.Need-loop-again-3 Inv-loop μ-loop
 loop-again-3 c =
-    let t = c .before .before .before .before .before .before .before in
-    comes-on (t .before .before .before .before .before .loop .inv) (t .before .before .before .before .next-piece .ensures) (t .before .before .x .given .1) (c .before .before .before .before .before .p3 .given .1) (c .before .before .vertex-number3 .ensures) (c .before .with-vertex3 .ensures) (c .edge-of2 .ensures)
+    let at-p3 = c .before .before .before .before .before in
+    let at-before = at-p3 .before in
+    let t = at-before .before in
+    comes-on (t .before .before .before .before .before .loop .inv) (t .before .before .before .before .next-piece .ensures)
+    (t .before .before .x .given .1) (at-p3 .p3 .given .1) (c .before .before .vertex-number3 .ensures) (c .before .with-vertex3 .ensures)
+    (c .edge-of2 .ensures)
 
 exclusion-requires : tie.Need-exclusion-requires Inv-loop μ-loop
 exclusion-requires c κs = c .before .before .before .before .before .before .before .before .loop .inv .vertices .stored .within
@@ -134,7 +158,8 @@ exclusion-requires c κs = c .before .before .before .before .before .before .be
 element-set-from-conditions : tie.Need-element-set-from-conditions Inv-loop μ-loop
 element-set-from-conditions c =
     let t = c .before .before .before .before in
-    differ-room (t .before .before .before .before .before .loop .inv) (t .before .before .before .before .next-piece .ensures) (t .before .before .x .given .1) (c .before .before .p4 .given .1)
+    differ-room (t .before .before .before .before .before .loop .inv) (t .before .before .before .before .next-piece .ensures)
+    (t .before .before .x .given .1) (c .before .before .p4 .given .1)
 
 loop-less-4 : tie.Need-loop-less-4 Inv-loop μ-loop
 loop-less-4 c =
@@ -144,15 +169,19 @@ loop-less-4 c =
 loop-again-4 : tie.Need-loop-again-4 Inv-loop μ-loop
 loop-again-4 c =
     let t = c .before .before .before .before in
-    differ-on (t .before .before .before .before .before .loop .inv) (t .before .before .before .before .next-piece .ensures) (t .before .before .x .given .1) (c .before .before .p4 .given .1) (c .exclusion .ensures)
+    differ-on (t .before .before .before .before .before .loop .inv) (t .before .before .before .before .next-piece .ensures)
+    (t .before .before .x .given .1) (c .before .before .p4 .given .1) (c .exclusion .ensures)
 
 requirement-requires : tie.Need-requirement-requires Inv-loop μ-loop
-requirement-requires c κs = let so = c .before .before .before .before .before .before .before .before .loop .inv in (so .asked .fits, so .vertices .stored .within, so .edges .stored .few)
+requirement-requires c κs =
+    let at-loop = c .before .before .before .before .before .before .before .before in
+    let so = at-loop .loop .inv in (so .asked .fits, so .vertices .stored .within, so .edges .stored .few)
 
 element-set-from-conditions-2 : tie.Need-element-set-from-conditions-2 Inv-loop μ-loop
 element-set-from-conditions-2 c =
     let t = c .before .before .before .before in
-    asks-room (t .before .before .before .before .before .loop .inv) (t .before .before .before .before .next-piece .ensures) (t .before .before .x .given .1) (c .before .before .p5 .given .1)
+    asks-room (t .before .before .before .before .before .loop .inv) (t .before .before .before .before .next-piece .ensures)
+    (t .before .before .x .given .1) (c .before .before .p5 .given .1)
 
 loop-less-5 : tie.Need-loop-less-5 Inv-loop μ-loop
 loop-less-5 c =
@@ -162,7 +191,8 @@ loop-less-5 c =
 loop-again-5 : tie.Need-loop-again-5 Inv-loop μ-loop
 loop-again-5 c =
     let t = c .before .before .before .before in
-    asks-on (t .before .before .before .before .before .loop .inv) (t .before .before .before .before .next-piece .ensures) (t .before .before .x .given .1) (c .before .before .p5 .given .1) (c .requirement .ensures)
+    asks-on (t .before .before .before .before .before .loop .inv) (t .before .before .before .before .next-piece .ensures)
+    (t .before .before .x .given .1) (c .before .before .p5 .given .1) (c .requirement .ensures)
 
 vertex-number-requires-4 : tie.Need-vertex-number-requires-4 Inv-loop μ-loop
 vertex-number-requires-4 c κs = c .before .before .before .before .before .before .before .before .loop .inv .vertices .stored .within
@@ -170,7 +200,8 @@ vertex-number-requires-4 c κs = c .before .before .before .before .before .befo
 element-write-returned : tie.Need-element-write-returned Inv-loop μ-loop
 element-write-returned c =
     let t = c .before .before .before .before in
-    returned-room (t .before .before .before .before .before .loop .inv) (t .before .before .before .before .next-piece .ensures) (t .before .before .x .given .1) (c .before .before .p6 .given .1)
+    returned-room (t .before .before .before .before .before .loop .inv) (t .before .before .before .before .next-piece .ensures)
+    (t .before .before .x .given .1) (c .before .before .p6 .given .1)
 
 loop-less-6 : tie.Need-loop-less-6 Inv-loop μ-loop
 loop-less-6 c =
@@ -180,16 +211,20 @@ loop-less-6 c =
 loop-again-6 : tie.Need-loop-again-6 Inv-loop μ-loop
 loop-again-6 c =
     let t = c .before .before .before .before in
-    returned-on (t .before .before .before .before .before .loop .inv) (t .before .before .before .before .next-piece .ensures) (t .before .before .x .given .1) (c .before .before .p6 .given .1) (c .vertex-number4 .ensures)
+    returned-on (t .before .before .before .before .before .loop .inv) (t .before .before .before .before .next-piece .ensures)
+    (t .before .before .x .given .1) (c .before .before .p6 .given .1) (c .vertex-number4 .ensures)
 
 pub pattern-of-spec : {M : Type 1} → statement M
 pattern-of-spec =
     tie.close
     (tie.spec Inv-loop μ-loop
-    (λ c κs. search needs) (λ c κs. search needs) (λ c κs. search needs) (λ c κs. search needs) (λ c κs. search needs) loop-holds (λ c κs. search needs) (λ c. search needs)
+    (λ c κs. search needs) (λ c κs. search needs) (λ c κs. search needs) (λ c κs. search needs) (λ c κs. search needs) loop-holds (λ c κs. search needs)
+    (λ c. search needs)
     (λ c. search needs) (λ c κs. search needs) returns (λ c. search needs) vertex-number-requires with-vertex-requires loop-less loop-again (λ c. search needs)
     vertex-number-requires-2 with-vertex-requires-2 edge-of-requires mul-t41 element-set-from-links add-links loop-less-2 loop-again-2 (λ c. search needs)
     vertex-number-requires-3 with-vertex-requires-3 edge-of-requires-2 mul-t45 element-set-from-links-2 add-links-2 loop-less-3 loop-again-3
-    (λ c. search needs) exclusion-requires (λ c. search needs) element-set-from-conditions (λ c. search needs) loop-less-4 loop-again-4 (λ c. search needs) requirement-requires
-    (λ c. search needs) element-set-from-conditions-2 (λ c. search needs) loop-less-5 loop-again-5 (λ c. search needs) vertex-number-requires-4 (λ c. search needs)
+    (λ c. search needs) exclusion-requires (λ c. search needs) element-set-from-conditions (λ c. search needs) loop-less-4 loop-again-4
+    (λ c. search needs) requirement-requires
+    (λ c. search needs) element-set-from-conditions-2 (λ c. search needs) loop-less-5 loop-again-5 (λ c. search needs) vertex-number-requires-4
+    (λ c. search needs)
     element-write-returned (λ c. search needs) loop-less-6 loop-again-6)

@@ -26,23 +26,33 @@ element-copy-out-v c = omega (arith, c .before .before .before .pre)
 
 returns : tie.Need-returns Inv-loop μ-loop
 returns c =
-    let a = c .before .before .before .before .before .before .args in
-    let size : length (a .t2 .parts) ≡ 8 = sym (length-map (a .t2 .parts) _) ∙ c .before .before .before .before .before .before .good .1 .0 .1 .1 .0 .1 .0 .1 in
-    let l = c .before .before .before .before .loop in
-    number-found (nameAt (a .s .now)) noPart (a .t2 .parts) (nameAt (a .s .now) (a .name)) (a .t2 .count) (omega (arith, size, c .before .before .before .before .before .before .pre)) (l .k) (c .before .before .before .loop-test .taken) (l .inv .1) (sym (c .before .same-part .ensures) ∙ c .if1 .taken)
+    let at-loop = c .before .before .before .before in
+    let at-pre = at-loop .before .before in
+    let a = at-pre .args in
+    let size : length (a .t2 .parts) ≡ 8 = sym (length-map (a .t2 .parts) _) ∙ at-pre .good .1 .0 .1 .1 .0 .1 .0 .1 in
+    let l = at-loop .loop in
+    number-found (nameAt (a .s .now)) noPart (a .t2 .parts) (nameAt (a .s .now) (a .name)) (a .t2 .count) (omega (arith, size, at-pre .pre)) (l .k)
+    (c .before .before .before .loop-test .taken) (l .inv .1) (sym (c .before .same-part .ensures) ∙ c .if1 .taken)
 
 loop-again : tie.Need-loop-again Inv-loop μ-loop
 loop-again c =
-    let a = c .before .before .before .before .before .before .args in
-    let l = c .before .before .before .before .loop in
-    (omega arith, number-on (nameAt (a .s .now)) noPart (a .t2 .parts) (nameAt (a .s .now) (a .name)) (l .k) (l .inv .1) (sym (c .before .same-part .ensures) ∙ c .if1 .left))
+    let at-loop = c .before .before .before .before in
+    let at-args = at-loop .before .before in
+    let a = at-args .args in
+    let l = at-loop .loop in (
+      omega arith,
+      number-on (nameAt (a .s .now)) noPart (a .t2 .parts) (nameAt (a .s .now) (a .name)) (l .k) (l .inv .1)
+          (sym (c .before .same-part .ensures) ∙ c .if1 .left),
+    )
 
 returns-2 : tie.Need-returns-2 Inv-loop μ-loop
 returns-2 c =
-    let a = c .before .before .before .args in
-    let size : length (a .t2 .parts) ≡ 8 = sym (length-map (a .t2 .parts) _) ∙ c .before .before .before .good .1 .0 .1 .1 .0 .1 .0 .1 in
+    let at-pre = c .before .before .before in
+    let a = at-pre .args in
+    let size : length (a .t2 .parts) ≡ 8 = sym (length-map (a .t2 .parts) _) ∙ at-pre .good .1 .0 .1 .1 .0 .1 .0 .1 in
     let l = c .before .loop in
-    number-none (nameAt (a .s .now)) noPart (a .t2 .parts) (nameAt (a .s .now) (a .name)) (a .t2 .count) (omega (arith, size, c .before .before .before .pre)) (l .k) (l .inv .0) (c .loop-test .left) (l .inv .1)
+    number-none (nameAt (a .s .now)) noPart (a .t2 .parts) (nameAt (a .s .now) (a .name)) (a .t2 .count) (omega (arith, size, at-pre .pre)) (l .k)
+    (l .inv .0) (c .loop-test .left) (l .inv .1)
 
 pub vertex-number-spec : {M : Type 1} → statement M
 vertex-number-spec =

@@ -7,7 +7,12 @@ use Rattle.query_faults.proofs.conditions.differ_seen.Statement.{statem
 use Rattle.query_faults.proofs.conditions.differ_seen.Tie as tie
 
 returns : tie.Need-returns
-returns c = λ b rest. differ-is b _ (c .before .before .before .before .before .before .before .before .args .t) rest _ _ _ _ _ (c .before .before .before .flagged .ensures ∙ ap (λ x. pick x true (c .before .before .before .before .before .before .before .before .args .t .undeclared)) (c .before .before .before .before .is-unknown-pair .ensures)) (c .before .flagged2 .ensures ∙ ap (λ x. pick x true (c .before .before .before .before .before .before .before .before .args .t .itself)) (c .before .before .same-part .ensures)) (c .less .ensures)
+returns c =
+    let at-is-unknown-pair = c .before .before .before .before in
+    let at-args = at-is-unknown-pair .before .before .before .before in
+    λ b rest. differ-is b _ (at-args .args .t) rest _ _ _ _ _
+    (c .before .before .before .flagged .ensures ∙ ap (λ x. pick x true (at-args .args .t .undeclared)) (at-is-unknown-pair .is-unknown-pair .ensures))
+    (c .before .flagged2 .ensures ∙ ap (λ x. pick x true (at-args .args .t .itself)) (c .before .before .same-part .ensures)) (c .less .ensures)
 
 pub differ-seen-spec : {M : Type 1} → statement M
 differ-seen-spec =

@@ -7,7 +7,11 @@ use Rattle.query_faults.proofs.conditions.return_seen.Statement.{statem
 use Rattle.query_faults.proofs.conditions.return_seen.Tie as tie
 
 returns : tie.Need-returns
-returns c = λ b rest. return-is b _ (c .before .before .before .before .before .before .before .args .t) rest _ _ _ _ (c .before .before .flagged .ensures ∙ ap (λ x. pick (not x) true (c .before .before .before .before .before .before .before .args .t .undeclared)) (c .before .before .before .stands-before .ensures)) (c .before .seen-before .ensures) (c .less .ensures)
+returns c =
+    let at-args = c .before .before .before .before .before .before .before in
+    λ b rest. return-is b _ (at-args .args .t) rest _ _ _ _
+    (c .before .before .flagged .ensures ∙ ap (λ x. pick (not x) true (at-args .args .t .undeclared))
+    (c .before .before .before .stands-before .ensures)) (c .before .seen-before .ensures) (c .less .ensures)
 
 pub return-seen-spec : {M : Type 1} → statement M
 return-seen-spec =

@@ -9,7 +9,11 @@ use Rattle.query_faults.proofs.declared.label_known.Tie as tie
 
 returns : tie.Need-returns
 unfolding nameAt
-returns c = label-place (c .before .before .before .before .before .before .args .book .now) (c .before .before .before .before .before .before .args .words .now) (c .before .before .before .before .before .before .args .counts) (nameAt (c .before .before .before .before .before .before .args .s .now) (c .before .before .before .before .before .before .args .name)) (c .before .find-label .result) (c .before .find-label .ensures ∙ ap (λ w. place w (bookAt (c .before .before .before .before .before .before .args .book .now) (c .before .before .before .before .before .before .args .words .now) (c .before .before .before .before .before .before .args .counts) .labels)) (c .before .before .part .ensures))
+returns c =
+    let at-args = c .before .before .before .before .before .before in
+    label-place (at-args .args .book .now) (at-args .args .words .now) (at-args .args .counts) (nameAt (at-args .args .s .now) (at-args .args .name))
+    (c .before .find-label .result) (c .before .find-label .ensures
+    ∙ ap (λ w. place w (bookAt (at-args .args .book .now) (at-args .args .words .now) (at-args .args .counts) .labels)) (c .before .before .part .ensures))
 
 pub label-known-spec : {M : Type 1} → statement M
 label-known-spec = tie.close (tie.spec (λ c κs. search needs) (λ c κs. search needs) returns)

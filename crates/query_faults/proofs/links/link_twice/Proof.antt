@@ -12,7 +12,13 @@ use Rattle.query_faults.proofs.links.link_twice.Statement.{statement}
 use Rattle.query_faults.proofs.links.link_twice.Tie as tie
 
 returns : tie.Need-returns
-returns c = stays-seen (mem (nameAt (c .before .before .before .before .args .s .now) (c .before .before .before .before .args .e)) (namesIn Edge (take (c .before .before .before .before .args .i) (textPieces (c .before .before .before .before .args .s .now)))) || mem (nameAt (c .before .before .before .before .args .s .now) (c .before .before .before .before .args .e)) (namesIn Vertex (take (c .before .before .before .before .args .i) (textPieces (c .before .before .before .before .args .s .now)))) || mem (nameAt (c .before .before .before .before .args .s .now) (c .before .before .before .before .args .v)) (namesIn Edge (take (c .before .before .before .before .args .i) (textPieces (c .before .before .before .before .args .s .now))) ++ ((nameAt (c .before .before .before .before .args .s .now) (c .before .before .before .before .args .e)) ∷ []))) _ (c .if1 .taken)
+returns c =
+    let at-args = c .before .before .before .before in
+    stays-seen (mem (nameAt (at-args .args .s .now) (at-args .args .e)) (namesIn Edge (take (at-args .args .i) (textPieces (at-args .args .s .now))))
+    || mem (nameAt (at-args .args .s .now) (at-args .args .e)) (namesIn Vertex (take (at-args .args .i) (textPieces (at-args .args .s .now))))
+    || mem (nameAt (at-args .args .s .now) (at-args .args .v))
+    (namesIn Edge (take (at-args .args .i) (textPieces (at-args .args .s .now))) ++ ((nameAt (at-args .args .s .now) (at-args .args .e)) ∷ []))) _
+    (c .if1 .taken)
 
 stands-before-requires : tie.Need-stands-before-requires
 stands-before-requires c κs = c .before .before .before .before .pre .edge-names
@@ -30,10 +36,36 @@ stands-before-requires-3 : tie.Need-stands-before-requires-3
 stands-before-requires-3 c κs = c .before .before .before .before .before .before .before .before .pre .edge-names
 
 returns-4 : tie.Need-returns-4
-returns-4 c = rw (mem-more, ← c .before .before .before .before .before .stands-before .ensures, c .before .before .before .before .if2 .left, ← c .before .before .before .stands-before2 .ensures, c .before .before .if3 .left, ← c .before .stands-before3 .ensures, c .if4 .taken)
+returns-4 c =
+    let at-if2 = c .before .before .before .before in
+    let at-stands-before = at-if2 .before in
+    rw (
+      mem-more,
+      ← at-stands-before .stands-before .ensures,
+      at-if2 .if2 .left,
+      ← c .before .before .before .stands-before2 .ensures,
+      c .before .before .if3 .left,
+      ← c .before .stands-before3 .ensures,
+      c .if4 .taken,
+    )
 
 returns-5 : tie.Need-returns-5
-returns-5 c = rw (mem-more, ← c .before .before .before .before .before .before .stands-before .ensures, c .before .before .before .before .before .if2 .left, ← c .before .before .before .before .stands-before2 .ensures, c .before .before .before .if3 .left, ← c .before .before .stands-before3 .ensures, c .before .if4 .left, ← c .same-part .ensures, c .before .before .before .before .before .before .before .if1 .left) (by-test (c .same-part .result))
+returns-5 c =
+    let at-stands-before2 = c .before .before .before .before in
+    let at-if2 = at-stands-before2 .before in
+    let at-stands-before = at-if2 .before in
+    let at-if1 = at-stands-before .before in
+    rw (
+      mem-more,
+      ← at-stands-before .stands-before .ensures,
+      at-if2 .if2 .left,
+      ← at-stands-before2 .stands-before2 .ensures,
+      c .before .before .before .if3 .left,
+      ← c .before .before .stands-before3 .ensures,
+      c .before .if4 .left,
+      ← c .same-part .ensures,
+      at-if1 .if1 .left,
+    ) (by-test (c .same-part .result))
 
 pub link-twice-spec : {M : Type 1} → statement M
 link-twice-spec =

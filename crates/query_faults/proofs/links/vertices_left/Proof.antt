@@ -10,7 +10,10 @@ use Rattle.query_faults.proofs.links.vertices_left.Statement.{statement
 use Rattle.query_faults.proofs.links.vertices_left.Tie as tie
 
 returns : tie.Need-returns
-returns c = stays-zero (not (mem (nameAt (c .before .before .before .args .s .now) (c .before .before .before .args .name)) (namesIn Vertex (take (c .before .before .before .args .i) (textPieces (c .before .before .before .args .s .now)))))) _ (c .if1 .taken)
+returns c =
+    let at-args = c .before .before .before in
+    stays-zero (not (mem (nameAt (at-args .args .s .now) (at-args .args .name))
+    (namesIn Vertex (take (at-args .args .i) (textPieces (at-args .args .s .now)))))) _ (c .if1 .taken)
 
 returns-2 : tie.Need-returns-2
 returns-2 c = rw (← c .before .stands-before .ensures, c .if2 .taken)

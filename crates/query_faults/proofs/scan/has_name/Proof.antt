@@ -7,10 +7,19 @@ use Rattle.query_faults.proofs.scan.has_name.Statement.{statement}
 use Rattle.query_faults.proofs.scan.has_name.Tie as tie
 
 returns : tie.Need-returns
-returns c = c .same-part .ensures ∙ name-is (c .before .before .before .before .before .before .args .s .now) (c .before .before .before .before .before .before .args .which) (pieceOf (c .before .before .before .before .before .before .args .s .now) (c .before .before .before .before .before .before .args .p)) (nameAt (c .before .before .before .before .before .before .args .s .now) (c .before .before .before .before .before .before .args .name)) (c .before .before .before .before .name-of .result) (c .before .before .before .before .name-of .ensures (c .before .before .before .before .before .before .args .s .now)) (c .before .before .q .given .0 .0) (c .before .before .q .given .1)
+returns c =
+    let at-name-of = c .before .before .before .before in
+    let at-args = at-name-of .before .before in
+    c .same-part .ensures ∙ name-is (at-args .args .s .now) (at-args .args .which) (pieceOf (at-args .args .s .now) (at-args .args .p))
+    (nameAt (at-args .args .s .now) (at-args .args .name)) (at-name-of .name-of .result) (at-name-of .name-of .ensures (at-args .args .s .now))
+    (c .before .before .q .given .0 .0) (c .before .before .q .given .1)
 
 returns-2 : tie.Need-returns-2
-returns-2 c = name-none (c .before .before .before .before .args .s .now) (c .before .before .before .before .args .which) (pieceOf (c .before .before .before .before .args .s .now) (c .before .before .before .before .args .p)) (nameAt (c .before .before .before .before .args .s .now) (c .before .before .before .before .args .name)) (c .before .before .name-of .result) (c .before .before .name-of .ensures (c .before .before .before .before .args .s .now)) (c .enum-told .given .1)
+returns-2 c =
+    let at-args = c .before .before .before .before in
+    name-none (at-args .args .s .now) (at-args .args .which) (pieceOf (at-args .args .s .now) (at-args .args .p))
+    (nameAt (at-args .args .s .now) (at-args .args .name)) (c .before .before .name-of .result)
+    (c .before .before .name-of .ensures (at-args .args .s .now)) (c .enum-told .given .1)
 
 pub has-name-spec : {M : Type 1} → statement M
 has-name-spec =

@@ -16,7 +16,8 @@ returns-2 c = λ s. c .edge-of .ensures s ∙ sym (ap (λ (w : Which). nameIn w 
 
 returns-3 : tie.Need-returns-3
 unfolding nameIn
-returns-3 c = λ s. c .return-of .ensures s ∙ sym (ap (λ (w : Which). nameIn w (pieceOf s (c .before .before .before .args .p))) (c .before .enum-told3 .given .1))
+returns-3 c = λ s. c .return-of .ensures s
+    ∙ sym (ap (λ (w : Which). nameIn w (pieceOf s (c .before .before .before .args .p))) (c .before .enum-told3 .given .1))
 
 pub name-of-spec : {M : Type 1} → statement M
 name-of-spec =

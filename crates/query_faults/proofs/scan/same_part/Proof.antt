@@ -7,7 +7,10 @@ use Rattle.query_faults.proofs.scan.same_part.Tie as tie
 
 returns : tie.Need-returns
 unfolding nameAt
-returns c = c .same-bytes .ensures ∙ ap (λ w. same w (c .before .part2 .result .now)) (c .before .before .part .ensures) ∙ ap (λ w. same (nameAt (c .before .before .before .before .args .s .now) (c .before .before .before .before .args .a)) w) (c .before .part2 .ensures)
+returns c =
+    let at-args = c .before .before .before .before in
+    c .same-bytes .ensures ∙ ap (λ w. same w (c .before .part2 .result .now)) (c .before .before .part .ensures)
+    ∙ ap (λ w. same (nameAt (at-args .args .s .now) (at-args .args .a)) w) (c .before .part2 .ensures)
 
 pub same-part-spec : {M : Type 1} → statement M
 same-part-spec = tie.close (tie.spec (λ c κs. search needs) (λ c κs. search needs) (λ c κs. search needs) returns)

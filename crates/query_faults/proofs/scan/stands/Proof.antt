@@ -12,25 +12,61 @@ use Rattle.query_faults.proofs.scan.stands.Statement.{statement}
 use Rattle.query_faults.proofs.scan.stands.Tie as tie
 
 abbrev Inv-loop : tie.InvT-loop
-Inv-loop s count which name place₀ i₀ place i = (i ≤ count) × (mem (nameAt s name) (namesIn which (take (count - i) (foundAt s place))) ≡ mem (nameAt s name) (namesIn which (take count (foundAt s place₀))))
+Inv-loop s count which name place₀ i₀ place i = (i ≤ count)
+    × (mem (nameAt s name) (namesIn which (take (count - i) (foundAt s place))) ≡ mem (nameAt s name) (namesIn which (take count (foundAt s place₀))))
 
 abbrev μ-loop : tie.MeasureT-loop
 μ-loop s count which name place₀ i₀ place i = count - i
 
 loop-holds : tie.Need-loop-holds Inv-loop μ-loop
-loop-holds c = let d : c .before .args .count - 0 ≡ c .before .args .count = omega arith in (omega arith, ap (λ n. mem (nameAt (c .before .args .s .now) (c .before .args .name)) (namesIn (c .before .args .which) (take n (foundAt (c .before .args .s .now) (c .before .args .from))))) d)
+loop-holds c = let d : c .before .args .count - 0 ≡ c .before .args .count = omega arith in (
+  omega arith,
+  ap (λ n. mem (nameAt (c .before .args .s .now) (c .before .args .name))
+      (namesIn (c .before .args .which) (take n (foundAt (c .before .args .s .now) (c .before .args .from))))) d,
+)
 
 returns : tie.Need-returns Inv-loop μ-loop
-returns c = sym (stands-none (nameAt (c .before .before .before .before .before .before .args .s .now) (c .before .before .before .before .before .before .args .name)) (c .before .before .before .before .before .before .args .which) (c .before .before .before .before .before .before .args .count - c .before .before .before .before .loop .i) (foundAt (c .before .before .before .before .before .before .args .s .now) (c .before .before .before .before .loop .place)) (step-none (c .before .before .before .before .before .before .args .s .now) (c .before .before .before .before .loop .place) (c .before .before .next-piece .result) (c .before .before .next-piece .ensures) (c .enum-told .given .0 .0) (c .enum-told .given .1))) ∙ c .before .before .before .before .loop .inv .1
+returns c =
+    let at-loop = c .before .before .before .before in
+    let at-args = at-loop .before .before in
+    sym (stands-none (nameAt (at-args .args .s .now) (at-args .args .name)) (at-args .args .which) (at-args .args .count - at-loop .loop .i)
+    (foundAt (at-args .args .s .now) (at-loop .loop .place))
+    (step-none (at-args .args .s .now) (at-loop .loop .place) (c .before .before .next-piece .result) (c .before .before .next-piece .ensures)
+    (c .enum-told .given .0 .0) (c .enum-told .given .1))) ∙ at-loop .loop .inv .1
 
 returns-2 : tie.Need-returns-2 Inv-loop μ-loop
-returns-2 c = sym (stands-here (nameAt (c .before .before .before .before .before .before .before .before .before .args .s .now) (c .before .before .before .before .before .before .before .before .before .args .name)) (c .before .before .before .before .before .before .before .before .before .args .which) (c .before .before .before .before .before .before .before .before .before .args .count) (c .before .before .before .before .before .before .before .loop .i) (c .before .before .before .before .before .before .loop-test .taken) (pieceOf (c .before .before .before .before .before .before .before .before .before .args .s .now) ((c .before .before .before .x .given .0 .0) .piece)) (foundAt (c .before .before .before .before .before .before .before .before .before .args .s .now) (c .before .before .before .before .before .before .before .loop .place)) (foundAt (c .before .before .before .before .before .before .before .before .before .args .s .now) ((c .before .before .before .x .given .0 .0) .next)) (step-list (c .before .before .before .before .before .before .before .before .before .args .s .now) (c .before .before .before .before .before .before .before .loop .place) (c .before .before .before .before .before .next-piece .result) (c .before .before .before .before .before .next-piece .ensures) (c .before .before .before .x .given .0 .0) (c .before .before .before .x .given .1)) (sym (c .before .has-name .ensures) ∙ c .if1 .taken)) ∙ c .before .before .before .before .before .before .before .loop .inv .1
+returns-2 c =
+    let at-x = c .before .before .before in
+    let at-next-piece = at-x .before .before in
+    let at-loop-test = at-next-piece .before in
+    let at-loop = at-loop-test .before in
+    let at-args = at-loop .before .before in
+    sym (stands-here (nameAt (at-args .args .s .now) (at-args .args .name)) (at-args .args .which) (at-args .args .count) (at-loop .loop .i)
+    (at-loop-test .loop-test .taken) (pieceOf (at-args .args .s .now) ((at-x .x .given .0 .0) .piece))
+    (foundAt (at-args .args .s .now) (at-loop .loop .place)) (foundAt (at-args .args .s .now) ((at-x .x .given .0 .0) .next))
+    (step-list (at-args .args .s .now) (at-loop .loop .place) (at-next-piece .next-piece .result) (at-next-piece .next-piece .ensures)
+    (at-x .x .given .0 .0) (at-x .x .given .1)) (sym (c .before .has-name .ensures) ∙ c .if1 .taken)) ∙ at-loop .loop .inv .1
 
 loop-again : tie.Need-loop-again Inv-loop μ-loop
-loop-again c = (omega arith, sym (stands-on (nameAt (c .before .before .before .before .before .before .before .before .before .before .args .s .now) (c .before .before .before .before .before .before .before .before .before .before .args .name)) (c .before .before .before .before .before .before .before .before .before .before .args .which) (c .before .before .before .before .before .before .before .before .before .before .args .count) (c .before .before .before .before .before .before .before .before .loop .i) (c .before .before .before .before .before .before .before .loop-test .taken) (pieceOf (c .before .before .before .before .before .before .before .before .before .before .args .s .now) ((c .before .before .before .before .x .given .0 .0) .piece)) (foundAt (c .before .before .before .before .before .before .before .before .before .before .args .s .now) (c .before .before .before .before .before .before .before .before .loop .place)) (foundAt (c .before .before .before .before .before .before .before .before .before .before .args .s .now) ((c .before .before .before .before .x .given .0 .0) .next)) (step-list (c .before .before .before .before .before .before .before .before .before .before .args .s .now) (c .before .before .before .before .before .before .before .before .loop .place) (c .before .before .before .before .before .before .next-piece .result) (c .before .before .before .before .before .before .next-piece .ensures) (c .before .before .before .before .x .given .0 .0) (c .before .before .before .before .x .given .1)) (sym (c .before .before .has-name .ensures) ∙ c .before .if1 .left)) ∙ c .before .before .before .before .before .before .before .before .loop .inv .1)
+loop-again c =
+    let at-x = c .before .before .before .before in
+    let at-next-piece = at-x .before .before in
+    let at-loop-test = at-next-piece .before in
+    let at-loop = at-loop-test .before in
+    let at-args = at-loop .before .before in (
+      omega arith,
+      sym (stands-on (nameAt (at-args .args .s .now) (at-args .args .name)) (at-args .args .which) (at-args .args .count) (at-loop .loop .i)
+          (at-loop-test .loop-test .taken) (pieceOf (at-args .args .s .now) ((at-x .x .given .0 .0) .piece))
+          (foundAt (at-args .args .s .now) (at-loop .loop .place)) (foundAt (at-args .args .s .now) ((at-x .x .given .0 .0) .next))
+          (step-list (at-args .args .s .now) (at-loop .loop .place) (at-next-piece .next-piece .result) (at-next-piece .next-piece .ensures)
+          (at-x .x .given .0 .0) (at-x .x .given .1)) (sym (c .before .before .has-name .ensures) ∙ c .before .if1 .left)) ∙ at-loop .loop .inv .1,
+    )
 
 returns-3 : tie.Need-returns-3 Inv-loop μ-loop
-returns-3 c = sym (stands-end (nameAt (c .before .before .before .args .s .now) (c .before .before .before .args .name)) (c .before .before .before .args .which) (c .before .before .before .args .count) (c .before .loop .i) (foundAt (c .before .before .before .args .s .now) (c .before .loop .place)) (c .loop-test .left)) ∙ c .before .loop .inv .1
+returns-3 c =
+    let at-args = c .before .before .before in
+    sym (stands-end (nameAt (at-args .args .s .now) (at-args .args .name)) (at-args .args .which) (at-args .args .count) (c .before .loop .i)
+    (foundAt (at-args .args .s .now) (c .before .loop .place)) (c .loop-test .left)) ∙ c .before .loop .inv .1
 
 pub stands-spec : {M : Type 1} → statement M
 stands-spec =

@@ -9,7 +9,10 @@ use Rattle.query_faults.proofs.table.seen_before.Statement.{statement}
 use Rattle.query_faults.proofs.table.seen_before.Tie as tie
 
 returns : tie.Need-returns
-returns c = stays-seen (mem (nameAt (c .before .before .before .args .s .now) (c .before .before .before .args .name)) (namesIn (c .before .before .before .args .which) (take (c .before .before .before .args .i) (textPieces (c .before .before .before .args .s .now))))) _ (c .if1 .taken)
+returns c =
+    let at-args = c .before .before .before in
+    stays-seen (mem (nameAt (at-args .args .s .now) (at-args .args .name))
+    (namesIn (at-args .args .which) (take (at-args .args .i) (textPieces (at-args .args .s .now))))) _ (c .if1 .taken)
 
 returns-2 : tie.Need-returns-2
 returns-2 c = c .stands-before .ensures ∙ by-left _ _ (c .before .if1 .left)

@@ -14,10 +14,15 @@ is-listed-requires c κs = c .before .before .before .before .pre .lists (c .bef
 
 returns : tie.Need-returns
 unfolding nameAt
-returns c = c .is-listed .ensures ∙ ap₂ mem (c .before .part .ensures) (c .before .before .before .before .before .pre .lists (c .before .before .if1 .taken) .are)
+returns c =
+    let at-pre = c .before .before .before .before .before in
+    c .is-listed .ensures ∙ ap₂ mem (c .before .part .ensures) (at-pre .pre .lists (c .before .before .if1 .taken) .are)
 
 returns-2 : tie.Need-returns-2
-returns-2 c = c .stands .ensures ∙ ap (λ (p : Place). mem (nameAt (c .before .before .before .before .before .args .s .now) (c .before .before .before .before .before .args .name)) (namesIn (c .before .before .before .before .before .args .which) (take (c .before .before .before .before .before .args .i) (foundAt (c .before .before .before .before .before .args .s .now) p)))) (c .before .text-start .ensures)
+returns-2 c =
+    let at-args = c .before .before .before .before .before in
+    c .stands .ensures ∙ ap (λ (p : Place). mem (nameAt (at-args .args .s .now) (at-args .args .name))
+    (namesIn (at-args .args .which) (take (at-args .args .i) (foundAt (at-args .args .s .now) p)))) (c .before .text-start .ensures)
 
 pub stands-before-spec : {M : Type 1} → statement M
 stands-before-spec =

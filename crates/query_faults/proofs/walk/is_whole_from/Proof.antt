@@ -18,13 +18,27 @@ loop-holds : tie.Need-loop-holds Inv-loop μ-loop
 loop-holds c = refl
 
 loop-less : tie.Need-loop-less Inv-loop μ-loop
-loop-less c = let z = ap length (step-list (c .before .before .before .before .before .before .before .args .s .now) (c .before .before .before .before .before .loop .place) (c .before .before .before .before .next-piece .result) (c .before .before .before .before .next-piece .ensures) (c .before .before .x .given .0 .0) (c .before .before .x .given .1)) in omega arith
+loop-less c =
+    let at-next-piece = c .before .before .before .before in
+    let at-loop = at-next-piece .before in
+    let at-args = at-loop .before .before in
+    let z = ap length (step-list (at-args .args .s .now) (at-loop .loop .place) (at-next-piece .next-piece .result) (at-next-piece .next-piece .ensures)
+    (c .before .before .x .given .0 .0) (c .before .before .x .given .1)) in omega arith
 
 loop-again : tie.Need-loop-again Inv-loop μ-loop
-loop-again c = sym (step-whole (c .before .before .before .before .before .before .before .args .s .now) (c .before .before .before .before .before .loop .place) (c .before .before .before .before .next-piece .result) (c .before .before .before .before .next-piece .ensures) (c .before .before .x .given .0 .0) (c .before .before .x .given .1)) ∙ c .before .before .before .before .before .loop .inv
+loop-again c =
+    let at-next-piece = c .before .before .before .before in
+    let at-loop = at-next-piece .before in
+    let at-args = at-loop .before .before in
+    sym (step-whole (at-args .args .s .now) (at-loop .loop .place) (at-next-piece .next-piece .result) (at-next-piece .next-piece .ensures)
+    (c .before .before .x .given .0 .0) (c .before .before .x .given .1)) ∙ at-loop .loop .inv
 
 returns : tie.Need-returns Inv-loop μ-loop
-returns c = sym (step-ends (c .before .before .before .before .before .before .args .s .now) (c .before .before .before .before .loop .place) (c .before .before .before .next-piece .result) (c .before .before .before .next-piece .ensures) (c .before .w .given .0 .0) (c .before .w .given .1)) ∙ c .before .before .before .before .loop .inv
+returns c =
+    let at-loop = c .before .before .before .before in
+    let at-args = at-loop .before .before in
+    sym (step-ends (at-args .args .s .now) (at-loop .loop .place) (c .before .before .before .next-piece .result)
+    (c .before .before .before .next-piece .ensures) (c .before .w .given .0 .0) (c .before .w .given .1)) ∙ at-loop .loop .inv
 
 pub is-whole-from-spec : {M : Type 1} → statement M
 is-whole-from-spec =

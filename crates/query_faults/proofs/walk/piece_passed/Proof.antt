@@ -7,27 +7,55 @@ use Rattle.query_faults.proofs.walk.piece_passed.Tie as tie
 
 returns : tie.Need-returns
 unfolding pieceOf
-returns c = behind-is _ _ _ _ _ _ _ _ _ _ (c .before .before .before .before .before .before .before .before .p .given .1) (behind-start _ _ _ _ _ _ _ _ _ (c .before .before .before .before .start-seen .ensures _) (c .before .before .with-name .ensures _ (c .before .before .before .before .before .before .before .before .before .before .before .before .before .before .before .before .before .before .pre .1 .vertex-names)) (c .before .before .before .before .before .before .before .before .before .before .before .before .before .before .before .before .before .before .pre .1 .edge-names) (c .before .before .before .before .before .before .before .before .before .before .before .before .before .before .before .before .before .before .pre .2))
+returns c =
+    let at-start-seen = c .before .before .before .before in
+    let at-p = at-start-seen .before .before .before .before in
+    let at-pre = at-p .before .before .before .before .before .before .before .before .before .before in
+    behind-is _ _ _ _ _ _ _ _ _ _ (at-p .p .given .1)
+    (behind-start _ _ _ _ _ _ _ _ _ (at-start-seen .start-seen .ensures _) (c .before .before .with-name .ensures _ (at-pre .pre .1 .vertex-names))
+    (at-pre .pre .1 .edge-names) (at-pre .pre .2))
 
 returns-2 : tie.Need-returns-2
 unfolding pieceOf
-returns-2 c = behind-is _ _ _ _ _ _ _ _ _ _ (c .before .before .before .before .before .before .before .before .p2 .given .1) (c .before .before .before .before .link-passed .ensures _ (c .before .before .before .before .before .before .before .before .before .before .before .before .before .before .before .before .before .before .pre .2) .0)
+returns-2 c =
+    let at-link-passed = c .before .before .before .before in
+    let at-p2 = at-link-passed .before .before .before .before in
+    let at-pre = at-p2 .before .before .before .before .before .before .before .before .before .before in
+    behind-is _ _ _ _ _ _ _ _ _ _ (at-p2 .p2 .given .1) (at-link-passed .link-passed .ensures _ (at-pre .pre .2) .0)
 
 returns-3 : tie.Need-returns-3
 unfolding pieceOf
-returns-3 c = behind-is _ _ _ _ _ _ _ _ _ _ (c .before .before .before .before .before .before .before .before .p3 .given .1) (c .before .before .before .before .link-passed2 .ensures _ (c .before .before .before .before .before .before .before .before .before .before .before .before .before .before .before .before .before .before .pre .2) .1)
+returns-3 c =
+    let at-link-passed2 = c .before .before .before .before in
+    let at-p3 = at-link-passed2 .before .before .before .before in
+    let at-pre = at-p3 .before .before .before .before .before .before .before .before .before .before in
+    behind-is _ _ _ _ _ _ _ _ _ _ (at-p3 .p3 .given .1) (at-link-passed2 .link-passed2 .ensures _ (at-pre .pre .2) .1)
 
 returns-4 : tie.Need-returns-4
 unfolding pieceOf
-returns-4 c = behind-is _ _ _ _ _ _ _ _ _ _ (c .before .before .before .before .p4 .given .1) (behind-asks _ _ _ _ _ _ _ _ _ (c .differ-seen .ensures _) (c .before .before .before .before .before .before .before .before .before .before .before .before .before .before .pre .1 .vertex-names) (c .before .before .before .before .before .before .before .before .before .before .before .before .before .before .pre .1 .edge-names) (c .before .before .before .before .before .before .before .before .before .before .before .before .before .before .pre .2))
+returns-4 c =
+    let at-p4 = c .before .before .before .before in
+    let at-pre = at-p4 .before .before .before .before .before .before .before .before .before .before in
+    behind-is _ _ _ _ _ _ _ _ _ _ (at-p4 .p4 .given .1)
+    (behind-asks _ _ _ _ _ _ _ _ _ (c .differ-seen .ensures _) (at-pre .pre .1 .vertex-names) (at-pre .pre .1 .edge-names) (at-pre .pre .2))
 
 returns-5 : tie.Need-returns-5
 unfolding pieceOf
-returns-5 c = behind-is _ _ _ _ _ _ _ _ _ _ (c .before .before .before .before .p5 .given .1) (behind-asks _ _ _ _ _ _ _ _ _ (c .demand-seen .ensures) (c .before .before .before .before .before .before .before .before .before .before .before .before .before .before .pre .1 .vertex-names) (c .before .before .before .before .before .before .before .before .before .before .before .before .before .before .pre .1 .edge-names) (c .before .before .before .before .before .before .before .before .before .before .before .before .before .before .pre .2))
+returns-5 c =
+    let at-p5 = c .before .before .before .before in
+    let at-pre = at-p5 .before .before .before .before .before .before .before .before .before .before in
+    behind-is _ _ _ _ _ _ _ _ _ _ (at-p5 .p5 .given .1)
+    (behind-asks _ _ _ _ _ _ _ _ _ (c .demand-seen .ensures) (at-pre .pre .1 .vertex-names) (at-pre .pre .1 .edge-names) (at-pre .pre .2))
 
 returns-6 : tie.Need-returns-6
 unfolding pieceOf
-returns-6 c = behind-is _ _ _ _ _ _ _ _ _ _ (c .before .before .before .before .before .before .before .before .p6 .given .1) (behind-return _ _ _ _ _ _ _ _ _ (c .before .before .before .before .return-seen .ensures _) (c .before .before .before .before .before .before .before .before .before .before .before .before .before .before .before .before .before .before .pre .1 .vertex-names) (c .before .before .before .before .before .before .before .before .before .before .before .before .before .before .before .before .before .before .pre .1 .edge-names) (c .before .before .with-name2 .ensures _ (c .before .before .before .before .before .before .before .before .before .before .before .before .before .before .before .before .before .before .pre .2)))
+returns-6 c =
+    let at-return-seen = c .before .before .before .before in
+    let at-p6 = at-return-seen .before .before .before .before in
+    let at-pre = at-p6 .before .before .before .before .before .before .before .before .before .before in
+    behind-is _ _ _ _ _ _ _ _ _ _ (at-p6 .p6 .given .1)
+    (behind-return _ _ _ _ _ _ _ _ _ (at-return-seen .return-seen .ensures _) (at-pre .pre .1 .vertex-names) (at-pre .pre .1 .edge-names)
+    (c .before .before .with-name2 .ensures _ (at-pre .pre .2)))
 
 pub piece-passed-spec : {M : Type 1} → statement M
 piece-passed-spec =

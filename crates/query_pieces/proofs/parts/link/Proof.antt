@@ -113,7 +113,8 @@ returns-5 c =
 
 mark-next-requires-4 : tie.Need-mark-next-requires-4
 mark-next-requires-4 c κs =
-    let at-pre = c .before .before .before .before .before .before .before .before .before .before .before .before .before .before .before .before .before .before .before .before .before in
+    let at-before = c .before .before .before .before .before .before .before .before .before .before .before .before .before .before .before .before .before .before .before .before in
+    let at-pre = at-before .before in
     at-pre .pre
 
 returns-6 : tie.Need-returns-6

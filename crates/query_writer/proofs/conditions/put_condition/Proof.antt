@@ -9,46 +9,79 @@ use Rattle.query_writer.proofs.conditions.put_condition.Statement.{stat
 use Rattle.query_writer.proofs.conditions.put_condition.Tie as tie
 
 mul-put-exclusion : tie.Need-mul-put-exclusion
-mul-put-exclusion c = let f = subst (ConditionFits arrayLimits) (c .before .condition .given .1) (c .before .before .before .before .before .before .before .pre .0) in omega (arith, f .0)
+mul-put-exclusion c =
+    let at-pre = c .before .before .before .before .before .before .before in
+    let f = subst (ConditionFits arrayLimits) (c .before .condition .given .1) (at-pre .pre .0) in omega (arith, f .0)
 
 array-copy-out-put-exclusion : tie.Need-array-copy-out-put-exclusion
-array-copy-out-put-exclusion c = let f = subst (ConditionFits arrayLimits) (c .before .condition .given .1) (c .before .before .before .before .before .before .before .pre .0) in omega (arith, f .0)
+array-copy-out-put-exclusion c =
+    let at-pre = c .before .before .before .before .before .before .before in
+    let f = subst (ConditionFits arrayLimits) (c .before .condition .given .1) (at-pre .pre .0) in omega (arith, f .0)
 
 mul-put-exclusion-2 : tie.Need-mul-put-exclusion-2
-mul-put-exclusion-2 c = let f = subst (ConditionFits arrayLimits) (c .before .before .condition .given .1) (c .before .before .before .before .before .before .before .before .pre .0) in omega (arith, f .1)
+mul-put-exclusion-2 c =
+    let at-pre = c .before .before .before .before .before .before .before .before in
+    let f = subst (ConditionFits arrayLimits) (c .before .before .condition .given .1) (at-pre .pre .0) in omega (arith, f .1)
 
 array-copy-out-put-exclusion-2 : tie.Need-array-copy-out-put-exclusion-2
-array-copy-out-put-exclusion-2 c = let f = subst (ConditionFits arrayLimits) (c .before .before .condition .given .1) (c .before .before .before .before .before .before .before .before .pre .0) in omega (arith, f .1)
+array-copy-out-put-exclusion-2 c =
+    let at-pre = c .before .before .before .before .before .before .before .before in
+    let f = subst (ConditionFits arrayLimits) (c .before .before .condition .given .1) (at-pre .pre .0) in omega (arith, f .1)
 
 mul-put-requirement : tie.Need-mul-put-requirement
-mul-put-requirement c = let f = subst (ConditionFits arrayLimits) (c .before .condition2 .given .1) (c .before .before .before .before .before .before .before .pre .0) in omega (arith, f .0)
+mul-put-requirement c =
+    let at-pre = c .before .before .before .before .before .before .before in
+    let f = subst (ConditionFits arrayLimits) (c .before .condition2 .given .1) (at-pre .pre .0) in omega (arith, f .0)
 
 array-copy-out-put-requirement : tie.Need-array-copy-out-put-requirement
-array-copy-out-put-requirement c = let f = subst (ConditionFits arrayLimits) (c .before .condition2 .given .1) (c .before .before .before .before .before .before .before .pre .0) in omega (arith, f .0)
+array-copy-out-put-requirement c =
+    let at-pre = c .before .before .before .before .before .before .before in
+    let f = subst (ConditionFits arrayLimits) (c .before .condition2 .given .1) (at-pre .pre .0) in omega (arith, f .0)
 
 put-requirement-requires : tie.Need-put-requirement-requires
-put-requirement-requires c κs = let f = subst (ConditionFits arrayLimits) (c .before .before .before .condition2 .given .1) (c .before .before .before .before .before .before .before .before .before .pre .0) in omega (arith, f .1, c .before .before .before .before .before .before .before .before .before .pre .1)
+put-requirement-requires c κs =
+    let at-pre = c .before .before .before .before .before .before .before .before .before in
+    let f = subst (ConditionFits arrayLimits) (c .before .before .before .condition2 .given .1) (at-pre .pre .0) in omega (arith, f .1, at-pre .pre .1)
 
 mul-edge : tie.Need-mul-edge
-mul-edge c = let f = subst (ConditionFits arrayLimits) (c .before .condition3 .given .1) (c .before .before .before .before .before .before .before .pre .0) in omega (arith, f .0)
+mul-edge c =
+    let at-pre = c .before .before .before .before .before .before .before in
+    let f = subst (ConditionFits arrayLimits) (c .before .condition3 .given .1) (at-pre .pre .0) in omega (arith, f .0)
 
 array-copy-out-edge : tie.Need-array-copy-out-edge
-array-copy-out-edge c = let f = subst (ConditionFits arrayLimits) (c .before .condition3 .given .1) (c .before .before .before .before .before .before .before .pre .0) in omega (arith, f .0)
+array-copy-out-edge c =
+    let at-pre = c .before .before .before .before .before .before .before in
+    let f = subst (ConditionFits arrayLimits) (c .before .condition3 .given .1) (at-pre .pre .0) in omega (arith, f .0)
 
 put-requirement-requires-2 : tie.Need-put-requirement-requires-2
-put-requirement-requires-2 c κs = let f = subst (ConditionFits arrayLimits) (c .before .before .before .before .condition3 .given .1) (c .before .before .before .before .before .before .before .before .before .before .pre .0) in omega (arith, f .1, c .before .before .before .before .before .before .before .before .before .before .pre .1)
+put-requirement-requires-2 c κs =
+    let at-condition3 = c .before .before .before .before in
+    let at-pre = at-condition3 .before .before .before .before .before .before in
+    let f = subst (ConditionFits arrayLimits) (at-condition3 .condition3 .given .1) (at-pre .pre .0) in omega (arith, f .1, at-pre .pre .1)
 
 returns : tie.Need-returns
 unfolding vertexAt edgeAt conditionPiece
-returns c = let a = c .before .before .before .before .before .before .before .before .before .before .before .before .before .args in puts-same (sym (ap (λ x. conditionPiece (a .book .now) (a .words .now) (a .query .now) (a .t4) (a .t5) x) (c .before .before .before .before .before .before .before .condition .given .1))) (c .before .before .put-exclusion .ensures)
+returns c =
+    let at-condition = c .before .before .before .before .before .before .before in
+    let at-args = at-condition .before .before .before .before .before .before in
+    let a = at-args .args in puts-same (sym (ap (λ x. conditionPiece (a .book .now) (a .words .now) (a .query .now) (a .t4) (a .t5) x)
+    (at-condition .condition .given .1))) (c .before .before .put-exclusion .ensures)
 
 returns-2 : tie.Need-returns-2
 unfolding vertexAt edgeAt conditionPiece
-returns-2 c = let a = c .before .before .before .before .before .before .before .before .before .before .before .before .args in puts-same (sym (ap (λ x. conditionPiece (a .book .now) (a .words .now) (a .query .now) (a .t4) (a .t5) x) (c .before .before .before .before .before .before .condition2 .given .1))) (c .before .before .put-requirement .ensures)
+returns-2 c =
+    let at-condition2 = c .before .before .before .before .before .before in
+    let at-args = at-condition2 .before .before .before .before .before .before in
+    let a = at-args .args in puts-same (sym (ap (λ x. conditionPiece (a .book .now) (a .words .now) (a .query .now) (a .t4) (a .t5) x)
+    (at-condition2 .condition2 .given .1))) (c .before .before .put-requirement .ensures)
 
 returns-3 : tie.Need-returns-3
 unfolding vertexAt edgeAt conditionPiece
-returns-3 c = let a = c .before .before .before .before .before .before .before .before .before .before .before .before .before .args in puts-same (sym (ap (λ x. conditionPiece (a .book .now) (a .words .now) (a .query .now) (a .t4) (a .t5) x) (c .before .before .before .before .before .before .before .condition3 .given .1))) (c .before .before .put-requirement2 .ensures)
+returns-3 c =
+    let at-condition3 = c .before .before .before .before .before .before .before in
+    let at-args = at-condition3 .before .before .before .before .before .before in
+    let a = at-args .args in puts-same (sym (ap (λ x. conditionPiece (a .book .now) (a .words .now) (a .query .now) (a .t4) (a .t5) x)
+    (at-condition3 .condition3 .given .1))) (c .before .before .put-requirement2 .ensures)
 
 pub put-condition-spec : {M : Type 1} → statement M
 put-condition-spec =

@@ -7,7 +7,10 @@ use Rattle.query_writer.proofs.conditions.put_exclusion.Tie as tie
 
 returns : tie.Need-returns
 unfolding nameAt
-returns c = puts-then (puts-then (c .before .before .before .before .before .before .before .before .before .before .before .put-part .ensures) (c .before .before .before .before .before .before .put-bytes .ensures)) (c .before .before .put-part2 .ensures)
+returns c =
+    let at-put-bytes = c .before .before .before .before .before .before in
+    let at-put-part = at-put-bytes .before .before .before .before .before in
+    puts-then (puts-then (at-put-part .put-part .ensures) (at-put-bytes .put-bytes .ensures)) (c .before .before .put-part2 .ensures)
 
 pub put-exclusion-spec : {M : Type 1} → statement M
 put-exclusion-spec =

@@ -9,7 +9,17 @@ use Rattle.query_writer.proofs.conditions.put_requirement.Tie as tie
 
 returns : tie.Need-returns
 unfolding nameAt demandText requirementPiece
-returns c = puts-then (puts-then (puts-then (puts-then (puts-then (puts-then (c .before .before .before .before .before .before .before .before .before .before .before .before .before .before .before .before .before .before .before .before .before .before .before .before .before .before .before .before .before .put-part .ensures) (c .before .before .before .before .before .before .before .before .before .before .before .before .before .before .before .before .before .before .before .before .before .before .before .before .put-bytes .ensures)) (c .before .before .before .before .before .before .before .before .before .before .before .before .before .before .before .before .before .before .before .before .put-declared .ensures)) (c .before .before .before .before .before .before .before .before .before .before .before .before .before .before .before .put-bytes2 .ensures)) (c .before .before .before .before .before .before .before .before .before .before .before .put-relation .ensures)) (c .before .before .before .before .before .before .put-bytes3 .ensures)) (c .before .before .put-value .ensures)
+returns c =
+    let at-put-bytes3 = c .before .before .before .before .before .before in
+    let at-put-relation = at-put-bytes3 .before .before .before .before .before in
+    let at-put-bytes2 = at-put-relation .before .before .before .before in
+    let at-put-declared = at-put-bytes2 .before .before .before .before .before in
+    let at-put-bytes = at-put-declared .before .before .before .before in
+    let at-put-part = at-put-bytes .before .before .before .before .before in
+    puts-then (puts-then (puts-then (puts-then
+    (puts-then (puts-then (at-put-part .put-part .ensures) (at-put-bytes .put-bytes .ensures)) (at-put-declared .put-declared .ensures))
+    (at-put-bytes2 .put-bytes2 .ensures)) (at-put-relation .put-relation .ensures)) (at-put-bytes3 .put-bytes3 .ensures))
+    (c .before .before .put-value .ensures)
 
 pub put-requirement-spec : {M : Type 1} → statement M
 put-requirement-spec =

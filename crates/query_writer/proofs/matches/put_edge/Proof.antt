@@ -8,14 +8,42 @@ use Rattle.query_writer.proofs.matches.put_edge.Statement.{statement}
 use Rattle.query_writer.proofs.matches.put_edge.Tie as tie
 
 put-declared-requires : tie.Need-put-declared-requires
-put-declared-requires c κs = omega (arith, c .before .before .before .before .before .before .before .before .before .before .before .before .before .before .before .before .before .before .before .before .before .before .before .before .before .before .before .before .before .before .before .pre .0 .label, c .before .before .before .before .before .before .before .before .before .before .before .before .before .before .before .before .before .before .before .before .before .before .before .before .before .before .before .before .before .before .before .pre .1)
+put-declared-requires c κs =
+    let at-pre = c .before .before .before .before .before .before .before .before .before .before .before .before .before .before .before .before .before .before .before .before .before .before .before .before .before .before .before .before .before .before .before in
+    omega (arith, at-pre .pre .0 .label, at-pre .pre .1)
 
 same-length : tie.Need-same-length
-same-length c = puts-keeps-length (puts-then (puts-then (puts-then (puts-then (puts-then (puts-then (puts-then (puts-then (c .before .before .before .before .before .before .before .before .before .before .before .before .before .before .before .before .before .before .before .before .before .before .before .before .before .before .before .before .before .before .before .before .before .before .before .before .before .before .put-bytes .ensures) (c .before .before .before .before .before .before .before .before .before .before .before .before .before .before .before .before .before .before .before .before .before .before .before .before .before .before .before .before .before .before .before .before .before .before .put-part .ensures)) (c .before .before .before .before .before .before .before .before .before .before .before .before .before .before .before .before .before .before .before .before .before .before .before .before .before .before .before .before .before .put-bytes2 .ensures)) (c .before .before .before .before .before .before .before .before .before .before .before .before .before .before .before .before .before .before .before .before .before .before .before .before .before .put-part2 .ensures)) (c .before .before .before .before .before .before .before .before .before .before .before .before .before .before .before .before .before .before .before .before .put-bytes3 .ensures)) (c .before .before .before .before .before .before .before .before .before .before .before .before .before .before .before .before .put-declared .ensures)) (c .before .before .before .before .before .before .before .before .before .before .before .put-bytes4 .ensures)) (c .before .before .before .before .before .before .before .put-part3 .ensures)) (c .before .before .put-bytes5 .ensures))
+same-length c =
+    let at-put-part3 = c .before .before .before .before .before .before .before in
+    let at-put-bytes4 = at-put-part3 .before .before .before .before in
+    let at-put-declared = at-put-bytes4 .before .before .before .before .before in
+    let at-put-bytes3 = at-put-declared .before .before .before .before in
+    let at-put-part2 = at-put-bytes3 .before .before .before .before .before in
+    let at-put-bytes2 = at-put-part2 .before .before .before .before in
+    let at-put-part = at-put-bytes2 .before .before .before .before .before in
+    let at-put-bytes = at-put-part .before .before .before .before in
+    puts-keeps-length (puts-then (puts-then (puts-then
+    (puts-then (puts-then (puts-then (puts-then (puts-then (at-put-bytes .put-bytes .ensures) (at-put-part .put-part .ensures))
+    (at-put-bytes2 .put-bytes2 .ensures)) (at-put-part2 .put-part2 .ensures)) (at-put-bytes3 .put-bytes3 .ensures))
+    (at-put-declared .put-declared .ensures)) (at-put-bytes4 .put-bytes4 .ensures)) (at-put-part3 .put-part3 .ensures))
+    (c .before .before .put-bytes5 .ensures))
 
 returns : tie.Need-returns
 unfolding nameAt vertexAt edgePiece
-returns c = puts-then (puts-then (puts-then (puts-then (puts-then (puts-then (puts-then (puts-then (c .before .before .before .before .before .before .before .before .before .before .before .before .before .before .before .before .before .before .before .before .before .before .before .before .before .before .before .before .before .before .before .before .before .before .before .before .before .before .put-bytes .ensures) (c .before .before .before .before .before .before .before .before .before .before .before .before .before .before .before .before .before .before .before .before .before .before .before .before .before .before .before .before .before .before .before .before .before .before .put-part .ensures)) (c .before .before .before .before .before .before .before .before .before .before .before .before .before .before .before .before .before .before .before .before .before .before .before .before .before .before .before .before .before .put-bytes2 .ensures)) (c .before .before .before .before .before .before .before .before .before .before .before .before .before .before .before .before .before .before .before .before .before .before .before .before .before .put-part2 .ensures)) (c .before .before .before .before .before .before .before .before .before .before .before .before .before .before .before .before .before .before .before .before .put-bytes3 .ensures)) (c .before .before .before .before .before .before .before .before .before .before .before .before .before .before .before .before .put-declared .ensures)) (c .before .before .before .before .before .before .before .before .before .before .before .put-bytes4 .ensures)) (c .before .before .before .before .before .before .before .put-part3 .ensures)) (c .before .before .put-bytes5 .ensures)
+returns c =
+    let at-put-part3 = c .before .before .before .before .before .before .before in
+    let at-put-bytes4 = at-put-part3 .before .before .before .before in
+    let at-put-declared = at-put-bytes4 .before .before .before .before .before in
+    let at-put-bytes3 = at-put-declared .before .before .before .before in
+    let at-put-part2 = at-put-bytes3 .before .before .before .before .before in
+    let at-put-bytes2 = at-put-part2 .before .before .before .before in
+    let at-put-part = at-put-bytes2 .before .before .before .before .before in
+    let at-put-bytes = at-put-part .before .before .before .before in
+    puts-then (puts-then (puts-then (puts-then
+    (puts-then (puts-then (puts-then (puts-then (at-put-bytes .put-bytes .ensures) (at-put-part .put-part .ensures))
+    (at-put-bytes2 .put-bytes2 .ensures)) (at-put-part2 .put-part2 .ensures)) (at-put-bytes3 .put-bytes3 .ensures))
+    (at-put-declared .put-declared .ensures)) (at-put-bytes4 .put-bytes4 .ensures)) (at-put-part3 .put-part3 .ensures))
+    (c .before .before .put-bytes5 .ensures)
 
 pub put-edge-spec : {M : Type 1} → statement M
 put-edge-spec =

@@ -25,19 +25,30 @@ unfolding edgesText
 loop-holds c = let a = c .before .before .before .before .args in (omega arith, puts-none (bytesOf " ") (bytesOf " ") (a .out .now) (a .at))
 
 put-edge-requires : tie.Need-put-edge-requires Inv-loop μ-loop
-put-edge-requires c κs = (c .before .before .before .before .before .before .before .before .pre .0 .each (c .before .before .before .loop .i) (omega arith), c .before .before .before .before .before .before .before .before .pre .1)
+put-edge-requires c κs =
+    let at-pre = c .before .before .before .before .before .before .before .before in
+    (at-pre .pre .0 .each (c .before .before .before .loop .i) (omega arith), at-pre .pre .1)
 
 loop-again : tie.Need-loop-again Inv-loop μ-loop
 unfolding edgesText
 loop-again c = let a = c .before .before .before .before .before .before .before .before .before .before .before .args in
-    let all : length (a .t5) ≡ 16 = search needs in
-    (omega arith, puts-one-more (bytesOf " ") (bytesOf " ") (edgePiece (a .book .now) (a .words .now) (a .query .now) (a .vertices)) (a .t5) noEdge (c .before .before .before .before .before .before .loop .i) (omega arith) (c .before .before .before .before .before .before .loop .inv .1) (puts-same (ap (λ s. s ++ edgePiece (a .book .now) (a .words .now) (a .query .now) (a .vertices) (getD (a .t5) (c .before .before .before .before .before .before .loop .i) noEdge)) (sym (before-all (bytesOf " ") (c .before .before .before .before .before .before .loop .i)))) (c .before .before .put-edge .ensures)))
+    let all : length (a .t5) ≡ 16 = search needs in (
+      omega arith,
+      puts-one-more (bytesOf " ") (bytesOf " ") (edgePiece (a .book .now) (a .words .now) (a .query .now) (a .vertices)) (a .t5) noEdge
+          (c .before .before .before .before .before .before .loop .i) (omega arith) (c .before .before .before .before .before .before .loop .inv .1)
+          (puts-same (ap (λ s. s ++ edgePiece (a .book .now) (a .words .now) (a .query .now) (a .vertices)
+          (getD (a .t5) (c .before .before .before .before .before .before .loop .i) noEdge))
+          (sym (before-all (bytesOf " ") (c .before .before .before .before .before .before .loop .i)))) (c .before .before .put-edge .ensures)),
+    )
 
 same-length : tie.Need-same-length Inv-loop μ-loop
 same-length c = puts-keeps-length (c .before .loop .inv .1)
 
 returns : tie.Need-returns Inv-loop μ-loop
-returns c = let a = c .before .before .before .before .before .before .args in let e : c .before .loop .i ≡ a .count = omega arith in puts-same (ap (λ n. edgesText (a .book .now) (a .words .now) (a .query .now) (a .vertices) (a .t5) n) e) (c .before .loop .inv .1)
+returns c =
+    let at-args = c .before .before .before .before .before .before in
+    let a = at-args .args in let e : c .before .loop .i ≡ a .count = omega arith in
+    puts-same (ap (λ n. edgesText (a .book .now) (a .words .now) (a .query .now) (a .vertices) (a .t5) n) e) (c .before .loop .inv .1)
 
 pub put-edges-spec : {M : Type 1} → statement M
 put-edges-spec =

@@ -8,7 +8,12 @@ use Rattle.query_writer.proofs.matches.put_vertex.Tie as tie
 
 returns : tie.Need-returns
 unfolding nameAt vertexPiece
-returns c = puts-then (c .before .before .before .before .before .before .before .before .before .before .before .before .before .before .before .before .put-before .ensures) (puts-then (puts-then (c .before .before .before .before .before .before .before .before .before .before .before .put-bytes .ensures) (c .before .before .before .before .before .before .before .put-part .ensures)) (c .before .before .put-bytes2 .ensures))
+returns c =
+    let at-put-part = c .before .before .before .before .before .before .before in
+    let at-put-bytes = at-put-part .before .before .before .before in
+    let at-put-before = at-put-bytes .before .before .before .before .before in
+    puts-then (at-put-before .put-before .ensures)
+    (puts-then (puts-then (at-put-bytes .put-bytes .ensures) (at-put-part .put-part .ensures)) (c .before .before .put-bytes2 .ensures))
 
 pub put-vertex-spec : {M : Type 1} → statement M
 put-vertex-spec =

@@ -27,14 +27,20 @@ loop-holds c = let a = c .before .before .args in (omega arith, puts-none [] (by
 loop-again : tie.Need-loop-again Inv-loop μ-loop
 unfolding verticesText
 loop-again c = let a = c .before .before .before .before .before .before .before .before .before .args in
-    let all : length (a .t2) ≡ 8 = search needs in
-    (omega arith, puts-one-more [] (bytesOf " ") (vertexPiece (a .query .now)) (a .t2) noPart (c .before .before .before .before .before .before .loop .i) (omega arith) (c .before .before .before .before .before .before .loop .inv .1) (c .before .before .put-vertex .ensures))
+    let all : length (a .t2) ≡ 8 = search needs in (
+      omega arith,
+      puts-one-more [] (bytesOf " ") (vertexPiece (a .query .now)) (a .t2) noPart (c .before .before .before .before .before .before .loop .i)
+          (omega arith) (c .before .before .before .before .before .before .loop .inv .1) (c .before .before .put-vertex .ensures),
+    )
 
 same-length : tie.Need-same-length Inv-loop μ-loop
 same-length c = puts-keeps-length (c .before .loop .inv .1)
 
 returns : tie.Need-returns Inv-loop μ-loop
-returns c = let a = c .before .before .before .before .args in let e : c .before .loop .i ≡ a .count = omega arith in puts-same (ap (λ n. verticesText (a .query .now) (a .t2) n) e) (c .before .loop .inv .1)
+returns c =
+    let at-args = c .before .before .before .before in
+    let a = at-args .args in let e : c .before .loop .i ≡ a .count = omega arith in
+    puts-same (ap (λ n. verticesText (a .query .now) (a .t2) n) e) (c .before .loop .inv .1)
 
 pub put-vertices-spec : {M : Type 1} → statement M
 put-vertices-spec =

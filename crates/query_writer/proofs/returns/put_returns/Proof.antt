@@ -32,14 +32,20 @@ array-copy-out-name c = omega (arith, c .before .before .before .before .pre .ea
 loop-again : tie.Need-loop-again Inv-loop μ-loop
 unfolding vertexAt returnsText
 loop-again c = let a = c .before .before .before .before .before .before .before .before .before .args in
-    let all : length (a .t3) ≡ 4 = search needs in
-    (omega arith, puts-one-more [] (bytesOf ", ") (vertexAt (a .query .now) (a .t2)) (a .t3) 0 (c .before .before .before .before .before .before .loop .i) (omega arith) (c .before .before .before .before .before .before .loop .inv .1) (c .before .before .put-return .ensures))
+    let all : length (a .t3) ≡ 4 = search needs in (
+      omega arith,
+      puts-one-more [] (bytesOf ", ") (vertexAt (a .query .now) (a .t2)) (a .t3) 0 (c .before .before .before .before .before .before .loop .i)
+          (omega arith) (c .before .before .before .before .before .before .loop .inv .1) (c .before .before .put-return .ensures),
+    )
 
 same-length : tie.Need-same-length Inv-loop μ-loop
 same-length c = puts-keeps-length (c .before .loop .inv .1)
 
 returns : tie.Need-returns Inv-loop μ-loop
-returns c = let a = c .before .before .before .before .args in let e : c .before .loop .i ≡ a .count = omega arith in puts-same (ap (λ n. returnsText (a .query .now) (a .t2) (a .t3) n) e) (c .before .loop .inv .1)
+returns c =
+    let at-args = c .before .before .before .before in
+    let a = at-args .args in let e : c .before .loop .i ≡ a .count = omega arith in
+    puts-same (ap (λ n. returnsText (a .query .now) (a .t2) (a .t3) n) e) (c .before .loop .inv .1)
 
 pub put-returns-spec : {M : Type 1} → statement M
 put-returns-spec =

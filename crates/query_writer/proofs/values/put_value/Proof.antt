@@ -6,13 +6,22 @@ use Rattle.query_writer.proofs.values.put_value.Statement.{statement}
 use Rattle.query_writer.proofs.values.put_value.Tie as tie
 
 returns : tie.Need-returns
-returns c = puts-same (number-value (c .before .before .before .before .before .before .before .before .before .args .query .now) (c .before .before .before .before .before .before .before .before .before .args .value) _ (c .before .before .before .before .before .value .given .1)) (c .before .before .put-whole .ensures)
+returns c =
+    let at-value = c .before .before .before .before .before in
+    let at-args = at-value .before .before .before .before in
+    puts-same (number-value (at-args .args .query .now) (at-args .args .value) _ (at-value .value .given .1)) (c .before .before .put-whole .ensures)
 
 returns-2 : tie.Need-returns-2
-returns-2 c = puts-same (text-value (c .before .before .before .before .before .before .before .before .before .args .query .now) (c .before .before .before .before .before .before .before .before .before .args .value) _ _ (c .before .before .before .before .before .value2 .given .1)) (c .before .before .put-quoted .ensures)
+returns-2 c =
+    let at-value2 = c .before .before .before .before .before in
+    let at-args = at-value2 .before .before .before .before in
+    puts-same (text-value (at-args .args .query .now) (at-args .args .value) _ _ (at-value2 .value2 .given .1)) (c .before .before .put-quoted .ensures)
 
 returns-3 : tie.Need-returns-3
-returns-3 c = puts-same (truth-value (c .before .before .before .before .before .before .before .before .before .args .query .now) (c .before .before .before .before .before .before .before .before .before .args .value) _ (c .before .before .before .before .before .value3 .given .1)) (c .before .before .put-truth .ensures)
+returns-3 c =
+    let at-value3 = c .before .before .before .before .before in
+    let at-args = at-value3 .before .before .before .before in
+    puts-same (truth-value (at-args .args .query .now) (at-args .args .value) _ (at-value3 .value3 .given .1)) (c .before .before .put-truth .ensures)
 
 pub put-value-spec : {M : Type 1} → statement M
 put-value-spec =

@@ -19,4 +19,5 @@ returns-4 : tie.Need-returns-4
 returns-4 c = name-by-first (c .before .before .before .before .before .before .args .w .now) (sym (c .before .begins-one-of-six .ensures) ∙ c .if3 .left)
 
 pub is-name-spec : {M : Type 1} → statement M
-is-name-spec = tie.close (tie.spec returns returns-2 shared-slice-read-begins-one-of-six (λ c κs. search needs) (λ c κs. search needs) (λ c. search needs) returns-4)
+is-name-spec = tie.close (tie.spec returns returns-2 shared-slice-read-begins-one-of-six (λ c κs. search needs) (λ c κs. search needs)
+    (λ c. search needs) returns-4)

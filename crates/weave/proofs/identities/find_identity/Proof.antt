@@ -15,7 +15,8 @@ use Rattle.weave.proofs.identities.find_identity.Statement.{statement}
 use Rattle.weave.proofs.identities.find_identity.Tie as tie
 
 abbrev Inv-loop : tie.InvT-loop
-Inv-loop query rules request count word identities i₀ i = (i ≤ count) × ((j : ℕ) → j < i → identifiedBy (vertexOfWord query rules word) (identityIn request (getD identities j noIdentity)) ≡ false)
+Inv-loop query rules request count word identities i₀ i = (i ≤ count)
+    × ((j : ℕ) → j < i → identifiedBy (vertexOfWord query rules word) (identityIn request (getD identities j noIdentity)) ≡ false)
 
 abbrev μ-loop : tie.MeasureT-loop
 μ-loop query rules request count word identities i₀ i = count - i
@@ -24,25 +25,41 @@ loop-holds : tie.Need-loop-holds Inv-loop μ-loop
 loop-holds c = (omega arith, λ j h. absurd (omega arith))
 
 cast-result : tie.Need-cast-result Inv-loop μ-loop
-cast-result c = let f = c .before .before .before .before .before .before .before .before .before .before .before .before .pre .nodes (c .before .before .before .before .before .before .before .loop .i) (omega arith) in omega arith
+cast-result c =
+    let at-loop = c .before .before .before .before .before .before .before in
+    let at-pre = at-loop .before .before .before .before .before in
+    let f = at-pre .pre .nodes (at-loop .loop .i) (omega arith) in omega arith
 
 returns : tie.Need-returns Inv-loop μ-loop
 returns c =
     let a = c .before .before .before .before .before .before .before .before .before .before .before .before .args in
     let all : length (a .t4) ≡ 8 = search needs in
     let few = c .before .before .before .before .before .before .before .before .before .before .before .before .pre .few in
-    node-said _ (c .before .before .before .before .before .before .before .before .before .before .before .before .pre .nodes (c .before .before .before .before .before .before .before .loop .i) (omega arith)) ∙ sym (found-in (a .request .now) (a .t4) (a .count) (omega arith) (vertexOfWord (a .query .now) (a .rules .now) (a .word)) (c .before .before .before .before .before .before .before .loop .i) (c .before .before .before .before .before .before .loop-test .taken) (c .before .before .before .before .before .before .before .loop .inv .1)
-    (compared (a .query .now) (a .rules .now) (a .request .now) (a .word) (getD (a .t4) (c .before .before .before .before .before .before .before .loop .i) noIdentity) (c .before .before .before .part .result .now) (c .before .before .says .result) (c .before .before .before .before .before .before .before .before .if1 .taken) (c .before .before .before .part .ensures) (c .before .before .says .ensures) ∙ c .before .if2 .taken))
+    node-said _ (c .before .before .before .before .before .before .before .before .before .before .before .before .pre .nodes
+    (c .before .before .before .before .before .before .before .loop .i) (omega arith))
+    ∙ sym (found-in (a .request .now) (a .t4) (a .count) (omega arith) (vertexOfWord (a .query .now) (a .rules .now) (a .word))
+    (c .before .before .before .before .before .before .before .loop .i) (c .before .before .before .before .before .before .loop-test .taken)
+    (c .before .before .before .before .before .before .before .loop .inv .1)
+    (compared (a .query .now) (a .rules .now) (a .request .now) (a .word)
+    (getD (a .t4) (c .before .before .before .before .before .before .before .loop .i) noIdentity) (c .before .before .before .part .result .now)
+    (c .before .before .says .result) (c .before .before .before .before .before .before .before .before .if1 .taken)
+    (c .before .before .before .part .ensures) (c .before .before .says .ensures) ∙ c .before .if2 .taken))
 
 loop-again : tie.Need-loop-again Inv-loop μ-loop
 loop-again c =
-    let a = c .before .before .before .before .before .before .before .before .before .before .before .args in
-    let own : identifiedBy (vertexOfWord (a .query .now) (a .rules .now) (a .word)) (identityIn (a .request .now) (getD (a .t4) (c .before .before .before .before .before .before .loop .i) noIdentity)) ≡ false =
-    compared (a .query .now) (a .rules .now) (a .request .now) (a .word) (getD (a .t4) (c .before .before .before .before .before .before .loop .i) noIdentity) (c .before .before .part .result .now) (c .before .says .result) (c .before .before .before .before .before .before .before .if1 .taken) (c .before .before .part .ensures) (c .before .says .ensures) ∙ c .if2 .left in (
+    let at-loop = c .before .before .before .before .before .before in
+    let at-if1 = at-loop .before in
+    let at-args = at-if1 .before .before .before .before in
+    let a = at-args .args in
+    let own : identifiedBy (vertexOfWord (a .query .now) (a .rules .now) (a .word)) (identityIn (a .request .now) (getD (a .t4) (at-loop .loop .i) noIdentity)) ≡ false =
+    compared (a .query .now) (a .rules .now) (a .request .now) (a .word) (getD (a .t4) (at-loop .loop .i) noIdentity)
+    (c .before .before .part .result .now) (c .before .says .result) (at-if1 .if1 .taken) (c .before .before .part .ensures) (c .before .says .ensures)
+    ∙ c .if2 .left in (
       omega arith,
-      λ j h. either (equal-or-not j (c .before .before .before .before .before .before .loop .i))
-          (λ e. subst (λ z. identifiedBy (vertexOfWord (a .query .now) (a .rules .now) (a .word)) (identityIn (a .request .now) (getD (a .t4) z noIdentity)) ≡ false) (sym e) own)
-          (λ e. let d = e .1 in c .before .before .before .before .before .before .loop .inv .1 j (omega arith)),
+      λ j h. either (equal-or-not j (at-loop .loop .i))
+          (λ e. subst (λ z. identifiedBy (vertexOfWord (a .query .now) (a .rules .now) (a .word))
+          (identityIn (a .request .now) (getD (a .t4) z noIdentity)) ≡ false) (sym e) own)
+          (λ e. let d = e .1 in at-loop .loop .inv .1 j (omega arith)),
     )
 
 returns-2 : tie.Need-returns-2 Inv-loop μ-loop
@@ -51,7 +68,8 @@ returns-2 c =
     let a = c .before .before .before .before .before .before .args in
     let all : length (a .t4) ≡ 8 = search needs in
     let few = c .before .before .before .before .before .before .pre .few in
-    sym (none-in (a .request .now) (a .t4) (a .count) (omega arith) (vertexOfWord (a .query .now) (a .rules .now) (a .word)) (λ j h. c .before .loop .inv .1 j (omega arith)))
+    sym (none-in (a .request .now) (a .t4) (a .count) (omega arith) (vertexOfWord (a .query .now) (a .rules .now) (a .word))
+    (λ j h. c .before .loop .inv .1 j (omega arith)))
 
 returns-3 : tie.Need-returns-3 Inv-loop μ-loop
 unfolding nodeIn

@@ -9,26 +9,38 @@ use Rattle.weave.proofs.identities.give_identities.Statement.{statement
 use Rattle.weave.proofs.identities.give_identities.Tie as tie
 
 abbrev Inv-loop : tie.InvT-loop
-Inv-loop query rules request identities count words₀ n mask₀ v₀ words mask v = (v ≤ n) × GivenSoFar query rules (identitiesIn request identities count) words₀ words v mask
+Inv-loop query rules request identities count words₀ n mask₀ v₀ words mask v = (v ≤ n)
+    × GivenSoFar query rules (identitiesIn request identities count) words₀ words v mask
 
 abbrev μ-loop : tie.MeasureT-loop
 μ-loop query rules request identities count words₀ n mask₀ v₀ words mask v = n - v
 
 loop-holds : tie.Need-loop-holds Inv-loop μ-loop
-loop-holds c = (omega arith, given-start (c .before .before .before .before .args .query .now) (c .before .before .before .before .args .rules .now) _ (c .before .before .before .before .args .words .now))
+loop-holds c =
+    let at-args = c .before .before .before .before in
+    (omega arith, given-start (at-args .args .query .now) (at-args .args .rules .now) _ (at-args .args .words .now))
 
 slice-read-find-identity : tie.Need-slice-read-find-identity Inv-loop μ-loop
-slice-read-find-identity c = omega (arith, c .before .before .loop .inv .1 .size, c .before .before .before .before .before .before .before .pre .1, c .before .before .before .before .before .before .before .pre .2)
+slice-read-find-identity c =
+    let at-pre = c .before .before .before .before .before .before .before in
+    omega (arith, c .before .before .loop .inv .1 .size, at-pre .pre .1, at-pre .pre .2)
 
 slice-write-words : tie.Need-slice-write-words Inv-loop μ-loop
-slice-write-words c = omega (arith, c .before .before .before .loop .inv .1 .size, c .before .before .before .before .before .before .before .before .pre .1, c .before .before .before .before .before .before .before .before .pre .2)
+slice-write-words c =
+    let at-pre = c .before .before .before .before .before .before .before .before in
+    omega (arith, c .before .before .before .loop .inv .1 .size, at-pre .pre .1, at-pre .pre .2)
 
 loop-again : tie.Need-loop-again Inv-loop μ-loop
 loop-again c =
-    let a = c .before .before .before .before .before .before .before .before .before .args in (
+    let at-loop = c .before .before .before .before in
+    let at-pre = at-loop .before .before .before .before .before in
+    let a = at-pre .args in (
       omega arith,
-      subst (GivenSoFar (a .query .now) (a .rules .now) (identitiesIn (a .request .now) (a .identities) (a .count)) (a .words .now) _ (c .before .before .before .before .loop .v + 1)) (sym (c .mark-if .ensures))
-          (given-more (a .query .now) (a .rules .now) (identitiesIn (a .request .now) (a .identities) (a .count)) (a .words .now) (c .before .before .before .before .loop .words) (c .before .before .before .before .loop .v) (c .before .before .before .before .loop .mask) (c .before .find-identity .result) (c .before .before .before .before .loop .inv .1) (omega (arith, c .before .before .before .before .before .before .before .before .before .pre .1)) (omega (arith, c .before .before .before .before .loop .inv .1 .size, c .before .before .before .before .before .before .before .before .before .pre .2)) (c .before .find-identity .ensures)),
+      subst (GivenSoFar (a .query .now) (a .rules .now) (identitiesIn (a .request .now) (a .identities) (a .count)) (a .words .now) _
+          (at-loop .loop .v + 1)) (sym (c .mark-if .ensures))
+          (given-more (a .query .now) (a .rules .now) (identitiesIn (a .request .now) (a .identities) (a .count)) (a .words .now) (at-loop .loop .words)
+          (at-loop .loop .v) (at-loop .loop .mask) (c .before .find-identity .result) (at-loop .loop .inv .1) (omega (arith, at-pre .pre .1))
+          (omega (arith, at-loop .loop .inv .1 .size, at-pre .pre .2)) (c .before .find-identity .ensures)),
     )
 
 same-length : tie.Need-same-length Inv-loop μ-loop
@@ -36,9 +48,11 @@ same-length c = c .before .loop .inv .1 .size
 
 returns : tie.Need-returns Inv-loop μ-loop
 returns c =
-    let a = c .before .before .before .before .before .before .args in
+    let at-args = c .before .before .before .before .before .before in
+    let a = at-args .args in
     let e : c .before .loop .v ≡ a .n = omega arith in
-    subst (λ n. IdentitiesGiven (a .query .now) (a .rules .now) (identitiesIn (a .request .now) (a .identities) (a .count)) (a .words .now) (c .before .loop .words) n (c .before .loop .mask)) e (c .before .loop .inv .1 .given)
+    subst (λ n. IdentitiesGiven (a .query .now) (a .rules .now) (identitiesIn (a .request .now) (a .identities) (a .count)) (a .words .now)
+    (c .before .loop .words) n (c .before .loop .mask)) e (c .before .loop .inv .1 .given)
 
 pub give-identities-spec : {M : Type 1} → statement M
 give-identities-spec =

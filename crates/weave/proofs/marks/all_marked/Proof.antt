@@ -20,10 +20,19 @@ loop-holds : tie.Need-loop-holds Inv-loop μ-loop
 loop-holds c = (omega arith, λ i h. absurd (omega arith))
 
 loop-again : tie.Need-loop-again Inv-loop μ-loop
-loop-again c = (omega arith, λ i h. either (equal-or-not i (c .before .before .before .loop .v)) (λ e. subst (λ z. bit (c .before .before .before .before .args .marks) z ≡ true) (sym e) (sym (c .before .has .ensures) ∙ c .if1 .taken)) (λ e. let d = e .1 in c .before .before .before .loop .inv .1 i (omega arith)))
+loop-again c =
+    let at-args = c .before .before .before .before in (
+      omega arith,
+      λ i h. either (equal-or-not i (c .before .before .before .loop .v))
+          (λ e. subst (λ z. bit (at-args .args .marks) z ≡ true) (sym e) (sym (c .before .has .ensures) ∙ c .if1 .taken))
+          (λ e. let d = e .1 in c .before .before .before .loop .inv .1 i (omega arith)),
+    )
 
 returns : tie.Need-returns Inv-loop μ-loop
-returns c = sym (not-all-marks (c .before .before .before .before .args .marks) (c .before .before .before .before .args .n) (c .before .before .before .loop .v) (c .before .before .loop-test .taken) (sym (c .before .has .ensures) ∙ c .if1 .left))
+returns c =
+    let at-args = c .before .before .before .before in
+    sym (not-all-marks (at-args .args .marks) (at-args .args .n) (c .before .before .before .loop .v) (c .before .before .loop-test .taken)
+    (sym (c .before .has .ensures) ∙ c .if1 .left))
 
 returns-2 : tie.Need-returns-2 Inv-loop μ-loop
 returns-2 c = sym (all-marks (c .before .before .args .marks) (c .before .before .args .n) (c .before .loop .v) (c .before .loop .inv .1) (c .loop-test .left))

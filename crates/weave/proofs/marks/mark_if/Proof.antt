@@ -7,7 +7,9 @@ use Rattle.weave.proofs.marks.mark_if.Statement.{statement}
 use Rattle.weave.proofs.marks.mark_if.Tie as tie
 
 returns : tie.Need-returns
-returns c = c .with .ensures ∙ ap (λ t. pick t (with (c .before .before .args .marks) (c .before .before .args .v)) (c .before .before .args .marks)) (sym (c .before .if1 .taken))
+returns c =
+    let at-args = c .before .before in
+    c .with .ensures ∙ ap (λ t. pick t (with (at-args .args .marks) (at-args .args .v)) (at-args .args .marks)) (sym (c .before .if1 .taken))
 
 returns-2 : tie.Need-returns-2
 returns-2 c = ap (λ t. pick t (with (c .before .args .marks) (c .before .args .v)) (c .before .args .marks)) (sym (c .if1 .left))

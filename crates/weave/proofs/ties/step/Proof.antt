@@ -30,25 +30,37 @@ mark-if-requires : tie.Need-mark-if-requires Inv-loop μ-loop
 mark-if-requires c κs = let l = c .before .before .before .before .before .pre .2 (c .before .before .before .loop .i) (omega arith) in omega (arith, l .0)
 
 has-requires-2 : tie.Need-has-requires-2 Inv-loop μ-loop
-has-requires-2 c κs = let l = c .before .before .before .before .before .before .pre .2 (c .before .before .before .before .loop .i) (omega arith) in omega (arith, l .0)
+has-requires-2 c κs =
+    let at-loop = c .before .before .before .before in
+    let at-pre = at-loop .before .before in
+    let l = at-pre .pre .2 (at-loop .loop .i) (omega arith) in omega (arith, l .0)
 
 mark-if-requires-2 : tie.Need-mark-if-requires-2 Inv-loop μ-loop
-mark-if-requires-2 c κs = let l = c .before .before .before .before .before .before .before .pre .2 (c .before .before .before .before .before .loop .i) (omega arith) in omega (arith, l .1)
+mark-if-requires-2 c κs =
+    let at-loop = c .before .before .before .before .before in
+    let at-pre = at-loop .before .before in
+    let l = at-pre .pre .2 (at-loop .loop .i) (omega arith) in omega (arith, l .1)
 
 loop-again : tie.Need-loop-again Inv-loop μ-loop
 loop-again c =
-    let words = c .before .before .before .before .before .before .before .before .args .words .now in
-    let w = getD (c .before .before .before .before .before .before .before .before .args .words .now) (24 + c .before .before .before .before .before .before .loop .i) 0 in (
+    let at-mark-if = c .before .before in
+    let at-loop = at-mark-if .before .before .before .before in
+    let at-args = at-loop .before .before in
+    let words = at-args .args .words .now in
+    let w = getD (at-args .args .words .now) (24 + at-loop .loop .i) 0 in (
       omega arith,
-      stepped-more (c .before .before .before .before .before .before .before .before .args .words .now) (c .before .before .before .before .before .before .loop .i) (c .before .before .before .before .before .before .before .before .args .mask) (c .before .before .before .before .before .before .loop .next) (c .before .before .mark-if .result) (c .mark-if2 .result) w (c .before .before .before .before .before .before .loop .inv .1) refl
-          (c .before .before .mark-if .ensures ∙ ap (λ t. pick t (with (c .before .before .before .before .before .before .loop .next) (fromOf w)) (c .before .before .before .before .before .before .loop .next)) (c .before .before .before .has .ensures))
-          (c .mark-if2 .ensures ∙ ap (λ t. pick t (with (c .before .before .mark-if .result) (toOf w)) (c .before .before .mark-if .result)) (c .before .has2 .ensures)),
+      stepped-more (at-args .args .words .now) (at-loop .loop .i) (at-args .args .mask) (at-loop .loop .next) (at-mark-if .mark-if .result)
+          (c .mark-if2 .result) w (at-loop .loop .inv .1) refl
+          (at-mark-if .mark-if .ensures ∙ ap (λ t. pick t (with (at-loop .loop .next) (fromOf w)) (at-loop .loop .next))
+          (c .before .before .before .has .ensures))
+          (c .mark-if2 .ensures ∙ ap (λ t. pick t (with (at-mark-if .mark-if .result) (toOf w)) (at-mark-if .mark-if .result)) (c .before .has2 .ensures)),
     )
 
 returns : tie.Need-returns Inv-loop μ-loop
 returns c =
-    let e : c .before .loop .i ≡ c .before .before .before .args .edges = omega arith in
-    subst (λ n. Stepped (c .before .before .before .args .words .now) n (c .before .before .before .args .mask) (c .before .loop .next)) e (c .before .loop .inv .1)
+    let at-args = c .before .before .before in
+    let e : c .before .loop .i ≡ at-args .args .edges = omega arith in
+    subst (λ n. Stepped (at-args .args .words .now) n (at-args .args .mask) (c .before .loop .next)) e (c .before .loop .inv .1)
 
 pub step-spec : {M : Type 1} → statement M
 step-spec =

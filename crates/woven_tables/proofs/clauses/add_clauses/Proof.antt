@@ -16,26 +16,41 @@ abbrev μ-loop : tie.MeasureT-loop
 μ-loop k base count numbers before words₀ woven clauses i₀ words i = count - i
 
 loop-holds : tie.Need-loop-holds Inv-loop μ-loop
-loop-holds c = (omega arith, clauses-start (c .before .args .base) (c .before .args .k) (c .before .args .t3) (c .before .args .numbers) (c .before .args .before) (c .before .args .words .now) (c .before .args .woven))
+loop-holds c = (
+  omega arith,
+  clauses-start (c .before .args .base) (c .before .args .k) (c .before .args .t3) (c .before .args .numbers)
+      (c .before .args .before) (c .before .args .words .now) (c .before .args .woven),
+)
 
 clause-words-requires : tie.Need-clause-words-requires Inv-loop μ-loop
-clause-words-requires c κs = (c .before .before .before .before .pre .0 .few-texts, c .before .before .before .before .pre .0 .fit (c .before .before .loop .i) (omega arith))
+clause-words-requires c κs =
+    let at-pre = c .before .before .before .before in
+    (at-pre .pre .0 .few-texts, at-pre .pre .0 .fit (c .before .before .loop .i) (omega arith))
 
 slice-write-words : tie.Need-slice-write-words Inv-loop μ-loop
-slice-write-words c = omega (arith, c .before .before .before .loop .inv .1 .size, c .before .before .before .before .before .pre .0 .room, c .before .before .before .before .before .pre .1)
+slice-write-words c =
+    let at-pre = c .before .before .before .before .before in
+    omega (arith, c .before .before .before .loop .inv .1 .size, at-pre .pre .0 .room, at-pre .pre .1)
 
 slice-write-words-2 : tie.Need-slice-write-words-2 Inv-loop μ-loop
-slice-write-words-2 c = simp length-set (omega (arith, c .before .before .before .loop .inv .1 .size, c .before .before .before .before .before .pre .0 .room, c .before .before .before .before .before .pre .1))
+slice-write-words-2 c =
+    let at-pre = c .before .before .before .before .before in
+    simp length-set (omega (arith, c .before .before .before .loop .inv .1 .size, at-pre .pre .0 .room, at-pre .pre .1))
 
 slice-write-words-3 : tie.Need-slice-write-words-3 Inv-loop μ-loop
-slice-write-words-3 c = simp length-set (omega (arith, c .before .before .before .loop .inv .1 .size, c .before .before .before .before .before .pre .0 .room, c .before .before .before .before .before .pre .1))
+slice-write-words-3 c =
+    let at-pre = c .before .before .before .before .before in
+    simp length-set (omega (arith, c .before .before .before .loop .inv .1 .size, at-pre .pre .0 .room, at-pre .pre .1))
 
 loop-again : tie.Need-loop-again Inv-loop μ-loop
 loop-again c =
     let a = c .before .before .before .before .before .args in
     let all : length (a .t3) ≡ 32 = search needs in (
       omega arith,
-      clauses-more (a .base) (a .k) (a .t3) (c .before .before .before .loop .i) (a .numbers) (a .before) (a .words .now) (c .before .before .before .loop .words) (a .woven) (c .clause-words .result) (c .before .before .before .loop .inv .1) (omega (arith, c .before .before .before .before .before .pre .0 .few)) (omega (arith, c .before .before .before .before .before .pre .0 .room)) (omega (arith, c .before .before .before .loop .inv .1 .size, c .before .before .before .before .before .pre .1))
+      clauses-more (a .base) (a .k) (a .t3) (c .before .before .before .loop .i) (a .numbers) (a .before) (a .words .now)
+          (c .before .before .before .loop .words) (a .woven) (c .clause-words .result) (c .before .before .before .loop .inv .1)
+          (omega (arith, c .before .before .before .before .before .pre .0 .few)) (omega (arith, c .before .before .before .before .before .pre .0 .room))
+          (omega (arith, c .before .before .before .loop .inv .1 .size, c .before .before .before .before .before .pre .1))
           (c .clause-words .ensures),
     )
 
@@ -46,7 +61,8 @@ returns : tie.Need-returns Inv-loop μ-loop
 returns c =
     let a = c .before .before .before .args in
     let e : c .before .loop .i ≡ a .count = omega arith in
-    subst (λ n. ClausesAdded (a .base) (a .k) (a .t3) n (a .numbers) (a .before) (a .words .now) (c .before .loop .words) (a .woven)) e (c .before .loop .inv .1 .added)
+    subst (λ n. ClausesAdded (a .base) (a .k) (a .t3) n (a .numbers) (a .before) (a .words .now) (c .before .loop .words) (a .woven)) e
+    (c .before .loop .inv .1 .added)
 
 pub add-clauses-spec : {M : Type 1} → statement M
 add-clauses-spec =

@@ -20,12 +20,23 @@ loop-holds : tie.Need-loop-holds Inv-loop μ-loop
 loop-holds c = (omega arith, counted-none (c .args .t1))
 
 add-n : tie.Need-add-n Inv-loop μ-loop
-add-n c = omega (arith, c .before .before .before .loop .inv .1 .some, c .one-if-excluded .ensures, one-at-most (getD (c .before .before .before .before .args .t1) (c .before .before .before .loop .i) noClause .condition))
+add-n c =
+    let at-args = c .before .before .before .before in
+    omega (
+      arith,
+      c .before .before .before .loop .inv .1 .some,
+      c .one-if-excluded .ensures,
+      one-at-most
+          (getD (at-args .args .t1) (c .before .before .before .loop .i) noClause .condition),
+    )
 
 loop-again : tie.Need-loop-again Inv-loop μ-loop
 loop-again c =
-    let all : length (c .before .before .before .before .args .t1) ≡ 32 = search needs in
-    (omega arith, counted-more (c .before .before .before .before .args .t1) (c .before .before .before .loop .i) (c .before .before .before .loop .n) (c .one-if-excluded .result) (omega arith) (c .one-if-excluded .ensures) (c .before .before .before .loop .inv .1))
+    let all : length (c .before .before .before .before .args .t1) ≡ 32 = search needs in (
+      omega arith,
+      counted-more (c .before .before .before .before .args .t1) (c .before .before .before .loop .i) (c .before .before .before .loop .n)
+          (c .one-if-excluded .result) (omega arith) (c .one-if-excluded .ensures) (c .before .before .before .loop .inv .1),
+    )
 
 returns : tie.Need-returns Inv-loop μ-loop
 returns c =

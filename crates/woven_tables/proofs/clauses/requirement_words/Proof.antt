@@ -6,7 +6,12 @@ use Rattle.woven_tables.proofs.clauses.requirement_words.Statement.{sta
 use Rattle.woven_tables.proofs.clauses.requirement_words.Tie as tie
 
 returns : tie.Need-returns
-returns c = requirement-said (c .before .before .before .before .args .k) (c .before .before .before .before .args .base) (c .before .before .before .before .args .kind) (c .before .before .before .before .args .owner) (c .before .before .before .before .args .requirement) (c .before .before .before .value-words .result) (c .before .relation-number .result) _ (c .before .before .before .before .pre .0) (c .before .before .before .before .pre .1) (c .before .before .before .before .pre .2) (c .before .before .before .before .pre .3 .attribute) (c .before .relation-number .ensures .0) (c .before .relation-number .ensures .1) (c .before .before .before .value-words .ensures) refl
+returns c =
+    let at-args = c .before .before .before .before in
+    requirement-said (at-args .args .k) (at-args .args .base) (at-args .args .kind) (at-args .args .owner) (at-args .args .requirement)
+    (c .before .before .before .value-words .result) (c .before .relation-number .result) _ (at-args .pre .0) (at-args .pre .1) (at-args .pre .2)
+    (at-args .pre .3 .attribute) (c .before .relation-number .ensures .0) (c .before .relation-number .ensures .1)
+    (c .before .before .before .value-words .ensures) refl
 
 pub requirement-words-spec : {M : Type 1} → statement M
 requirement-words-spec =

@@ -23,10 +23,14 @@ returns-2 : tie.Need-returns-2
 returns-2 c = text-said (c .before .before .before .args .base) (c .before .before .before .args .value) _ _ (c .before .value2 .given .1)
 
 returns-3 : tie.Need-returns-3
-returns-3 c = true-said (c .before .before .before .before .args .base) (c .before .before .before .before .args .value) _ (c .before .before .value3 .given .1) (c .if1 .taken)
+returns-3 c =
+    let at-args = c .before .before .before .before in
+    true-said (at-args .args .base) (at-args .args .value) _ (c .before .before .value3 .given .1) (c .if1 .taken)
 
 returns-4 : tie.Need-returns-4
-returns-4 c = false-said (c .before .before .before .before .args .base) (c .before .before .before .before .args .value) _ (c .before .before .value3 .given .1) (c .if1 .left)
+returns-4 c =
+    let at-args = c .before .before .before .before in
+    false-said (at-args .args .base) (at-args .args .value) _ (c .before .before .value3 .given .1) (c .if1 .left)
 
 pub value-words-spec : {M : Type 1} → statement M
 value-words-spec =

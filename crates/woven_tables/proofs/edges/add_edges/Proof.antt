@@ -16,42 +16,74 @@ abbrev μ-loop : tie.MeasureT-loop
 μ-loop k base count words₀ woven edges numbers i₀ words i = count - i
 
 loop-holds : tie.Need-loop-holds Inv-loop μ-loop
-loop-holds c = (omega arith, edges-start (c .before .args .base) (c .before .args .k) (c .before .args .t3) (c .before .args .t5) (c .before .args .words .now) (c .before .args .woven))
+loop-holds c = (
+  omega arith,
+  edges-start (c .before .args .base) (c .before .args .k) (c .before .args .t3) (c .before .args .t5)
+      (c .before .args .words .now) (c .before .args .woven),
+)
 
 mul-edge-word : tie.Need-mul-edge-word Inv-loop μ-loop
 mul-edge-word c = let f = c .before .before .before .before .before .pre .0 .fit (c .before .before .before .loop .i) (omega arith) in omega (arith, f .from)
 
 array-read-edge-word : tie.Need-array-read-edge-word Inv-loop μ-loop
-array-read-edge-word c = let f = c .before .before .before .before .before .pre .0 .fit (c .before .before .before .loop .i) (omega arith) in omega (arith, f .from)
+array-read-edge-word c =
+    let at-pre = c .before .before .before .before .before in
+    let f = at-pre .pre .0 .fit (c .before .before .before .loop .i) (omega arith) in omega (arith, f .from)
 
 mul-edge-word-2 : tie.Need-mul-edge-word-2 Inv-loop μ-loop
 mul-edge-word-2 c = let f = c .before .before .before .before .before .pre .0 .fit (c .before .before .before .loop .i) (omega arith) in omega (arith, f .to)
 
 array-read-edge-word-2 : tie.Need-array-read-edge-word-2 Inv-loop μ-loop
-array-read-edge-word-2 c = let f = c .before .before .before .before .before .pre .0 .fit (c .before .before .before .loop .i) (omega arith) in omega (arith, f .to)
+array-read-edge-word-2 c =
+    let at-pre = c .before .before .before .before .before in
+    let f = at-pre .pre .0 .fit (c .before .before .before .loop .i) (omega arith) in omega (arith, f .to)
 
 edge-word-requires : tie.Need-edge-word-requires Inv-loop μ-loop
-edge-word-requires c κs = let f = c .before .before .before .before .before .pre .0 .fit (c .before .before .before .loop .i) (omega arith) in omega (arith, f .label, f .woven-from, f .woven-to)
+edge-word-requires c κs =
+    let at-pre = c .before .before .before .before .before in
+    let f = at-pre .pre .0 .fit (c .before .before .before .loop .i) (omega arith) in omega (arith, f .label, f .woven-from, f .woven-to)
 
 slice-write-words : tie.Need-slice-write-words Inv-loop μ-loop
-slice-write-words c = omega (arith, c .before .before .before .before .loop .inv .1 .size, c .before .before .before .before .before .before .pre .0 .room, c .before .before .before .before .before .before .pre .1)
+slice-write-words c =
+    let at-loop = c .before .before .before .before in
+    let at-pre = at-loop .before .before in
+    omega (arith, at-loop .loop .inv .1 .size, at-pre .pre .0 .room, at-pre .pre .1)
 
 add-name-word : tie.Need-add-name-word Inv-loop μ-loop
-add-name-word c = let f = c .before .before .before .before .before .before .before .pre .0 .fit (c .before .before .before .before .before .loop .i) (omega arith) in omega (arith, f .name .0)
+add-name-word c =
+    let at-loop = c .before .before .before .before .before in
+    let at-pre = at-loop .before .before in
+    let f = at-pre .pre .0 .fit (at-loop .loop .i) (omega arith) in omega (arith, f .name .0)
 
 name-word-requires : tie.Need-name-word-requires Inv-loop μ-loop
-name-word-requires c κs = let f = c .before .before .before .before .before .before .before .pre .0 .fit (c .before .before .before .before .before .loop .i) (omega arith) in (c .before .before .before .before .before .before .before .pre .0 .few-texts, f .name .0, f .name .1)
+name-word-requires c κs =
+    let at-loop = c .before .before .before .before .before in
+    let at-pre = at-loop .before .before in
+    let f = at-pre .pre .0 .fit (at-loop .loop .i) (omega arith) in (at-pre .pre .0 .few-texts, f .name .0, f .name .1)
 
 slice-write-words-2 : tie.Need-slice-write-words-2 Inv-loop μ-loop
-slice-write-words-2 c = simp length-set (omega (arith, c .before .before .before .before .before .before .loop .inv .1 .size, c .before .before .before .before .before .before .before .before .pre .0 .room, c .before .before .before .before .before .before .before .before .pre .1))
+slice-write-words-2 c =
+    let at-loop = c .before .before .before .before .before .before in
+    let at-pre = at-loop .before .before in
+    simp length-set (omega (arith, at-loop .loop .inv .1 .size, at-pre .pre .0 .room, at-pre .pre .1))
 
 loop-again : tie.Need-loop-again Inv-loop μ-loop
 loop-again c =
     let a = c .before .before .before .before .before .before .before .before .args in
     let all : length (a .t3) ≡ 16 = search needs in (
       omega arith,
-      edges-more (a .base) (a .k) (a .t3) (c .before .before .before .before .before .before .loop .i) (a .t5) (a .words .now) (c .before .before .before .before .before .before .loop .words) (a .woven) (c .before .before .edge-word .result) (c .name-word .result) (c .before .before .before .before .before .before .loop .inv .1) (omega (arith, c .before .before .before .before .before .before .before .before .pre .0 .few)) (omega (arith, c .before .before .before .before .before .before .before .before .pre .0 .room)) (omega (arith, c .before .before .before .before .before .before .loop .inv .1 .size, c .before .before .before .before .before .before .before .before .pre .1))
-          (c .before .before .before .before .before .before .before .before .pre .0 .fit (c .before .before .before .before .before .before .loop .i) (omega arith)) (c .before .before .edge-word .ensures) (c .name-word .ensures),
+      edges-more (a .base) (a .k) (a .t3) (c .before .before .before .before .before .before .loop .i) (a .t5) (a .words .now)
+          (c .before .before .before .before .before .before .loop .words) (a .woven) (c .before .before .edge-word .result) (c .name-word .result)
+          (c .before .before .before .before .before .before .loop .inv .1)
+          (omega (arith, c .before .before .before .before .before .before .before .before .pre .0 .few))
+          (omega (arith, c .before .before .before .before .before .before .before .before .pre .0 .room))
+          (omega (
+            arith,
+            c .before .before .before .before .before .before .loop .inv .1 .size,
+            c .before .before .before .before .before .before .before .before .pre .1,
+          ))
+          (c .before .before .before .before .before .before .before .before .pre .0 .fit (c .before .before .before .before .before .before .loop .i)
+          (omega arith)) (c .before .before .edge-word .ensures) (c .name-word .ensures),
     )
 
 same-length : tie.Need-same-length Inv-loop μ-loop

@@ -14,24 +14,46 @@ use Rattle.woven_tables.proofs.names.find_vertex.Statement.{statement}
 use Rattle.woven_tables.proofs.names.find_vertex.Tie as tie
 
 abbrev Inv-loop : tie.InvT-loop
-Inv-loop query rules words count word i₀ i = (i ≤ count) × (any (sameVertex (vertexOfWord query rules word)) (listed (λ j. vertexOfWord query rules (getD words j 0)) i) ≡ false)
+Inv-loop query rules words count word i₀ i = (i ≤ count)
+    × (any (sameVertex (vertexOfWord query rules word)) (listed (λ j. vertexOfWord query rules (getD words j 0)) i) ≡ false)
 
 abbrev μ-loop : tie.MeasureT-loop
 μ-loop query rules words count word i₀ i = count - i
 
 loop-holds : tie.Need-loop-holds Inv-loop μ-loop
-loop-holds c = (omega arith, scan-none _ (λ j. vertexOfWord (c .before .before .before .args .query .now) (c .before .before .before .args .rules .now) (getD (c .before .before .before .args .words .now) j 0)))
+loop-holds c =
+    let at-args = c .before .before .before in
+    (omega arith, scan-none _ (λ j. vertexOfWord (at-args .args .query .now) (at-args .args .rules .now) (getD (at-args .args .words .now) j 0)))
 
 returns : tie.Need-returns Inv-loop μ-loop
 unfolding placeVertex verticesAt
-returns c = sym (scan-place (sameVertex (vertexOfWord (c .before .before .before .before .before .before .before .before .args .query .now) (c .before .before .before .before .before .before .before .before .args .rules .now) (c .before .before .before .before .before .before .before .before .args .word))) (λ j. vertexOfWord (c .before .before .before .before .before .before .before .before .args .query .now) (c .before .before .before .before .before .before .before .before .args .rules .now) (getD (c .before .before .before .before .before .before .before .before .args .words .now) j 0)) (c .before .before .before .before .before .before .before .before .args .count) (c .before .before .before .before .loop .i) (c .before .before .before .loop-test .taken) (c .before .before .before .before .loop .inv .1) (sym (c .before .same-vertex .ensures) ∙ c .if1 .taken))
+returns c =
+    let at-loop = c .before .before .before .before in
+    let at-args = at-loop .before .before .before .before in
+    sym (scan-place (sameVertex (vertexOfWord (at-args .args .query .now) (at-args .args .rules .now) (at-args .args .word)))
+    (λ j. vertexOfWord (at-args .args .query .now) (at-args .args .rules .now) (getD (at-args .args .words .now) j 0)) (at-args .args .count)
+    (at-loop .loop .i) (c .before .before .before .loop-test .taken) (at-loop .loop .inv .1) (sym (c .before .same-vertex .ensures) ∙ c .if1 .taken))
 
 loop-again : tie.Need-loop-again Inv-loop μ-loop
-loop-again c = (omega arith, scan-on (sameVertex (vertexOfWord (c .before .before .before .before .before .before .before .before .args .query .now) (c .before .before .before .before .before .before .before .before .args .rules .now) (c .before .before .before .before .before .before .before .before .args .word))) (λ j. vertexOfWord (c .before .before .before .before .before .before .before .before .args .query .now) (c .before .before .before .before .before .before .before .before .args .rules .now) (getD (c .before .before .before .before .before .before .before .before .args .words .now) j 0)) (c .before .before .before .before .loop .i) (c .before .before .before .before .loop .inv .1) (sym (c .before .same-vertex .ensures) ∙ c .if1 .left))
+loop-again c =
+    let at-loop = c .before .before .before .before in
+    let at-args = at-loop .before .before .before .before in (
+      omega arith,
+      scan-on (sameVertex (vertexOfWord (at-args .args .query .now) (at-args .args .rules .now) (at-args .args .word)))
+          (λ j. vertexOfWord (at-args .args .query .now) (at-args .args .rules .now) (getD (at-args .args .words .now) j 0)) (at-loop .loop .i)
+          (at-loop .loop .inv .1) (sym (c .before .same-vertex .ensures) ∙ c .if1 .left),
+    )
 
 returns-2 : tie.Need-returns-2 Inv-loop μ-loop
 unfolding placeVertex verticesAt
-returns-2 c = let e : c .before .loop .i ≡ c .before .before .before .before .before .args .count = omega arith in sym (scan-absent (sameVertex (vertexOfWord (c .before .before .before .before .before .args .query .now) (c .before .before .before .before .before .args .rules .now) (c .before .before .before .before .before .args .word))) (λ j. vertexOfWord (c .before .before .before .before .before .args .query .now) (c .before .before .before .before .before .args .rules .now) (getD (c .before .before .before .before .before .args .words .now) j 0)) (c .before .before .before .before .before .args .count) (ap (λ n. any (sameVertex (vertexOfWord (c .before .before .before .before .before .args .query .now) (c .before .before .before .before .before .args .rules .now) (c .before .before .before .before .before .args .word))) (listed (λ j. vertexOfWord (c .before .before .before .before .before .args .query .now) (c .before .before .before .before .before .args .rules .now) (getD (c .before .before .before .before .before .args .words .now) j 0)) n)) (sym e) ∙ c .before .loop .inv .1))
+returns-2 c =
+    let at-args = c .before .before .before .before .before in
+    let e : c .before .loop .i ≡ at-args .args .count = omega arith in
+    sym (scan-absent (sameVertex (vertexOfWord (at-args .args .query .now) (at-args .args .rules .now) (at-args .args .word)))
+    (λ j. vertexOfWord (at-args .args .query .now) (at-args .args .rules .now) (getD (at-args .args .words .now) j 0)) (at-args .args .count)
+    (ap (λ n. any (sameVertex (vertexOfWord (at-args .args .query .now) (at-args .args .rules .now) (at-args .args .word)))
+    (listed (λ j. vertexOfWord (at-args .args .query .now) (at-args .args .rules .now) (getD (at-args .args .words .now) j 0)) n)) (sym e)
+    ∙ c .before .loop .inv .1))
 
 pub find-vertex-spec : {M : Type 1} → statement M
 find-vertex-spec =

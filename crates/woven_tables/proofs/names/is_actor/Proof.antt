@@ -22,22 +22,46 @@ abbrev μ-loop : tie.MeasureT-loop
 μ-loop query rules actors count word i₀ i = count - i
 
 loop-holds : tie.Need-loop-holds Inv-loop μ-loop
-loop-holds c = (omega arith, scan-none (same (nameOf (c .before .before .before .args .query .now) (c .before .before .before .args .rules .now) (c .before .before .before .args .word))) (λ j. nameIn (c .before .before .before .args .rules .now) (getD (c .before .before .before .args .actors .now) j 0)))
+loop-holds c =
+    let at-args = c .before .before .before in (
+      omega arith,
+      scan-none (same (nameOf (at-args .args .query .now) (at-args .args .rules .now) (at-args .args .word)))
+          (λ j. nameIn (at-args .args .rules .now) (getD (at-args .args .actors .now) j 0)),
+    )
 
 cast-w : tie.Need-cast-w Inv-loop μ-loop
 cast-w c = omega (arith, c .shared-slice-known4 .given (c .before .before .loop .i))
 
 returns : tie.Need-returns Inv-loop μ-loop
 unfolding mem actorsAt nameIn
-returns c = sym (scan-found (same (nameOf (c .before .before .before .before .before .before .before .before .before .args .query .now) (c .before .before .before .before .before .before .before .before .before .args .rules .now) (c .before .before .before .before .before .before .before .before .before .args .word))) (λ j. nameIn (c .before .before .before .before .before .before .before .before .before .args .rules .now) (getD (c .before .before .before .before .before .before .before .before .before .args .actors .now) j 0)) (c .before .before .before .before .before .before .before .before .before .args .count) (c .before .before .before .before .before .loop .i) (c .before .before .before .before .loop-test .taken) (ap (same (nameOf (c .before .before .before .before .before .before .before .before .before .args .query .now) (c .before .before .before .before .before .before .before .before .before .args .rules .now) (c .before .before .before .before .before .before .before .before .before .args .word))) (sym (c .before .before .part .ensures)) ∙ sym (c .before .says .ensures) ∙ c .if1 .taken))
+returns c =
+    let at-loop-test = c .before .before .before .before in
+    let at-loop = at-loop-test .before in
+    let at-args = at-loop .before .before .before .before in
+    sym (scan-found (same (nameOf (at-args .args .query .now) (at-args .args .rules .now) (at-args .args .word)))
+    (λ j. nameIn (at-args .args .rules .now) (getD (at-args .args .actors .now) j 0)) (at-args .args .count) (at-loop .loop .i)
+    (at-loop-test .loop-test .taken) (ap (same (nameOf (at-args .args .query .now) (at-args .args .rules .now) (at-args .args .word)))
+    (sym (c .before .before .part .ensures)) ∙ sym (c .before .says .ensures) ∙ c .if1 .taken))
 
 loop-again : tie.Need-loop-again Inv-loop μ-loop
 unfolding nameIn
-loop-again c = (omega arith, scan-on (same (nameOf (c .before .before .before .before .before .before .before .before .before .args .query .now) (c .before .before .before .before .before .before .before .before .before .args .rules .now) (c .before .before .before .before .before .before .before .before .before .args .word))) (λ j. nameIn (c .before .before .before .before .before .before .before .before .before .args .rules .now) (getD (c .before .before .before .before .before .before .before .before .before .args .actors .now) j 0)) (c .before .before .before .before .before .loop .i) (c .before .before .before .before .before .loop .inv .1) (ap (same (nameOf (c .before .before .before .before .before .before .before .before .before .args .query .now) (c .before .before .before .before .before .before .before .before .before .args .rules .now) (c .before .before .before .before .before .before .before .before .before .args .word))) (sym (c .before .before .part .ensures)) ∙ sym (c .before .says .ensures) ∙ c .if1 .left))
+loop-again c =
+    let at-loop = c .before .before .before .before .before in
+    let at-args = at-loop .before .before .before .before in (
+      omega arith,
+      scan-on (same (nameOf (at-args .args .query .now) (at-args .args .rules .now) (at-args .args .word)))
+          (λ j. nameIn (at-args .args .rules .now) (getD (at-args .args .actors .now) j 0)) (at-loop .loop .i) (at-loop .loop .inv .1)
+          (ap (same (nameOf (at-args .args .query .now) (at-args .args .rules .now) (at-args .args .word))) (sym (c .before .before .part .ensures))
+          ∙ sym (c .before .says .ensures) ∙ c .if1 .left),
+    )
 
 returns-2 : tie.Need-returns-2 Inv-loop μ-loop
 unfolding mem actorsAt nameIn
-returns-2 c = let e : c .before .loop .i ≡ c .before .before .before .before .before .args .count = omega arith in sym (ap (λ n. any (same (nameOf (c .before .before .before .before .before .args .query .now) (c .before .before .before .before .before .args .rules .now) (c .before .before .before .before .before .args .word))) (listed (λ j. nameIn (c .before .before .before .before .before .args .rules .now) (getD (c .before .before .before .before .before .args .actors .now) j 0)) n)) (sym e) ∙ c .before .loop .inv .1)
+returns-2 c =
+    let at-args = c .before .before .before .before .before in
+    let e : c .before .loop .i ≡ at-args .args .count = omega arith in
+    sym (ap (λ n. any (same (nameOf (at-args .args .query .now) (at-args .args .rules .now) (at-args .args .word)))
+    (listed (λ j. nameIn (at-args .args .rules .now) (getD (at-args .args .actors .now) j 0)) n)) (sym e) ∙ c .before .loop .inv .1)
 
 pub is-actor-spec : {M : Type 1} → statement M
 is-actor-spec =

@@ -10,10 +10,14 @@ use Rattle.woven_tables.proofs.names.part.Tie as tie
 
 returns : tie.Need-returns
 unfolding partOf
-returns c = let e : c .before .before .before .args .start + c .before .before .before .args .length - c .before .before .before .args .start ≡ c .before .before .before .args .length = omega arith in rw e
+returns c =
+    let at-args = c .before .before .before in
+    let e : at-args .args .start + at-args .args .length - at-args .args .start ≡ at-args .args .length = omega arith in rw e
 
 returns-2 : tie.Need-returns-2
-returns-2 c = part-long (c .before .before .before .args .text .now) (c .before .before .before .args .start) (c .before .before .before .args .length) (c .before .if2 .left)
+returns-2 c =
+    let at-args = c .before .before .before in
+    part-long (at-args .args .text .now) (at-args .args .start) (at-args .args .length) (c .before .if2 .left)
 
 returns-3 : tie.Need-returns-3
 returns-3 c = part-none (c .before .before .args .text .now) (c .before .before .args .start) (c .before .before .args .length) (c .before .if1 .left)

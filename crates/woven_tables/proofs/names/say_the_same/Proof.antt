@@ -8,10 +8,16 @@ use Rattle.woven_tables.proofs.names.say_the_same.Statement.{statement}
 use Rattle.woven_tables.proofs.names.say_the_same.Tie as tie
 
 returns : tie.Need-returns
-returns c = c .says .ensures ∙ ap (same (nameOf (c .before .before .before .before .before .args .query .now) (c .before .before .before .before .before .args .rules .now) (c .before .before .before .before .before .args .a))) (c .before .part .ensures ∙ sym (in-query (c .before .before .before .before .before .args .query .now) (c .before .before .before .before .before .args .rules .now) (c .before .before .before .before .before .args .b) (c .before .before .if1 .taken)))
+returns c =
+    let at-args = c .before .before .before .before .before in
+    c .says .ensures ∙ ap (same (nameOf (at-args .args .query .now) (at-args .args .rules .now) (at-args .args .a)))
+    (c .before .part .ensures ∙ sym (in-query (at-args .args .query .now) (at-args .args .rules .now) (at-args .args .b) (c .before .before .if1 .taken)))
 
 returns-2 : tie.Need-returns-2
-returns-2 c = c .says2 .ensures ∙ ap (same (nameOf (c .before .before .before .before .before .args .query .now) (c .before .before .before .before .before .args .rules .now) (c .before .before .before .before .before .args .a))) (c .before .part2 .ensures ∙ sym (in-rules (c .before .before .before .before .before .args .query .now) (c .before .before .before .before .before .args .rules .now) (c .before .before .before .before .before .args .b) (c .before .before .if1 .left)))
+returns-2 c =
+    let at-args = c .before .before .before .before .before in
+    c .says2 .ensures ∙ ap (same (nameOf (at-args .args .query .now) (at-args .args .rules .now) (at-args .args .a)))
+    (c .before .part2 .ensures ∙ sym (in-rules (at-args .args .query .now) (at-args .args .rules .now) (at-args .args .b) (c .before .before .if1 .left)))
 
 pub say-the-same-spec : {M : Type 1} → statement M
 say-the-same-spec =

@@ -7,10 +7,18 @@ use Rattle.woven_tables.proofs.names.says.Statement.{statement}
 use Rattle.woven_tables.proofs.names.says.Tie as tie
 
 returns : tie.Need-returns
-returns c = c .same-bytes .ensures ∙ ap (λ x. same x (c .before .before .before .before .before .before .args .name .now)) (c .before .part .ensures ∙ sym (in-query (c .before .before .before .before .before .before .args .query .now) (c .before .before .before .before .before .before .args .rules .now) (c .before .before .before .before .before .before .args .word) (c .before .before .if1 .taken)))
+returns c =
+    let at-args = c .before .before .before .before .before .before in
+    c .same-bytes .ensures ∙ ap (λ x. same x (at-args .args .name .now))
+    (c .before .part .ensures ∙ sym (in-query (at-args .args .query .now) (at-args .args .rules .now) (at-args .args .word)
+    (c .before .before .if1 .taken)))
 
 returns-2 : tie.Need-returns-2
-returns-2 c = c .same-bytes2 .ensures ∙ ap (λ x. same x (c .before .before .before .before .before .before .args .name .now)) (c .before .part2 .ensures ∙ sym (in-rules (c .before .before .before .before .before .before .args .query .now) (c .before .before .before .before .before .before .args .rules .now) (c .before .before .before .before .before .before .args .word) (c .before .before .if1 .left)))
+returns-2 c =
+    let at-args = c .before .before .before .before .before .before in
+    c .same-bytes2 .ensures ∙ ap (λ x. same x (at-args .args .name .now))
+    (c .before .part2 .ensures ∙ sym (in-rules (at-args .args .query .now) (at-args .args .rules .now) (at-args .args .word)
+    (c .before .before .if1 .left)))
 
 pub says-spec : {M : Type 1} → statement M
 says-spec =

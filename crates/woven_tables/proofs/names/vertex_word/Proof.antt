@@ -11,7 +11,8 @@ returns : tie.Need-returns
 returns c = ap (λ t. c .before .args .name * 2 + pick t 1 0) (sym (c .if1 .taken))
 
 returns-2 : tie.Need-returns-2
-returns-2 c = let e : c .before .args .name * 2 ≡ c .before .args .name * 2 + 0 = omega arith in e ∙ ap (λ t. c .before .args .name * 2 + pick t 1 0) (sym (c .if1 .left))
+returns-2 c = let e : c .before .args .name * 2 ≡ c .before .args .name * 2 + 0 = omega arith in
+    e ∙ ap (λ t. c .before .args .name * 2 + pick t 1 0) (sym (c .if1 .left))
 
 pub vertex-word-spec : {M : Type 1} → statement M
 vertex-word-spec = tie.close (tie.spec (λ c. search needs) (λ c. search needs) (λ c. search needs) returns returns-2)

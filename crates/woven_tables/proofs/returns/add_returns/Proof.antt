@@ -39,8 +39,12 @@ slice-write-words c = omega (arith, c .before .loop .inv .1 .size, c .before .be
 loop-again : tie.Need-loop-again Inv-loop μ-loop
 loop-again c =
     let a = c .before .before .args in
-    let all : length (a .t1) ≡ 4 = search needs in
-    (omega arith, returns-more (a .t1) (c .before .loop .i) (a .t3) (a .words .now) (c .before .loop .words) (c .before .loop .inv .1) (omega (arith, c .before .before .pre .0 .few)) (omega (arith, c .before .before .pre .0 .few)) (omega (arith, c .before .loop .inv .1 .size, c .before .before .pre .1)))
+    let all : length (a .t1) ≡ 4 = search needs in (
+      omega arith,
+      returns-more (a .t1) (c .before .loop .i) (a .t3) (a .words .now) (c .before .loop .words) (c .before .loop .inv .1)
+          (omega (arith, c .before .before .pre .0 .few)) (omega (arith, c .before .before .pre .0 .few))
+          (omega (arith, c .before .loop .inv .1 .size, c .before .before .pre .1)),
+    )
 
 same-length : tie.Need-same-length Inv-loop μ-loop
 same-length c = c .before .loop .inv .1 .size

@@ -12,25 +12,41 @@ use Rattle.woven_tables.proofs.vertices.add_vertices.Statement.{stateme
 use Rattle.woven_tables.proofs.vertices.add_vertices.Tie as tie
 
 abbrev Inv-loop : tie.InvT-loop
-Inv-loop query rules actors actor-count k base count words₀ woven parts numbers₀ n₀ i₀ words numbers n i = (i ≤ count) × VerticesSoFar query rules (textVertices (drop base (textOf query rules k)) k (actorsAt rules actors actor-count) parts count) words₀ words woven n i numbers
+Inv-loop query rules actors actor-count k base count words₀ woven parts numbers₀ n₀ i₀ words numbers n i = (i ≤ count)
+    × VerticesSoFar query rules (textVertices (drop base (textOf query rules k)) k (actorsAt rules actors actor-count) parts count) words₀ words woven n i
+    numbers
 
 abbrev μ-loop : tie.MeasureT-loop
 μ-loop query rules actors actor-count k base count words₀ woven parts numbers₀ n₀ i₀ words numbers n i = count - i
 
 loop-holds : tie.Need-loop-holds Inv-loop μ-loop
-loop-holds c = (omega arith, vertices-start (c .before .before .before .before .args .query .now) (c .before .before .before .before .args .rules .now) _ (c .before .before .before .before .args .words .now) (c .before .before .before .before .args .woven) _ (omega arith) refl)
+loop-holds c =
+    let at-args = c .before .before .before .before in (
+      omega arith,
+      vertices-start (at-args .args .query .now) (at-args .args .rules .now) _ (at-args .args .words .now) (at-args .args .woven) _
+          (omega arith) refl,
+    )
 
 add-vertex-of : tie.Need-add-vertex-of Inv-loop μ-loop
-add-vertex-of c = omega (arith, c .before .before .before .before .before .before .before .before .pre .0 .fit (c .before .before .before .loop .i) (omega arith))
+add-vertex-of c =
+    let at-pre = c .before .before .before .before .before .before .before .before in
+    omega (arith, at-pre .pre .0 .fit (c .before .before .before .loop .i) (omega arith))
 
 vertex-of-requires : tie.Need-vertex-of-requires Inv-loop μ-loop
-vertex-of-requires c κs = let f = c .before .before .before .before .before .before .before .before .pre .0 .fit (c .before .before .before .loop .i) (omega arith) in (c .before .before .before .before .before .before .before .before .pre .1, c .before .before .before .before .before .before .before .before .pre .0 .few-texts, f .0, f .1)
+vertex-of-requires c κs =
+    let at-pre = c .before .before .before .before .before .before .before .before in
+    let f = at-pre .pre .0 .fit (c .before .before .before .loop .i) (omega arith) in (at-pre .pre .1, at-pre .pre .0 .few-texts, f .0, f .1)
 
 place-vertex-requires : tie.Need-place-vertex-requires Inv-loop μ-loop
-place-vertex-requires c κs = (c .before .before .before .before .before .loop .inv .1 .few, omega (arith, c .before .before .before .before .before .loop .inv .1 .room, c .before .before .before .before .before .before .before .before .before .before .pre .3))
+place-vertex-requires c κs =
+    let at-loop = c .before .before .before .before .before in
+    let at-pre = at-loop .before .before .before .before .before in
+    (at-loop .loop .inv .1 .few, omega (arith, at-loop .loop .inv .1 .room, at-pre .pre .3))
 
 same-length : tie.Need-same-length Inv-loop μ-loop
-same-length c = c .before .before .before .place-vertex .kept .1 .1 .0 ∙ c .before .before .before .before .before .before .before .before .before .loop .inv .1 .room
+same-length c =
+    let at-loop = c .before .before .before .before .before .before .before .before .before in
+    c .before .before .before .place-vertex .kept .1 .1 .0 ∙ at-loop .loop .inv .1 .room
 
 returns : tie.Need-returns Inv-loop μ-loop
 returns c =
@@ -38,10 +54,20 @@ returns c =
     let actors = actorsAt (a .rules .now) (a .actors .now) (a .actor-count) in
     let text = textOf (a .query .now) (a .rules .now) (a .k) in
     let size : length (a .t7) ≡ 8 = search needs in
-    let few : a .count ≤ length (a .t7) = omega (arith, c .before .before .before .before .before .before .before .before .before .before .before .before .before .before .pre .0 .few) in
+    let few : a .count ≤ length (a .t7) = omega
+    (arith, c .before .before .before .before .before .before .before .before .before .before .before .before .before .before .pre .0 .few) in
     let all = length-names (drop (a .base) text) (a .k) actors (a .t7) (a .count) few in
-    vertices-passed (a .query .now) (a .rules .now) (textVertices (drop (a .base) text) (a .k) actors (a .t7) (a .count)) (a .words .now) (c .before .before .before .before .before .before .before .before .before .loop .words) (a .woven) (c .before .before .before .before .before .before .before .before .before .loop .n) (c .before .before .before .before .before .before .before .before .before .loop .i) (c .before .before .before .before .before .before .before .before .before .loop .numbers) (c .before .before .before .before .before .before .before .before .before .loop .inv .1) (omega arith)
-    (c .before .before .before .place-vertex .last .1 .1 .0) (c .before .before .before .before .before .vertex-of .result) (c .before .before .before .place-vertex .result) (c .before .before .before .place-vertex .ensures) (c .before .before .before .before .before .vertex-of .ensures ∙ own-says text (a .base) (a .k) actors (a .t7) (a .count) few (c .before .before .before .before .before .before .before .before .before .loop .i) (c .before .before .before .before .before .before .before .before .loop-test .taken)) (a .count) all (c .if1 .taken)
+    vertices-passed (a .query .now) (a .rules .now) (textVertices (drop (a .base) text) (a .k) actors (a .t7) (a .count)) (a .words .now)
+    (c .before .before .before .before .before .before .before .before .before .loop .words) (a .woven)
+    (c .before .before .before .before .before .before .before .before .before .loop .n)
+    (c .before .before .before .before .before .before .before .before .before .loop .i)
+    (c .before .before .before .before .before .before .before .before .before .loop .numbers)
+    (c .before .before .before .before .before .before .before .before .before .loop .inv .1) (omega arith)
+    (c .before .before .before .place-vertex .last .1 .1 .0) (c .before .before .before .before .before .vertex-of .result)
+    (c .before .before .before .place-vertex .result) (c .before .before .before .place-vertex .ensures)
+    (c .before .before .before .before .before .vertex-of .ensures
+    ∙ own-says text (a .base) (a .k) actors (a .t7) (a .count) few (c .before .before .before .before .before .before .before .before .before .loop .i)
+    (c .before .before .before .before .before .before .before .before .loop-test .taken)) (a .count) all (c .if1 .taken)
 
 loop-again : tie.Need-loop-again Inv-loop μ-loop
 loop-again c =
@@ -49,12 +75,24 @@ loop-again c =
     let actors = actorsAt (a .rules .now) (a .actors .now) (a .actor-count) in
     let text = textOf (a .query .now) (a .rules .now) (a .k) in
     let size : length (a .t7) ≡ 8 = search needs in
-    let few : a .count ≤ length (a .t7) = omega (arith, c .before .before .before .before .before .before .before .before .before .before .before .before .before .before .pre .0 .few) in
+    let few : a .count ≤ length (a .t7) = omega
+    (arith, c .before .before .before .before .before .before .before .before .before .before .before .before .before .before .pre .0 .few) in
     let all = length-names (drop (a .base) text) (a .k) actors (a .t7) (a .count) few in (
       omega arith,
-      vertices-more (a .query .now) (a .rules .now) (textVertices (drop (a .base) text) (a .k) actors (a .t7) (a .count)) (a .words .now) (c .before .before .before .before .before .before .before .before .before .loop .words) (a .woven) (c .before .before .before .before .before .before .before .before .before .loop .n) (c .before .before .before .before .before .before .before .before .before .loop .i) (c .before .before .before .before .before .before .before .before .before .loop .numbers) (c .before .before .before .before .before .before .before .before .before .loop .inv .1) (omega arith)
-          (c .before .before .before .place-vertex .last .1 .1 .0) (c .before .before .before .before .before .vertex-of .result) (c .before .before .before .place-vertex .result) (c .before .before .before .place-vertex .ensures) (c .before .before .before .before .before .vertex-of .ensures ∙ own-says text (a .base) (a .k) actors (a .t7) (a .count) few (c .before .before .before .before .before .before .before .before .before .loop .i) (c .before .before .before .before .before .before .before .before .loop-test .taken))
-          (c .if1 .left) (c .before .before .before .place-vertex .kept .1 .1 .0) (omega (arith, c .before .before .before .before .before .before .before .before .before .before .before .before .before .before .pre .0 .few)),
+      vertices-more (a .query .now) (a .rules .now) (textVertices (drop (a .base) text) (a .k) actors (a .t7) (a .count)) (a .words .now)
+          (c .before .before .before .before .before .before .before .before .before .loop .words) (a .woven)
+          (c .before .before .before .before .before .before .before .before .before .loop .n)
+          (c .before .before .before .before .before .before .before .before .before .loop .i)
+          (c .before .before .before .before .before .before .before .before .before .loop .numbers)
+          (c .before .before .before .before .before .before .before .before .before .loop .inv .1) (omega arith)
+          (c .before .before .before .place-vertex .last .1 .1 .0) (c .before .before .before .before .before .vertex-of .result)
+          (c .before .before .before .place-vertex .result) (c .before .before .before .place-vertex .ensures)
+          (c .before .before .before .before .before .vertex-of .ensures
+          ∙ own-says text (a .base) (a .k) actors (a .t7) (a .count) few
+          (c .before .before .before .before .before .before .before .before .before .loop .i)
+          (c .before .before .before .before .before .before .before .before .loop-test .taken))
+          (c .if1 .left) (c .before .before .before .place-vertex .kept .1 .1 .0)
+          (omega (arith, c .before .before .before .before .before .before .before .before .before .before .before .before .before .before .pre .0 .few)),
     )
 
 same-length-2 : tie.Need-same-length-2 Inv-loop μ-loop
@@ -68,7 +106,9 @@ returns-2 c =
     let size : length (a .t7) ≡ 8 = search needs in
     let few : a .count ≤ length (a .t7) = omega (arith, c .before .before .before .before .before .before .pre .0 .few) in
     let all = length-names (drop (a .base) text) (a .k) actors (a .t7) (a .count) few in
-    vertices-end (a .query .now) (a .rules .now) (textVertices (drop (a .base) text) (a .k) actors (a .t7) (a .count)) (a .words .now) (c .before .loop .words) (a .woven) (c .before .loop .n) (c .before .loop .i) (c .before .loop .numbers) (c .before .loop .inv .1) (a .count) all (omega arith)
+    vertices-end (a .query .now) (a .rules .now) (textVertices (drop (a .base) text) (a .k) actors (a .t7) (a .count)) (a .words .now)
+    (c .before .loop .words) (a .woven) (c .before .loop .n) (c .before .loop .i) (c .before .loop .numbers) (c .before .loop .inv .1) (a .count) all
+    (omega arith)
 
 pub add-vertices-spec : {M : Type 1} → statement M
 add-vertices-spec =

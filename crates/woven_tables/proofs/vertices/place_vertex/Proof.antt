@@ -6,13 +6,22 @@ use Rattle.woven_tables.proofs.vertices.place_vertex.Statement.{stateme
 use Rattle.woven_tables.proofs.vertices.place_vertex.Tie as tie
 
 returns : tie.Need-returns
-returns c = place-there (c .before .before .before .before .before .before .args .query .now) (c .before .before .before .before .before .before .args .rules .now) (c .before .before .before .before .before .before .args .words .now) (c .before .before .before .before .before .before .args .n) (c .before .before .before .before .before .before .args .word) (c .before .find-vertex .result) (c .before .find-vertex .ensures) (c .if1 .taken)
+returns c =
+    let at-args = c .before .before .before .before .before .before in
+    place-there (at-args .args .query .now) (at-args .args .rules .now) (at-args .args .words .now) (at-args .args .n) (at-args .args .word)
+    (c .before .find-vertex .result) (c .before .find-vertex .ensures) (c .if1 .taken)
 
 returns-2 : tie.Need-returns-2
-returns-2 c = place-new (c .before .before .before .before .before .before .before .args .query .now) (c .before .before .before .before .before .before .before .args .rules .now) (c .before .before .before .before .before .before .before .args .words .now) (c .before .before .before .before .before .before .before .args .n) (c .before .before .before .before .before .before .before .args .word) (c .before .before .find-vertex .result) (c .before .before .find-vertex .ensures) (c .before .if1 .left) (c .if2 .taken) (omega arith)
+returns-2 c =
+    let at-args = c .before .before .before .before .before .before .before in
+    place-new (at-args .args .query .now) (at-args .args .rules .now) (at-args .args .words .now) (at-args .args .n) (at-args .args .word)
+    (c .before .before .find-vertex .result) (c .before .before .find-vertex .ensures) (c .before .if1 .left) (c .if2 .taken) (omega arith)
 
 returns-3 : tie.Need-returns-3
-returns-3 c = place-passed (c .before .before .before .before .before .before .before .args .query .now) (c .before .before .before .before .before .before .before .args .rules .now) (c .before .before .before .before .before .before .before .args .words .now) (c .before .before .before .before .before .before .before .args .n) (c .before .before .before .before .before .before .before .args .word) (c .before .before .find-vertex .result) (c .before .before .find-vertex .ensures) (c .before .if1 .left) (c .if2 .left)
+returns-3 c =
+    let at-args = c .before .before .before .before .before .before .before in
+    place-passed (at-args .args .query .now) (at-args .args .rules .now) (at-args .args .words .now) (at-args .args .n) (at-args .args .word)
+    (c .before .before .find-vertex .result) (c .before .before .find-vertex .ensures) (c .before .if1 .left) (c .if2 .left)
 
 pub place-vertex-spec : {M : Type 1} → statement M
 place-vertex-spec =
