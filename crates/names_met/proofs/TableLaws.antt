@@ -1,6 +1,6 @@
 -- Laws of the names in a table: none in zeros, one more, and how a walk along the chain of a name's slot goes. Assumes nothing.
 use Prim.Native.Nat.{ℕ, suc, _+_, _*_, _-_, _≤_, _<_}
-use mathlib.Core.Path.{_≡_, sym, ap, ap₂, _∙_}
+use mathlib.Core.Path.{_≡_, refl, sym, ap, ap₂, _∙_}
 use mathlib.Core.List.{List, [], _∷_, _++_, append-nil}
 use mathlib.Core.Bool.{Bool, true, false}
 use native.Mathlib.Omega.{arith}
@@ -8,7 +8,7 @@ use lib.ListN.{length, set, length-set, take, drop, replicate, length-replicate,
 use lib.Seq.{getD-set-same, getD-set-other}
 use Rattle.logic.specs.Tests.{either, equal-or-not}
 use Rattle.model.specs.Bytes.{Bytes, same}
-use Rattle.model.specs.Names.{mem}
+use Rattle.model.specs.Names.{mem, place}
 use Rattle.model.specs.Answers.{partOf, nameAt}
 use Rattle.model.specs.declared.Part.{Part}
 use Rattle.chains.specs.Chains.{lastOf, linked, Walked}
@@ -17,9 +17,21 @@ use Rattle.chains.proofs.ChainLaws.{chained-kept, length-linked, linked-apart, 
 use Rattle.chains.proofs.ChainLaws.{walk-first, walk-inside, walk-next, walk-falls, walk-over}
 use Rattle.chains.proofs.SlotLaws.{slot-small}
 use Rattle.book_tables.specs.View.{wordAt, nameIn, nameOf, namesAt}
-use Rattle.book_tables.proofs.ListedLaws.{listed-none, listed-same}
-use Rattle.book_tables.proofs.NameLaws.{same-equal, names-end, name-mem, place-out, found-none-in-slot}
+use Rattle.book_tables.proofs.ListedLaws.{listed-none, listed-same, scan-all}
+use Rattle.book_tables.proofs.NameLaws.{same-equal, names-end, name-mem, place-out, found-none}
 use Rattle.names_met.specs.Table.{Names, wordsFrom, namesMet, nameMet, slotMet, Entries, Indexed, Holds}
+
+-- names with another slot are other names
+found-none-in-slot : (name text : Bytes) (words : List ℕ) (offset count : ℕ)
+    → ((i : ℕ) → i < count → slotOf (nameOf text words offset i) ≡ slotOf name → same name (nameOf text words offset i) ≡ false)
+    → count ≡ place name (namesAt text words offset count)
+found-none-in-slot name text words offset count h =
+    found-none name text words offset count count refl
+    (scan-all (same name) (nameOf text words offset) count (λ i l. go i l (same name (nameOf text words offset i)) refl))
+  where
+    go : (i : ℕ) → i < count → (b : Bool) → same name (nameOf text words offset i) ≡ b → same name (nameOf text words offset i) ≡ false
+    go i l true e = h i l (ap slotOf (sym (same-equal name (nameOf text words offset i) e)))
+    go i l false e = e
 
 -- a full table says nothing
 pub holds-full : (s : Bytes) (table : List ℕ) (names : Names) → Holds s table (length table) names
