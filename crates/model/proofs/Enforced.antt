@@ -22,17 +22,10 @@ use Rattle.model.specs.Request.{Request, readRequest}
 use Rattle.model.proofs.AcceptedRequest.{category-declared}
 use Rattle.model.proofs.Decides.{and-iff, each-all, same→eq, same-refl, not-e, or-l, or-r, or-cases}
 use Rattle.model.proofs.Members.{_∈_, test, is-true, is-false, each-e, map-i, map-e, any-e, any-i, keep-e, keep-i, joined-e, joined-i, mem-e, mem-i}
+use Rattle.model.proofs.Places.{map-keep}
 use Rattle.model.proofs.Faults.{step-known}
 use Rattle.model.proofs.Closures.{Within, step, steps, holds-after, steps-keep, closed}
 use Rattle.model.proofs.Outcomes.{never, bytes-e, accept-e, lowest-e, lines-inv}
-
--- elements kept by what f gives of them
-map-keep : {A B : Type 0} (f : A → B) (p : B → Bool) (l : List A) → map f (keep (λ x. p (f x)) l) ≡ keep p (map f l)
-unfolding keep
-map-keep f p [] = refl
-map-keep f p (x ∷ l) = ⊎-elim
-    (λ t. rw (is-true (p (f x)) t) (ap (λ z. f x ∷ z) (map-keep f p l)))
-    (λ t. rw (is-false (p (f x)) t) (map-keep f p l)) (test (p (f x)))
 
 module _ (r : Rules) where
   -- one step down from cs leads to the name e

@@ -1,14 +1,15 @@
 -- What stands at a place of a list, and lists under a function.
 use Prim.Native.Nat.{ℕ, zero, suc, _<_}
-use mathlib.Core.Path.{_≡_, refl, sym, ap, subst, _∙_}
+use mathlib.Core.Path.{_≡_, refl, sym, ap, ap₂, subst, _∙_}
 use mathlib.Core.Logic.{⊎-elim}
-use mathlib.Core.List.{List, [], _∷_, _++_, map, append-assoc, List·Memᴰ·head, List·Memᴰ·tail, List·Memᴰ·cases-cons as cases-cons}
+use mathlib.Core.List.{List, [], _∷_, _++_, map, append-assoc, List·Memᴰ·head, List·Memᴰ·tail, List·Memᴰ·cases-cons as cases-cons, append-nil}
 use mathlib.Core.Bool.{Bool}
 use native.Mathlib.Omega.{arith}
 use lib.ListN.{length, getD}
 use lib.Dec.{T}
 use Rattle.model.specs.Bytes.{Bytes, same}
-use Rattle.model.specs.Lists.{isNil, joined, placeWhere}
+use Rattle.model.specs.Choice.{pick}
+use Rattle.model.specs.Lists.{isNil, joined, keep, placeWhere}
 use Rattle.model.specs.Names.{mem, twice, place}
 use Rattle.model.proofs.Decides.{same→eq, same-refl}
 use Rattle.model.proofs.Members.{_∈_, test, is-true, is-false, mem-i, Tells, same-tells}
@@ -95,3 +96,21 @@ pub joined-append : {A B : Type 0} (f : A → List B) (a b : List A) → joined 
 unfolding joined
 joined-append f [] b = refl
 joined-append f (x ∷ a) b = ap (λ z. f x ++ z) (joined-append f a b) ∙ sym (append-assoc (f x) (joined f a) (joined f b))
+
+pub joined-end : {A B : Type 0} (f : A → List B) (a : List A) (x : A) → joined f (a ++ (x ∷ [])) ≡ joined f a ++ f x
+unfolding joined
+joined-end f a x = joined-append f a (x ∷ []) ∙ ap (λ r. joined f a ++ r) (append-nil (f x))
+
+-- tests that agree on the elements keep the same ones
+pub keep-same : {A : Type 0} (p q : A → Bool) (l : List A) → ((x : A) → x ∈ l → p x ≡ q x) → keep p l ≡ keep q l
+unfolding keep
+keep-same p q [] e = refl
+keep-same p q (x ∷ l) e = ap₂ (λ t r. pick t (x ∷ r) r) (e x (List·Memᴰ·head refl)) (keep-same p q l (λ y i. e y (List·Memᴰ·tail i)))
+
+-- elements kept by what f gives of them
+pub map-keep : {A B : Type 0} (f : A → B) (p : B → Bool) (l : List A) → map f (keep (λ x. p (f x)) l) ≡ keep p (map f l)
+unfolding keep
+map-keep f p [] = refl
+map-keep f p (x ∷ l) = ⊎-elim
+    (λ t. rw (is-true (p (f x)) t) (ap (λ z. f x ∷ z) (map-keep f p l)))
+    (λ t. rw (is-false (p (f x)) t) (map-keep f p l)) (test (p (f x)))

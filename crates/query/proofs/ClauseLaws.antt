@@ -28,7 +28,7 @@ use Rattle.model.specs.declared.Condition.{Condition as ConditionData}
 use Rattle.model.specs.declared.Condition.the-variants.{Excluded, OfVertex, OfEdge}
 use Rattle.model.specs.declared.Clause.{Clause as ClauseData}
 use Rattle.model.proofs.Members.{mem-e}
-use Rattle.model.proofs.Places.{at-place, length-map, map-append}
+use Rattle.model.proofs.Places.{at-place, length-map, map-append, joined-end}
 use Rattle.book_tables.specs.declared.BookCounts.{BookCounts}
 use Rattle.book_tables.specs.Layout.{vattrNames, eattrNames}
 use Rattle.book_tables.specs.View.{bookAt}
@@ -40,7 +40,6 @@ use Rattle.query_pieces.specs.declared.PieceRead.{PieceRead}
 use Rattle.query_pieces.specs.declared.PieceRead.the-variants as read
 use Rattle.query_pieces.specs.Named.{edgesIn, conditionIn, conditionsIn}
 use Rattle.query_pieces.specs.Steps.{pieceOf, pieceStanding, walkAt, StepAt}
-use Rattle.query_pieces.proofs.Tests.{joined-end}
 use Rattle.query_signs.specs.Expected.{valueStanding}
 use Rattle.query_faults.specs.Names.{foundAt, textStart, textPieces}
 use Rattle.query_faults.proofs.ScanLaws.{step-list, step-none}

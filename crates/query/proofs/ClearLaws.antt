@@ -35,7 +35,8 @@ use Rattle.query_pieces.specs.Faults.{someWhere, undeclaredAt, twiceAt, mistype
 use Rattle.query_pieces.specs.Steps.{walkAt, spotOf, chainAt}
 use Rattle.query_pieces.proofs.Walks.{kept, pieces-are-walked}
 use Rattle.query_pieces.proofs.Trees.{tree-names, returns-same}
-use Rattle.query_pieces.proofs.Tests.{vertex-names, edge-names, twice-found, joined-append, joined-end, mem-firsts}
+use Rattle.model.proofs.Places.{joined-append, joined-end}
+use Rattle.query_pieces.proofs.Tests.{vertex-names, edge-names, twice-found, mem-firsts}
 use Rattle.query_faults.specs.Names.{textStart, textPieces}
 use Rattle.query_faults.specs.Counting.{pastLimits}
 use Rattle.query_faults.specs.Tests.{pieceFault}

@@ -25,7 +25,7 @@ use Rattle.query_pieces.specs.declared.Place.{Place}
 use Rattle.query_pieces.specs.declared.Step.{Step}
 use Rattle.query_pieces.specs.declared.PieceRead.{PieceRead}
 use Rattle.query_pieces.specs.declared.PieceRead.the-variants as read
-use Rattle.query_pieces.proofs.Tests.{joined-append}
+use Rattle.model.proofs.Places.{joined-append}
 use Rattle.query_faults.specs.Names.{textStart}
 use Rattle.query_faults.proofs.ScanLaws.{step-whole, step-none}
 

@@ -15,7 +15,8 @@ use Rattle.model.specs.ReadQuery.{isDiffer, tooMany}
 use Rattle.query_pieces.specs.Walk.{Ordered}
 use Rattle.query_pieces.specs.Named.{vertexIn, returnIn, conditionIn, verticesIn, returnsIn, conditionsIn, linksFrom}
 use Rattle.query_pieces.proofs.Trees.{tree-names, returns-same}
-use Rattle.query_pieces.proofs.Tests.{vertex-names, mem-firsts, joined-end}
+use Rattle.model.proofs.Places.{joined-end}
+use Rattle.query_pieces.proofs.Tests.{vertex-names, mem-firsts}
 use Rattle.query_faults.specs.Counting.{countWhere, newVertex, anEdge, anExclusion, aRequirement, aReturn, pastLimits}
 
 -- first appearances of names at the end of a list

@@ -17,7 +17,8 @@ use Rattle.query_pieces.specs.Named.{vertexIn, edgeIn, returnIn, verticesIn, ed
 use Rattle.query_pieces.specs.Faults.{Test, someWhere, undeclaredAt, twiceAt, mistypedAt, fromItselfAt}
 use Rattle.query_pieces.specs.Steps.{walkAt}
 use Rattle.query_pieces.proofs.Trees.{returns-same}
-use Rattle.query_pieces.proofs.Tests.{joined-append, joined-end, mem-firsts, vertex-names, edge-names, twice-found}
+use Rattle.model.proofs.Places.{joined-append, joined-end}
+use Rattle.query_pieces.proofs.Tests.{mem-firsts, vertex-names, edge-names, twice-found}
 use Rattle.logic.specs.Tests.{below-or-not}
 use mathlib.Core.Logic.{⊎-elim}
 use borrow.Author.Tests.{eq-eqb, ne-eqb, lt-ltb, le-ltb}

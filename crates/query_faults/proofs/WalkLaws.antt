@@ -16,7 +16,7 @@ use Rattle.query_pieces.specs.declared.Place.{Place}
 use Rattle.query_pieces.specs.declared.Step.{Step}
 use Rattle.query_pieces.specs.declared.PieceRead.{PieceRead}
 use Rattle.query_pieces.specs.declared.PieceRead.the-variants as read
-use Rattle.query_pieces.proofs.Tests.{joined-end}
+use Rattle.model.proofs.Places.{joined-end}
 use Rattle.names_met.specs.Table.{Holds}
 use Rattle.query_faults.specs.Names.{nameIn, namesIn, foundAt, textPieces, textStart}
 use Rattle.query_faults.specs.TextFault.{textFault}

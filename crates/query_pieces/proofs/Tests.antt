@@ -26,15 +26,6 @@ mem-firsts v vs = ⊎-elim
     ∙ sym (is-false (mem v vs) f))
     (test (mem v vs))
 
-pub joined-append : {A B : Type 0} (f : A → List B) (a b : List A) → joined f (a ++ b) ≡ joined f a ++ joined f b
-unfolding joined
-joined-append f [] b = refl
-joined-append f (x ∷ a) b = rw (joined-append f a b) (sym (append-assoc (f x) (joined f a) (joined f b)))
-
-pub joined-end : {A B : Type 0} (f : A → List B) (a : List A) (x : A) → joined f (a ++ (x ∷ [])) ≡ joined f a ++ f x
-unfolding joined
-joined-end f a x = joined-append f a (x ∷ []) ∙ ap (λ r. joined f a ++ r) (append-nil (f x))
-
 -- a test more in one place of three
 first-of : (x a b c : Bool) → pick x true (a || b || c) ≡ (pick x true a || b || c)
 first-of true a b c = refl

@@ -26,7 +26,8 @@ use Rattle.items.proofs.FormLaws.{line-form, form-word, form-quoted, form-name,
 use Rattle.items.proofs.RestLaws.{rest-same, rest-nothing}
 use Rattle.items.specs.Places.{WordPlaces, QuotedPlaces, QuotedPlaced}
 use Rattle.name_lists.specs.Names.{NamesRead, namesBehind, namesEnd, headedAt}
-use Rattle.name_lists.proofs.Behind.{rest-on, headed-names}
+use Rattle.name_lists.proofs.Behind.{headed-names}
+use Rattle.name_lists.proofs.Forms.{form-on, no-name, a-name}
 use Rattle.rules.specs.Forms.{between, afterList, ListRead, NamesList, CategoryRead, PolicyRead, FormRead}
 use Rattle.rules.specs.declared.RulesForm.{RulesForm}
 
@@ -66,29 +67,6 @@ module _ (head s : Bytes) (i : ℕ) where
               line = λ free k. list-names free k ∙ ap (λ (o : Maybe NamesRead). andThen o (λ x. formAt true (x .end) s (k (x .names)))) q
                   ∙ ap (λ (v : ℕ). formAt true v s (k (x .names))) f;
             }
-
--- a name that begins what follows
-module _ (s : Bytes) (i : ℕ) (k : Bytes → List Item → Maybe RulesLine) where
-  no-name : piece.None ≡ namePlaces (nameNext 3 false s i) → formAt false i s (λ is. first asName is k) ≡ nothing
-  unfolding onName
-  no-name n = form-name false i s k ∙ go (nameNext 3 false s i) n
-    where
-      go : (r : NameItem) → piece.None ≡ namePlaces r → onName s r (λ n q. formAt false q s (k n)) (λ e. nothing) ≡ nothing
-      go (name.Name p q) n = let z : _≡_ {A = ℕ} 0 1 = cc in absurd (omega arith)
-      go (name.Close e) n = refl
-      go name.None n = refl
-
-  a-name : (p q : ℕ) → piece.At p q ≡ namePlaces (nameNext 3 false s i) → formAt false i s (λ is. first asName is k) ≡ formAt false q s (k (between s p q))
-  unfolding onName
-  a-name p q n = form-name false i s k ∙ go (nameNext 3 false s i) n
-    where
-      go : (r : NameItem) → piece.At p q ≡ namePlaces r → onName s r (λ n q. formAt false q s (k n)) (λ e. nothing) ≡ formAt false q s (k (between s p q))
-      go (name.Name a b) n =
-          let ea : a ≡ p = cc in
-          let eb : b ≡ q = cc in
-          ap (λ (v : ℕ). formAt false b s (k (between s v b))) ea ∙ ap (λ (v : ℕ). formAt false v s (k (between s p v))) eb
-      go (name.Close e) n = let z : _≡_ {A = ℕ} 0 1 = cc in absurd (omega arith)
-      go name.None n = let z : _≡_ {A = ℕ} 0 1 = cc in absurd (omega arith)
 
 -- a category's line
 module _ (s : Bytes) (i : ℕ) where
@@ -130,17 +108,6 @@ module _ (s : Bytes) (i : ℕ) where
 
       pub category-open : {o f : ℕ} (y : ListRead (bytesOf "over") s e o f) → formCloses s f ≡ false → formAt false i s categoryLine ≡ nothing
       category-open y t = category-line y ∙ ap (λ (b : Bool). pick b (just (category (between s p q) (x .read .names) (y .read .names))) nothing) t
-
--- what is made of a form that ends
-form-on : {A B : Type 0} (free : Bool) (i : ℕ) (s : Bytes) (f : List Item → Maybe A) (h : A → Maybe B)
-    → formAt free i s (λ is. andThen (f is) h) ≡ andThen (formAt free i s f) h
-unfolding formAt andThen
-form-on {A} {B} free i s f h = rest-same 3 free i s _ _ (λ e is. go (spacesFrom s e) (f is))
-    ∙ rest-on 3 free i s (λ e is. pick (spacesFrom s e) (f is) nothing) h
-  where
-    go : (b : Bool) (o : Maybe A) → pick b (andThen o h) nothing ≡ andThen (pick b o nothing) h
-    go true o = refl
-    go false o = refl
 
 -- a policy's line
 module _ (s : Bytes) (i : ℕ) where

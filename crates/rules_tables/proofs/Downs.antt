@@ -14,6 +14,7 @@ use Rattle.model.specs.Lists.{any, keep, joined, placeWhere}
 use Rattle.model.specs.Names.{mem}
 use Rattle.model.specs.Rules.{Category, Policy, Rules, categoryNames, actorsOf, stepDown, stepsDown, downFrom, enforced}
 use Rattle.model.proofs.Members.{_∈_, is-true, is-false, keep-e, keep-i, mem-e, mem-i}
+use Rattle.model.proofs.Places.{joined-end, keep-same, map-keep}
 use Rattle.book_tables.specs.Listed.{listed}
 use Rattle.book_tables.specs.View.{nameOf, namesAt}
 use Rattle.book_tables.proofs.ListedLaws.{length-listed, getD-listed, scan-found, place-inside, place-passes, place-none}
@@ -25,23 +26,6 @@ use Rattle.rules_tables.specs.Fits.{Fits}
 use Rattle.rules_tables.specs.Enforced.{policyPlace, policiesOf, enforcedBelow}
 use Rattle.rules_tables.proofs.Lowers.{named, category-names, declared, lower-is-down}
 
--- tests that agree on the elements keep the same ones
-keep-same : {A : Type 0} (p q : A → Bool) (l : List A) → ((x : A) → x ∈ l → p x ≡ q x) → keep p l ≡ keep q l
-unfolding keep
-keep-same p q [] h = refl
-keep-same p q (x ∷ l) h = rw (h x (List·Memᴰ·head refl), keep-same p q l (λ y m. h y (List·Memᴰ·tail m)))
-
--- elements kept by what f gives of them
-map-keep : {A B : Type 0} (f : A → B) (p : B → Bool) (l : List A) → map f (keep (λ x. p (f x)) l) ≡ keep p (map f l)
-unfolding keep
-map-keep f p [] = refl
-map-keep f p (x ∷ l) = go (p (f x)) (map-keep f p l)
-  where
-    go : (b : Bool) → map f (keep (λ x. p (f x)) l) ≡ keep p (map f l)
-        → map f (pick b (x ∷ keep (λ x. p (f x)) l) (keep (λ x. p (f x)) l)) ≡ pick b (f x ∷ keep p (map f l)) (keep p (map f l))
-    go true e = ap (λ z. f x ∷ z) e
-    go false e = e
-
 keep-end : {A : Type 0} (p : A → Bool) (l : List A) (x : A) → keep p (l ++ (x ∷ [])) ≡ keep p l ++ pick (p x) (x ∷ []) []
 unfolding keep
 keep-end p [] x = refl
@@ -51,15 +35,6 @@ keep-end p (y ∷ l) x = rw (keep-end p l x) (go (p y))
         ≡ pick b (y ∷ keep p l) (keep p l) ++ pick (p x) (x ∷ []) []
     go true = refl
     go false = refl
-
-joined-end : {A B : Type 0} (g : A → List B) (l : List A) (x : A) → joined g (l ++ (x ∷ [])) ≡ joined g l ++ g x
-unfolding joined
-joined-end g [] x = nil (g x)
-  where
-    nil : {B : Type 0} (l : List B) → l ++ [] ≡ [] ++ l
-    nil [] = refl
-    nil (y ∷ l) = ap (λ z. y ∷ z) (nil l)
-joined-end g (y ∷ l) x = rw (joined-end g l x) (sym (append-assoc (g y) (joined g l) (g x)))
 
 -- what is joined of the elements kept
 joined-keep : {A B : Type 0} (g : A → List B) (p : A → Bool) (l : List A) → joined g (keep p l) ≡ joined (λ x. pick (p x) (g x) []) l

@@ -29,7 +29,8 @@ use Rattle.woven_tables.proofs.EdgeLaws.{edges-same}
 use Rattle.woven_tables.proofs.ClauseTable.{clauses-same}
 use Rattle.woven_tables.proofs.ReturnLaws.{returns-same}
 use Rattle.weave.proofs.OneText.{length-edges, length-clauses, keep-both}
-use Rattle.weave.proofs.TieLaws.{keep-same, all-same, marked-mem}
+use Rattle.model.proofs.Places.{keep-same}
+use Rattle.weave.proofs.TieLaws.{all-same, marked-mem}
 
 vertex-at : (q r : Bytes) (words : List ℕ) (n v : ℕ) → v < n → getD (verticesAt q r words n) v noVertex ≡ vertexOfWord q r (getD words v 0)
 unfolding verticesAt

@@ -31,12 +31,6 @@ marked-mem n mask v h = same-test (any (eqb v) (keep (bit mask) (below n))) (bit
     subst (λ z. T (bit mask z)) (sym (eqb→eq v (e .0) (e .2))) (keep-e (bit mask) (below n) (e .0) (e .1) .1))
     (λ t. any-i (eqb v) (keep (bit mask) (below n)) v (keep-i (bit mask) (below n) v (below-i n v h) t) (eqb-refl v))
 
--- two tests that agree on a list
-pub keep-same : {A : Type 0} (p q : A → Bool) (l : List A) → ((x : A) → x ∈ l → p x ≡ q x) → keep p l ≡ keep q l
-unfolding keep
-keep-same p q [] e = refl
-keep-same p q (x ∷ l) e = ap₂ (λ t r. pick t (x ∷ r) r) (e x (List·Memᴰ·head refl)) (keep-same p q l (λ y i. e y (List·Memᴰ·tail i)))
-
 any-listed : {A B : Type 0} (p : A → Bool) (q : B → Bool) (f : ℕ → A) (g : ℕ → B) (n : ℕ) → ((i : ℕ) → i < n → p (f i) ≡ q (g i))
     → any p (listed f n) ≡ any q (listed g n)
 unfolding listed any
