@@ -4,6 +4,7 @@ use mathlib.Core.List.{List, [], _∷_}
 use lib.ListN.{getD}
 use lib.Dec.{leb}
 use Rattle.model.specs.Choice.{pick}
+use Rattle.model.specs.PlainData.{noPart, noEdge, noClause}
 use Rattle.model.specs.declared.Part.{Part}
 use Rattle.model.specs.declared.Edge.{Edge}
 use Rattle.model.specs.declared.Relation.{Relation}
@@ -60,16 +61,7 @@ conditionRow (OfEdge e x) = requirementRow 3 e x
 abbrev pub identityRow : Identity → List ℕ
 identityRow i = i .actor .start ∷ i .actor .length ∷ i .node ∷ []
 
--- what stands past the end of an array
-abbrev pub noPart : Part
-noPart = record { start = 0; length = 0 }
-
-abbrev pub noEdge : Edge
-noEdge = record { name = noPart; label = 0; from = 0; to = 0 }
-
-abbrev pub noClause : Clause
-noClause = record { condition = Excluded 0 0 }
-
+-- what stands past the end of the identities
 abbrev pub noIdentity : Identity
 noIdentity = record { actor = noPart; node = 0 }
 

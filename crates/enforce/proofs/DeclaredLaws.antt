@@ -33,7 +33,8 @@ use Rattle.weave.specs.Adding.{noCounts, TextAdded}
 use Rattle.weave.proofs.OneText.{each-take, length-edges, length-clauses}
 use Rattle.weave.proofs.Ranges.{each-map, each-append}
 use Rattle.weave.proofs.Whole.{none-woven}
-use Rattle.weave.specs.Given.{whatOf, highOf, lowOf, edgeWord, clauseCount, AttributeDeclared}
+use Rattle.woven_tables.specs.Reading.{whatOf, highOf, lowOf}
+use Rattle.weave.specs.Given.{edgeWord, clauseCount, AttributeDeclared}
 use Rattle.enforce.specs.OneNamed.{aName, someAttrs, oneNamed, NamesOne, AllNamed, Declared}
 
 -- the one name stands at the numbers counted, and at no other

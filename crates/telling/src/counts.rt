@@ -68,8 +68,8 @@ pub fn tell_rules(
     text: &mut u32,
     line: &mut u32,
 ) -> bool
-    ensures { λ r. ⌜ RulesTold (rulesAnswer read) r (now (categories .exit)) (now (policies .exit)) (now (number .exit)) (now (text .exit))
-        (now (line .exit)) ⌝ }
+    ensures { λ r. ⌜ RulesTold (rulesAnswer read) r (now (categories .exit)) (now (policies .exit))
+        (now (number .exit)) (now (text .exit)) (now (line .exit)) ⌝ }
 {
     match read {
         RulesRead::Counts(c, p) => {

@@ -10,9 +10,7 @@ use model::limits::MAX_IDENTITIES;
 use woven_tables::IDENTITIES;
 use woven_tables::NO_NODE;
 use woven_tables::names;
-
-// A vertex word is twice the word of its name, and one more for an actor vertex.
-const VERTEX_KINDS: u32 = 2;
+use woven_tables::names::VERTEX_KINDS;
 
 // The node that the identities give to a woven vertex, or no node.
 fn find_identity(

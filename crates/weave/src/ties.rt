@@ -5,9 +5,7 @@ ghost use Rattle.woven_tables.specs.Tables.{wovenWords};
 ghost use Rattle.weave.specs.Identities.{EdgesLow, Stepped, TiedBy};
 use crate::marks;
 use woven_tables::EDGES;
-
-// An edge word is label * LABEL_UNIT + from * VERTEX_UNIT + to.
-const VERTEX_UNIT: usize = 256;
+use woven_tables::edges::FROM_UNIT;
 
 // One step along all edges.
 fn step(words: &[u32], edges: usize, mask: u32) -> u32
@@ -18,8 +16,8 @@ fn step(words: &[u32], edges: usize, mask: u32) -> u32
     let mut i = 0;
     while i < edges {
         let word = words[EDGES + i] as usize;
-        let from = word / VERTEX_UNIT % VERTEX_UNIT;
-        let to = word % VERTEX_UNIT;
+        let from = word / FROM_UNIT % FROM_UNIT;
+        let to = word % FROM_UNIT;
         next = marks::mark_if(next, from, bits::has(mask, to));
         next = marks::mark_if(next, to, bits::has(mask, from));
         i += 1;

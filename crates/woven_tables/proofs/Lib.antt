@@ -7,3 +7,4 @@ pub mod EdgeLaws
 pub mod ClauseLaws
 pub mod ClauseTable
 pub mod ReturnLaws
+pub mod ReadingLaws

@@ -9,6 +9,7 @@ ghost use Rattle.woven_tables.specs.ClauseSteps.{ValueSaid, RequirementS
 ghost use Rattle.woven_tables.specs.ClauseSteps.{oneIfExcluded, ExclusionsCounted};
 use crate::CLAUSE_WORDS;
 use crate::CLAUSES;
+use book_tables::values::HALF;
 use model::Clause;
 use model::Condition;
 use model::Relation;
@@ -17,24 +18,21 @@ use model::Value;
 use model::limits::MAX_CONDITIONS;
 use model::limits::MAX_VERTICES;
 
-// The half of a whole number's 64 bits.
-const HALF: u64 = 4294967296;
-
 // The first word of a clause: kind, value's kind, relation, attribute, owner and text's number, each times its unit.
-const VALUE_UNIT: usize = 4;
+pub const VALUE_UNIT: usize = 4;
 
-const RELATION_UNIT: usize = 16;
+pub const RELATION_UNIT: usize = 16;
 
-const ATTRIBUTE_UNIT: usize = 128;
+pub const ATTRIBUTE_UNIT: usize = 128;
 
-const OWNER_UNIT: usize = 4096;
+pub const OWNER_UNIT: usize = 4096;
 
-const TEXT_UNIT: usize = 262144;
+pub const TEXT_UNIT: usize = 262144;
 
-// The kinds of clauses.
-const EXCLUSION: u32 = 0;
+// The kinds of clauses; those past OF_VERTEX are requirements of an edge.
+pub const EXCLUSION: u32 = 0;
 
-const OF_VERTEX: usize = 1;
+pub const OF_VERTEX: usize = 1;
 
 const OF_EDGE: usize = 2;
 

@@ -12,9 +12,9 @@ use model::limits::MAX_EDGES;
 use model::limits::MAX_VERTICES;
 
 // An edge word is label * LABEL_UNIT + from * FROM_UNIT + to, as a relationship's.
-const LABEL_UNIT: usize = 65536;
+pub const LABEL_UNIT: usize = 65536;
 
-const FROM_UNIT: usize = 256;
+pub const FROM_UNIT: usize = 256;
 
 // The word of an edge.
 fn edge_word(label: usize, from: usize, to: usize) -> u32

@@ -2,6 +2,7 @@
 pub mod clauses;
 pub mod edges;
 pub mod names;
+pub mod reading;
 pub mod returns;
 pub mod vertices;
 

@@ -8,19 +8,18 @@ ghost use Rattle.model.specs.Names.{mem};
 ghost use Rattle.model.specs.Weave.{sameVertex, placeVertex, weaveVertex};
 ghost use Rattle.model.specs.Answers.{partOf};
 ghost use Rattle.woven_tables.specs.Tables.{textOf, nameOf, vertexOfWord, actorsAt, verticesAt};
+use book_tables::names::NAME_LENGTHS;
 
 // A name word is (text's number * NAME_STARTS + start) * NAME_LENGTHS + length.
-const NAME_LENGTHS: usize = 32;
-
 const NAME_STARTS: usize = 65536;
 
 // The words that names of one text have.
 const TEXT_NAMES: usize = 2097152;
 
-const KIND_NAMES: u32 = 2097152;
+const KIND_NAMES: u32 = TEXT_NAMES as u32;
 
 // A vertex word is twice the word of its name, and one more for an actor vertex.
-const VERTEX_KINDS: u32 = 2;
+pub const VERTEX_KINDS: u32 = 2;
 
 // The part of a text from start on, of a length; fewer bytes at the text's end.
 pub fn part(text: &[u8], start: usize, length: usize) -> &[u8]

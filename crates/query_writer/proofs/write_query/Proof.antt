@@ -26,29 +26,25 @@ put-query-requires c κs = let s = c .before .before .before .before .before in 
 
 returns : tie.Need-returns
 returns c =
-    let at-put-query = c .before .before .before .before in
-    let at-before = at-put-query .before .before .before .before .before in
-    let put = at-put-query .put-query in
-    let s = at-before .before in
-    refused (puts-same (text-is s) (put .ensures)) (omega arith) (nothing-lent (put .last .1 .1 .1 .1 .0) (s .args .out .now) (put .kept .1 .1 .1 .1 .0))
-    (sym (c .before .too-long .ensures) ∙ c .if1 .taken)
+    let test = c .before .before .before in
+    let put = test .before .put-query in
+    let s = test .before .before .before .before .before .before .before in
+    let kept = nothing-lent (put .last .1 .1 .1 .1 .0) (s .args .out .now) (put .kept .1 .1 .1 .1 .0) in
+    refused (puts-same (text-is s) (put .ensures)) (omega arith) kept (sym (c .before .too-long .ensures) ∙ c .if1 .taken)
 
 put-query-requires-2 : tie.Need-put-query-requires-2
 put-query-requires-2 c κs =
-    let at-before = c .before .before .before .before .before .before .before .before .before .before in
-    let s = at-before .before in (inside-arrays (s .pre), tables-inside (s .pre))
+    let s = c .before .before .before .before .before .before .before .before .before .before .before in
+    (inside-arrays (s .pre), tables-inside (s .pre))
 
 returns-2 : tie.Need-returns-2
 returns-2 c =
-    let at-if1 = c .before .before .before .before in
-    let at-too-long = at-if1 .before in
-    let at-put-query = at-too-long .before .before .before in
-    let at-before = at-put-query .before .before .before .before .before in
-    let put = at-put-query .put-query in
-    let s = at-before .before in
-    written-in-front (puts-same (text-is s) (put .ensures)) (omega arith)
-    (nothing-lent (put .last .1 .1 .1 .1 .0) (s .args .out .now) (put .kept .1 .1 .1 .1 .0))
-    (sym (at-too-long .too-long .ensures) ∙ at-if1 .if1 .left) (puts-same (text-is s) (c .before .before .put-query2 .ensures))
+    let test = c .before .before .before .before in
+    let put = test .before .before .before .before .put-query in
+    let s = test .before .before .before .before .before .before .before .before .before .before in
+    let kept = nothing-lent (put .last .1 .1 .1 .1 .0) (s .args .out .now) (put .kept .1 .1 .1 .1 .0) in
+    written-in-front (puts-same (text-is s) (put .ensures)) (omega arith) kept (sym (test .before .too-long .ensures) ∙ test .if1 .left)
+    (puts-same (text-is s) (c .before .before .put-query2 .ensures))
 
 pub write-query-spec : {M : Type 1} → statement M
 write-query-spec =

@@ -5,8 +5,8 @@ use Rattle.hifmuneth.proofs.list.hifmuneth_list.Tie as tie
 
 returns : tie.Need-returns
 returns c =
-    let at-list = c .before .before .before .before .before .before .before .before .before .before in
-    let r = at-list .list in (rw (r .ensures .answer) at (c .tell-rows .ensures), (r .ensures .rows-left, r .ensures .cleared))
+    let r = c .before .before .before .before .before .before .before .before .before .before .list in
+    (rw (r .ensures .answer) at (c .tell-rows .ensures), (r .ensures .rows-left, r .ensures .cleared))
 
 pub hifmuneth-list-spec : {M : Type 1} → statement M
 hifmuneth-list-spec =

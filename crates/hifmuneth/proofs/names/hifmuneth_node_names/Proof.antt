@@ -4,7 +4,9 @@ use Rattle.hifmuneth.proofs.names.hifmuneth_node_names.Statement.{state
 use Rattle.hifmuneth.proofs.names.hifmuneth_node_names.Tie as tie
 
 returns : tie.Need-returns
-returns c = let r = c .before .before .before .before .before .before .before .node-names in (rw (r .ensures .0) at (c .tell-names .ensures), r .ensures .1)
+returns c =
+    let r = c .before .before .before .before .before .before .before .node-names in
+    (rw (r .ensures .0) at (c .tell-names .ensures), r .ensures .1)
 
 pub hifmuneth-node-names-spec : {M : Type 1} → statement M
 hifmuneth-node-names-spec =

@@ -5,8 +5,8 @@ use Rattle.hifmuneth.proofs.read_book.hifmuneth_read_book.Tie as tie
 
 returns : tie.Need-returns
 returns c =
-    let at-read-book = c .before .before .before .before .before .before .before .before .before in
-    let r = at-read-book .read-book in (rw (r .ensures .0) at (c .tell-book .ensures), r .ensures .1)
+    let r = c .before .before .before .before .before .before .before .before .before .read-book in
+    (rw (r .ensures .0) at (c .tell-book .ensures), r .ensures .1)
 
 pub hifmuneth-read-book-spec : {M : Type 1} → statement M
 hifmuneth-read-book-spec =

@@ -5,8 +5,8 @@ use Rattle.hifmuneth.proofs.read_query.hifmuneth_read_query.Tie as tie
 
 returns : tie.Need-returns
 returns c =
-    let at-read-query = c .before .before .before .before .before .before .before .before .before .before .before .before .before .before in
-    let r = at-read-query .read-query in (rw (r .ensures .1 .0) at (c .tell-query .ensures), r .ensures .1 .1)
+    let r = c .before .before .before .before .before .before .before .before .before .before .before .before .before .before .read-query in
+    (rw (r .ensures .1 .0) at (c .tell-query .ensures), r .ensures .1 .1)
 
 pub hifmuneth-read-query-spec : {M : Type 1} → statement M
 hifmuneth-read-query-spec =

@@ -5,8 +5,8 @@ use Rattle.hifmuneth.proofs.read_request.hifmuneth_read_request.Tie as 
 
 returns : tie.Need-returns
 returns c =
-    let at-read-request = c .before .before .before .before .before .before .before .before .before in
-    let r = at-read-request .read-request in (rw (r .ensures .1 .0) at (c .tell-request .ensures), r .ensures .1 .1)
+    let r = c .before .before .before .before .before .before .before .before .before .read-request in
+    (rw (r .ensures .1 .0) at (c .tell-request .ensures), r .ensures .1 .1)
 
 pub hifmuneth-read-request-spec : {M : Type 1} → statement M
 hifmuneth-read-request-spec =

@@ -5,8 +5,8 @@ use Rattle.hifmuneth.proofs.read_rules.hifmuneth_read_rules.Tie as tie
 
 returns : tie.Need-returns
 returns c =
-    let at-read-rules = c .before .before .before .before .before .before .before .before in
-    let r = at-read-rules .read-rules in (rw (r .ensures .0) at (c .tell-rules .ensures), r .ensures .1)
+    let r = c .before .before .before .before .before .before .before .before .read-rules in
+    (rw (r .ensures .0) at (c .tell-rules .ensures), r .ensures .1)
 
 pub hifmuneth-read-rules-spec : {M : Type 1} → statement M
 hifmuneth-read-rules-spec =

@@ -5,8 +5,8 @@ use Rattle.hifmuneth.proofs.write_query.hifmuneth_write_query.Tie as ti
 
 returns : tie.Need-returns
 returns c =
-    let at-write-query = c .before .before .before .before .before .before .before .before .before in
-    let r = at-write-query .write-query in (rw (r .ensures .0) at (c .tell-length .ensures), r .ensures .1)
+    let r = c .before .before .before .before .before .before .before .before .before .write-query in
+    (rw (r .ensures .0) at (c .tell-length .ensures), r .ensures .1)
 
 pub hifmuneth-write-query-spec : {M : Type 1} → statement M
 hifmuneth-write-query-spec =
