@@ -25,7 +25,7 @@ use Rattle.model.proofs.Accepted.{policies-named}
 use Rattle.model.proofs.RowsHad.{rows-may-be-had}
 use Rattle.model.proofs.Ascending.{rows-ascend, ascending-none-twice}
 use Rattle.rows.specs.SortedLaws.{same-list}
-use Rattle.service.proofs.AskedLaws.{ascending-sorted}
+use Rattle.listing.proofs.AskedLaws.{ascending-sorted}
 use Rattle.model.specs.Tied.{IsVertex, TiedTo}
 use Rattle.model.specs.Refused.{AllRead, woven, wovenNumber, rowsFor, foundFor}
 use Rattle.model.specs.Demands.{Premises, HadRows}

@@ -1,5 +1,4 @@
 -- The reasoning behind the services' proofs.
 pub mod ReaderLaws
 pub mod WritingLaws
-pub mod ListingLaws
-pub mod AskedLaws
+pub mod ListLaws

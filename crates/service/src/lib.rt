@@ -25,8 +25,6 @@ use putting::Written;
 use query::pattern;
 use rules_tables::RULES_WORDS;
 
-mod listing; // listing.rt: the rows that may be had, once all texts are read
-
 // Reads a book and answers its counts of nodes, relationships and attribute entries, or a refusal. The working memory ends all ones.
 pub fn read_book(book: &[u8], work: &mut [u32]) -> BookRead
     ensures answer { λ r. ⌜ bookAnswer r ≡ bookService (length (now (work .entry))) (now (book .entry)) .answer ⌝ }

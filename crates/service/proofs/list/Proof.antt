@@ -1,7 +1,6 @@
 -- `list` meets its contract: the rows of the texts that are ready, or the refusal; then the memory is filled.
 use Rattle.prepare.proofs.ThroughLaws.{cleared-all}
-use Rattle.service.proofs.ListingLaws.{list-refused, list-ready}
-use Rattle.service.proofs.AskedLaws.{asked-ready}
+use Rattle.service.proofs.ListLaws.{asked-ready, list-refused, list-ready}
 use borrow.Author.Needs.{needs}
 use Rattle.service.proofs.list.Statement.{statement}
 use Rattle.service.proofs.list.Tie as tie

@@ -8,17 +8,14 @@ use lib.ListN.{length, take}
 use lib.Dec.{ltb}
 use lib.Seq.{length-take-le}
 use borrow.Author.Tests.{lt-ltb, le-ltb}
-use Rattle.model.specs.Bytes.{Bytes}
 use Rattle.model.specs.Choice.{pick}
 use Rattle.model.specs.Lists.{joined}
 use Rattle.model.specs.Refusal.{Outcome, accepted, refused, onAccept, refusal}
 use Rattle.model.specs.Book.{Book}
 use Rattle.model.specs.Request.{Identity}
-use Rattle.model.specs.Service.{ones, FoundRows, rowWords, listFound, listService}
+use Rattle.model.specs.Service.{ones, FoundRows, rowWords}
 use Rattle.model.specs.Answers.{refusalOf, listAnswer}
-use Rattle.model.specs.Demands.{ListCalled}
 use Rattle.model.specs.declared.Refusal.{Refusal as RefusalData}
-use Rattle.model.specs.declared.Verdict.the-variants.{Accepted, Refused}
 use Rattle.model.specs.declared.RowsListed.{RowsListed}
 use Rattle.model.specs.declared.RowsListed.the-variants as answer
 use Rattle.fill.specs.Filled.{filled}
@@ -31,17 +28,8 @@ use Rattle.jumps.specs.Problem.{AllRows}
 use Rattle.problem.specs.ProblemOf.{problemOf}
 use Rattle.weave.specs.Given.{Identified}
 use Rattle.problem.specs.Rows.{RowsFound}
-use Rattle.prepare.specs.declared.Needs.{Needs}
-use Rattle.prepare.specs.declared.Ready.{Ready}
-use Rattle.prepare.specs.Texts.{afterRules, afterBook, through}
-use Rattle.prepare.specs.Ready.{Prepared}
-use Rattle.prepare.proofs.ThroughLaws.{all-ready, refused-through, ready-through}
-use Rattle.service.specs.Listed.{rowsOfTexts, Lists, TextsListed}
+use Rattle.listing.specs.Listed.{Lists}
 use Rattle.model.specs.Weave.{WovenPattern}
-
--- what is needed
-abbrev pub needed : Needs
-needed = record { rules = true; query = true; request = true }
 
 -- rows that were found or refused
 abbrev pub RowsGiven : Type 0
@@ -98,24 +86,3 @@ module _ (b : Book) (p : WovenPattern) (woven : List ℕ) (returns : ℕ) (befor
         answer = ap (λ (n : ℕ). accepted (record { rows = n; width = returns })) (sym (found-count e));
         rows = f ∙ ap₂ (λ (l : List ℕ) (n : ℕ). l ++ ones n) (sym (found-words e)) room;
       })
-
--- what the call of the list promises
-module _ (book rules query request : Bytes) (rows work rows′ work′ : List ℕ) (words table : List ℕ) (r : Ready)
-    (given : Prepared needed book rules query request words table (through needed (length work) book rules query request accepted) r)
-    (cleared : work′ ≡ ones (length work)) where
-  called : (o : RowsGiven) (res : RowsListed) → through needed (length work) book rules query request (rowsOfTexts (length rows)) ≡ o
-      → Lists o (length rows) rows′ res
-      → ListCalled book rules query request rows work rows′ work′ res
-  unfolding listService listFound through afterBook afterRules onAccept rowsOfTexts
-  called o res e h = let l = lists-as (listFound (length work) (length rows) book rules query request) o (length rows) rows′ res e h in
-      record { answer = l .answer; rows-left = l .rows; cleared = cleared }
-
-  pub list-refused : (x : RefusalData) → r .request .verdict ≡ Refused x → (res : RowsListed) → Lists (refused (refusalOf x)) (length rows) rows′ res
-      → ListCalled book rules query request rows work rows′ work′ res
-  list-refused x e res h = called _ res (refused-through needed (length work) book rules query request (rowsOfTexts (length rows)) words table r given x e) h
-
-  pub list-ready : r .request .verdict ≡ Accepted → (res : RowsListed) → TextsListed book words query rules table request r (length rows) rows′ res
-      → ListCalled book rules query request rows work rows′ work′ res
-  list-ready e res h =
-      let a = all-ready needed (length work) book rules query request (rowsOfTexts (length rows)) words table r given e in
-      called _ res (ready-through needed (length work) book rules query request (rowsOfTexts (length rows)) words table r given a) (h (a .request-ready))

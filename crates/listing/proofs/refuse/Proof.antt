@@ -1,8 +1,8 @@
 -- A refusal of a list: the row words are filled.
-use Rattle.service.proofs.ListingLaws.{lists-nothing}
+use Rattle.listing.proofs.ListingLaws.{lists-nothing}
 use borrow.Author.Needs.{needs}
-use Rattle.service.proofs.listing.refuse.Statement.{statement}
-use Rattle.service.proofs.listing.refuse.Tie as tie
+use Rattle.listing.proofs.refuse.Statement.{statement}
+use Rattle.listing.proofs.refuse.Tie as tie
 
 returns : tie.Need-returns
 returns c = lists-nothing _ (c .before .before .before .before .before .args .rows .now) _ (c .before .before .fill .ensures)
