@@ -4,7 +4,7 @@ use mathlib.Core.Path.{_≡_, refl, sym, ap, subst, _∙_}
 use mathlib.Core.List.{List}
 use mathlib.Core.Bool.{Bool, true, false}
 use lib.ListN.{length}
-use Rattle.woven_tables.specs.Tables.{wovenWords}
+use Rattle.rules_tables.specs.Layout.{rulesWords}
 use Rattle.model.specs.Bytes.{Bytes}
 use Rattle.model.specs.Refusal.{accepted}
 use Rattle.model.specs.Book.{Book}
@@ -35,7 +35,7 @@ module _ (needed : Bool) (b : Book) (text : Bytes) where
       go (load.Loaded c) (is, fits, short) = (is, fits)
       go (load.Refused x) h = h
 
-  pub rules-not-needed : needed ≡ false → (table : List ℕ) → wovenWords ≤ length table
+  pub rules-not-needed : needed ≡ false → (table : List ℕ) → rulesWords ≤ length table
       → RulesGiven text table (rulesIf needed b text) (load.Loaded (record { categories = 0; policies = 0 }))
   rules-not-needed e table room =
       subst (λ (t : Bool). RulesGiven text table (rulesIf t b text) (load.Loaded (record { categories = 0; policies = 0 }))) (sym e)

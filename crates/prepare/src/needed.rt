@@ -2,7 +2,7 @@
 ghost use mathlib.Core.Path.{_≡_};
 ghost use Prim.Native.Nat.{_≤_};
 ghost use lib.ListN.{length};
-ghost use Rattle.woven_tables.specs.Tables.{wovenWords};
+ghost use Rattle.rules_tables.specs.Layout.{rulesWords};
 ghost use Rattle.book_tables.specs.View.{bookAt};
 ghost use Rattle.book_tables.specs.Fits.{Fits};
 ghost use Rattle.rules_tables.specs.Fits.{Fits as RulesFit};
@@ -26,7 +26,7 @@ pub fn rules(
     text: &[u8],
     table: &mut [u32],
 ) -> RulesLoad
-    requires { ⌜ Fits (now book) (now words) counts × (wovenWords ≤ length (now table)) ⌝ }
+    requires { ⌜ Fits (now book) (now words) counts × (rulesWords ≤ length (now table)) ⌝ }
     ensures { λ r. ⌜ RulesGiven (now (text .entry)) (now (table .exit))
         (rulesIf needed (bookAt (now (book .entry)) (now (words .entry)) counts) (now (text .entry))) r ⌝ }
 {
