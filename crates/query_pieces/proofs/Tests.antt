@@ -13,6 +13,7 @@ use Rattle.model.specs.Grammar.{Piece, start, goes, comes, asks, returns, atSta
 use Rattle.model.specs.Query.{ChainEdge, vertexNames, edgeNames}
 use Rattle.model.specs.ReadQuery.{Scoped, unknown, mistyped, fromItself, hasUndeclared, hasTwice, hasMistyped, hasFromItself}
 use Rattle.model.proofs.Members.{is-true, is-false, test, mem-e, mem-i, firsts-i, firsts-e}
+use Rattle.model.proofs.Places.{joined-end}
 use Rattle.query_pieces.specs.Walk.{Ordered}
 use Rattle.query_pieces.specs.Named.{vertexIn, edgeIn, returnIn, conditionIn, verticesIn, edgesIn, returnsIn, conditionsIn, linksFrom, scopedFrom}
 use Rattle.query_pieces.specs.Faults.{someWhere, undeclaredAt, twiceAt, mistypedAt, fromItselfAt}
