@@ -13,6 +13,7 @@ use Rattle.model.specs.Lists.{any, all, keep, memℕ, below}
 use Rattle.model.specs.Book.{Book}
 use Rattle.model.specs.Pattern.{Edge}
 use Rattle.model.specs.Weave.{WovenPattern, stepAlong, stepsAlong}
+use Rattle.model.proofs.Places.{keep-same}
 use Rattle.model.proofs.Members.{_∈_, any-e, any-i, keep-e, keep-i, below-i, below-e}
 use Rattle.bits.specs.Word.{bit, with}
 use Rattle.bits.specs.WordLaws.{bit-with}
