@@ -34,8 +34,7 @@ inside c =
 
 loop-holds : tie.Need-loop-holds Inv-loop μ-loop
 loop-holds c =
-    let at-args = c .before .before .before .before in
-    let a = at-args .args in (
+    let a = c .before .before .before .before .args in (
       omega arith,
       omega arith,
       no-rows (rowText (nodeNames (bookAt (a .book .now) (a .words .now) (a .counts))))
@@ -59,10 +58,8 @@ loop-less c = omega arith
 
 loop-again : tie.Need-loop-again Inv-loop μ-loop
 loop-again c =
-    let at-loop = c .before .before .before .before .before .before in
-    let at-before = at-loop .before .before .before .before in
-    let s = at-before .before in
-    let l = at-loop .loop in
+    let s = c .before .before .before .before .before .before .before .before .before .before .before in
+    let l = c .before .before .before .before .before .before .loop in
     let a = s .args in
     let h : l .i < a .count = omega arith in (
       omega arith,
@@ -78,8 +75,7 @@ same-length c = puts-keeps-length (c .before .loop .inv .2)
 
 returns : tie.Need-returns Inv-loop μ-loop
 returns c =
-    let at-args = c .before .before .before .before .before .before in
-    let a = at-args .args in
+    let a = c .before .before .before .before .before .before .args in
     let h : a .count ≤ c .before .loop .i = omega arith in
     rows-all (rowText (nodeNames (bookAt (a .book .now) (a .words .now) (a .counts)))) (rowsIn (a .width) (a .count) (a .rows .now)) (c .before .loop .i)
     (rw length-rowsIn h) (c .before .loop .inv .2)
