@@ -23,8 +23,8 @@ use book_tables::names;
 use book_tables::names::NAME_LENGTHS;
 use book_tables::owners;
 use book_tables::relationships;
-use book_tables::relationships::NODE_PAIRS;
-use book_tables::relationships::NODES;
+use book_tables::relationships::FROM_UNIT;
+use book_tables::relationships::LABEL_UNIT;
 use book_tables::stores;
 use model::Part;
 use model::limits::MAX_DECLARED;
@@ -189,6 +189,6 @@ pub fn add_relationship(
     if fault != 0 {
         return LineStep::Fault(fault);
     }
-    let word = (l * NODE_PAIRS + x * NODES + y) as u32;
+    let word = (l * LABEL_UNIT + x * FROM_UNIT + y) as u32;
     LineStep::Known(stores::store_owner(words, counts, Owner::Relationship, word, x, read.count))
 }

@@ -11,9 +11,9 @@ use crate::FROM_LINKS;
 use crate::RELATIONSHIPS;
 
 // A relationship's word: label * 65536 + from * 256 + to.
-pub const NODES: usize = 256;
+pub const FROM_UNIT: usize = 256;
 
-pub const NODE_PAIRS: usize = 65536;
+pub const LABEL_UNIT: usize = 65536;
 
 // Whether the label of a number runs from one node to another.
 pub fn is_related(
@@ -28,7 +28,7 @@ pub fn is_related(
     ensures { λ r. ⌜ r ≡ related (bookAt (now (text .entry)) (now (words .entry)) counts)
         (nameOf (now (text .entry)) (now (words .entry)) labelNames label) from to ⌝ }
 {
-    let word = (label * NODE_PAIRS + from * NODES + to) as u32;
+    let word = (label * LABEL_UNIT + from * FROM_UNIT + to) as u32;
     let count = counts.relationships;
     let mut entry = chains::first(words, FROM_HEADS, from);
     while 0 < entry {

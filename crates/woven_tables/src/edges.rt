@@ -12,9 +12,9 @@ use model::limits::MAX_EDGES;
 use model::limits::MAX_VERTICES;
 
 // An edge word is label * LABEL_UNIT + from * FROM_UNIT + to, as a relationship's.
-pub const LABEL_UNIT: usize = 65536;
+pub const LABEL_UNIT: usize = book_tables::relationships::LABEL_UNIT;
 
-pub const FROM_UNIT: usize = 256;
+pub const FROM_UNIT: usize = book_tables::relationships::FROM_UNIT;
 
 // The word of an edge.
 fn edge_word(label: usize, from: usize, to: usize) -> u32
