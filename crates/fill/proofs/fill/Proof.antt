@@ -1,4 +1,4 @@
--- `words::fill` meets its contract. The loop's invariant: the words from `from` up to i are cleared. The measure is what is left of the list. Assumes nothing.
+-- `fill::fill` meets its contract. The loop's invariant: the words from `from` up to i are cleared. The measure is what is left of the list. Assumes nothing.
 use Prim.Native.Nat.{ℕ, _-_, _≤_, max}
 use mathlib.Core.Path.{_≡_, refl, ap, _∙_}
 use mathlib.Core.List.{List}

@@ -1,4 +1,4 @@
--- `met::is_listed` meets its contract. The loop's invariant: no name of the slot before the entry is this one. Assumes nothing.
+-- `names_met::is_listed` meets its contract. The loop's invariant: no name of the slot before the entry is this one. Assumes nothing.
 use Rattle.names_met.proofs.TableLaws.{NameWalk, names-first, names-inside, names-fall, names-next, name-found, names-over}
 use Rattle.chains.proofs.SlotLaws.{slot-small}
 use Rattle.book_tables.specs.View.{wordAt}

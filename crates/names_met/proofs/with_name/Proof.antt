@@ -1,4 +1,4 @@
--- `met::with_name` meets its contract. Assumes nothing.
+-- `names_met::with_name` meets its contract. Assumes nothing.
 use Rattle.names_met.proofs.TableLaws.{holds-full, holds-added}
 use Rattle.chains.proofs.SlotLaws.{slot-small}
 use Prim.Native.Nat.{_+_, _-_}

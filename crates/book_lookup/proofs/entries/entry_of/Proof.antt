@@ -1,4 +1,4 @@
--- `lookup::entries::entry_of` meets its contract. The loop's invariant: what is sought among all the owner's entries is sought among those from `i` on.
+-- `book_lookup::entries::entry_of` meets its contract. The loop's invariant: what is sought among all the owner's entries is sought among those from `i` on.
 -- The measure is the number of entries left. Assumes nothing.
 use Prim.Native.Nat.{_+_, _*_, _-_, _≤_}
 use mathlib.Core.Path.{_≡_, sym, _∙_}

@@ -1,4 +1,4 @@
--- `lookup::meeting::entry_meets` meets its contract. Assumes nothing.
+-- `book_lookup::meeting::entry_meets` meets its contract. Assumes nothing.
 use mathlib.Core.Path.{ap, subst, _∙_}
 use native.Mathlib.Omega.{arith}
 use borrow.Author.Needs.{needs}

@@ -1,4 +1,4 @@
--- `lookup::meeting::entry_meets_number` meets its contract. Assumes nothing.
+-- `book_lookup::meeting::entry_meets_number` meets its contract. Assumes nothing.
 use mathlib.Core.Path.{sym, _∙_}
 use borrow.Author.Needs.{needs}
 use Rattle.model.specs.Answers.{relationOf}

@@ -1,4 +1,4 @@
--- `lookup::meeting::entry_meets_truth` meets its contract. Assumes nothing.
+-- `book_lookup::meeting::entry_meets_truth` meets its contract. Assumes nothing.
 use mathlib.Core.Path.{sym}
 use native.Mathlib.Omega.{arith}
 use borrow.Author.Needs.{needs}

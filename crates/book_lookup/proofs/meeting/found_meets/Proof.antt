@@ -1,4 +1,4 @@
--- `lookup::meeting::found_meets` meets its contract. Assumes nothing.
+-- `book_lookup::meeting::found_meets` meets its contract. Assumes nothing.
 use mathlib.Core.Path.{subst}
 use borrow.Author.Needs.{needs}
 use Rattle.model.specs.Graph.{meets}

@@ -1,4 +1,4 @@
--- `lookup::meeting::same_meets` meets its contract. Assumes nothing.
+-- `book_lookup::meeting::same_meets` meets its contract. Assumes nothing.
 use borrow.Author.Needs.{needs}
 use Rattle.model.specs.Answers.{relationOf}
 use Rattle.model.specs.Graph.{sameOrNot}

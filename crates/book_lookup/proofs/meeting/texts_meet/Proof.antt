@@ -1,4 +1,4 @@
--- `lookup::meeting::texts_meet` meets its contract. Assumes nothing.
+-- `book_lookup::meeting::texts_meet` meets its contract. Assumes nothing.
 use mathlib.Core.Path.{sym, ap, _∙_}
 use borrow.Author.Needs.{needs}
 use Rattle.model.specs.Answers.{relationOf}

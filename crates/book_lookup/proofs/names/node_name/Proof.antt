@@ -1,4 +1,4 @@
--- `lookup::names::node_name` meets its contract. Assumes nothing.
+-- `book_lookup::names::node_name` meets its contract. Assumes nothing.
 use Prim.Native.Nat.{_+_}
 use mathlib.Core.Path.{sym, _∙_}
 use native.Mathlib.Omega.{arith}

@@ -1,4 +1,4 @@
--- `lookup::values::kind_of` meets its contract. Assumes nothing.
+-- `book_lookup::values::kind_of` meets its contract. Assumes nothing.
 use Prim.Native.Nat.{ℕ, _%_}
 use mathlib.Core.Path.{ap, _∙_}
 use native.Mathlib.Omega.{arith}

@@ -1,4 +1,4 @@
--- `lookup::values::number_of` meets its contract. Assumes nothing.
+-- `book_lookup::values::number_of` meets its contract. Assumes nothing.
 use borrow.Author.Needs.{needs}
 use Rattle.book_lookup.proofs.ValueLaws.{number-value}
 use Rattle.book_lookup.proofs.values.number_of.Statement.{statement}

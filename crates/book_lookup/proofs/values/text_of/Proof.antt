@@ -1,4 +1,4 @@
--- `lookup::values::text_of` meets its contract. Assumes nothing.
+-- `book_lookup::values::text_of` meets its contract. Assumes nothing.
 use mathlib.Core.Path.{sym, ap, _∙_}
 use native.Mathlib.Omega.{arith}
 use borrow.Author.Needs.{needs}

@@ -1,4 +1,4 @@
--- `lookup::values::truth_of` meets its contract. Assumes nothing.
+-- `book_lookup::values::truth_of` meets its contract. Assumes nothing.
 use borrow.Author.Needs.{needs}
 use Rattle.book_lookup.proofs.ValueLaws.{truth-value}
 use Rattle.book_lookup.proofs.values.truth_of.Statement.{statement}

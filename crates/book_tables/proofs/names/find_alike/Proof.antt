@@ -1,4 +1,4 @@
--- `tables::names::find_alike` meets its contract. The loop's invariant: no node of the slot before the entry is taken for the name. Assumes nothing.
+-- `book_tables::names::find_alike` meets its contract. The loop's invariant: no node of the slot before the entry is taken for the name. Assumes nothing.
 use Rattle.book_tables.proofs.Walks.{NodeWalk, nodes-first, nodes-inside, nodes-next, nodes-fall, node-found, node-absent}
 use Rattle.chains.proofs.SlotLaws.{slot-small}
 use Prim.Native.Nat.{_-_}

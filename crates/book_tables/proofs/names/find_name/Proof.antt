@@ -1,4 +1,4 @@
--- `tables::names::find_name` meets its contract. The loop's invariant: no name before i is the name. Assumes nothing.
+-- `book_tables::names::find_name` meets its contract. The loop's invariant: no name before i is the name. Assumes nothing.
 use Rattle.book_tables.proofs.NameLaws.{found-name, found-none}
 use Rattle.book_tables.proofs.ListedLaws.{scan-none, scan-on}
 use Rattle.book_tables.specs.View.{nameOf}

@@ -1,4 +1,4 @@
--- `tables::names::is_named` meets its contract. Assumes nothing.
+-- `book_tables::names::is_named` meets its contract. Assumes nothing.
 use Rattle.book_tables.proofs.NameLaws.{word-slice}
 use Rattle.book_tables.specs.View.{wordAt}
 use Rattle.book_tables.specs.Alike.{alike}

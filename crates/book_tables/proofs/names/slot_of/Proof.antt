@@ -1,4 +1,4 @@
--- `tables::names::slot_of` meets its contract. Assumes nothing.
+-- `book_tables::names::slot_of` meets its contract. Assumes nothing.
 use Rattle.book_tables.proofs.NameLaws.{word-slice}
 use Rattle.chains.specs.Slots.{slotOf}
 use Rattle.chains.proofs.SlotLaws.{slot-small}

@@ -1,4 +1,4 @@
--- `tables::stores::clear_chains` meets its contract. Assumes nothing.
+-- `book_tables::stores::clear_chains` meets its contract. Assumes nothing.
 use Rattle.chains.specs.Chains.{cleared}
 use Rattle.book_tables.specs.Layout.{fromHeads, keys}
 use Rattle.book_tables.specs.Stores.{withoutChains}

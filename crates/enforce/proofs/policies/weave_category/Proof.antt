@@ -1,4 +1,4 @@
--- `asked::policies::weave_category` meets its contract: a category that is not enforced or has no policy adds nothing, another its policy. Assumes nothing.
+-- `enforce::policies::weave_category` meets its contract: a category that is not enforced or has no policy adds nothing, another its policy. Assumes nothing.
 use Prim.Native.Nat.{_+_, _*_, _≤_}
 use mathlib.Core.Path.{sym, subst, _∙_}
 use native.Mathlib.Omega.{arith}

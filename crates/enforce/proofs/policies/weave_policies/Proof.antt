@@ -1,4 +1,4 @@
--- `asked::policies::weave_policies` meets its contract. The loop's invariant: the texts of the categories below are woven. Assumes nothing.
+-- `enforce::policies::weave_policies` meets its contract. The loop's invariant: the texts of the categories below are woven. Assumes nothing.
 use Prim.Native.Nat.{_-_, _≤_}
 use mathlib.Core.Path.{_≡_, refl, subst, _∙_}
 use native.Mathlib.Omega.{arith}

@@ -1,4 +1,4 @@
--- `lists::places::headed` meets its contract. Assumes nothing.
+-- `name_lists::places::headed` meets its contract. Assumes nothing.
 use mathlib.Core.Path.{sym, ap, _∙_}
 use native.Mathlib.Omega.{arith}
 use borrow.Author.Needs.{needs}

@@ -1,4 +1,4 @@
--- `lists::scans::count_names` meets its contract. Assumes nothing.
+-- `name_lists::scans::count_names` meets its contract. Assumes nothing.
 use Prim.Native.Nat.{_+_, _≤_, _-_}
 use mathlib.Core.List.{List}
 use mathlib.Core.Path.{sym, _∙_}

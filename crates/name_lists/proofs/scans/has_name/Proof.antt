@@ -1,4 +1,4 @@
--- `lists::scans::has_name` meets its contract. Assumes nothing.
+-- `name_lists::scans::has_name` meets its contract. Assumes nothing.
 use Prim.Native.Nat.{_-_}
 use mathlib.Core.Path.{sym, _∙_}
 use native.Mathlib.Omega.{arith}

@@ -1,4 +1,4 @@
--- `lists::scans::names_end` meets its contract.
+-- `name_lists::scans::names_end` meets its contract.
 use Prim.Native.Nat.{_-_}
 use mathlib.Core.Bool.{false}
 use mathlib.Core.Path.{_≡_, refl, sym, _∙_}

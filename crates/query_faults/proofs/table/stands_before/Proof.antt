@@ -1,4 +1,4 @@
--- `faults::table::stands_before` meets its contract. Assumes nothing.
+-- `query_faults::table::stands_before` meets its contract. Assumes nothing.
 use mathlib.Core.Path.{ap, ap₂, _∙_}
 use lib.ListN.{take}
 use Rattle.query_pieces.specs.declared.Place.{Place}

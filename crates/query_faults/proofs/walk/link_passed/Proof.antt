@@ -1,4 +1,4 @@
--- `faults::walk::link_passed` meets its contract. Assumes nothing.
+-- `query_faults::walk::link_passed` meets its contract. Assumes nothing.
 use Rattle.query_faults.proofs.SeenLaws.{behind-link}
 use borrow.Author.Needs.{needs}
 use Rattle.query_faults.proofs.walk.link_passed.Statement.{statement}

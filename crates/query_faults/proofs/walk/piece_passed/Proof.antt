@@ -1,4 +1,4 @@
--- `faults::walk::piece_passed` meets its contract. Assumes nothing.
+-- `query_faults::walk::piece_passed` meets its contract. Assumes nothing.
 use Rattle.query_pieces.specs.Steps.{pieceOf}
 use Rattle.query_faults.proofs.SeenLaws.{behind-start, behind-asks, behind-return, behind-is}
 use borrow.Author.Needs.{needs}

@@ -1,4 +1,4 @@
--- `signs::expected::mark_next` meets its contract.
+-- `query_signs::expected::mark_next` meets its contract.
 use Rattle.query_signs.proofs.ExpectLaws.{mark-end}
 use Rattle.query_signs.proofs.FrontLaws.{mark-other, mark-number, mark-next}
 use Rattle.query_signs.proofs.SignLaws.{none-left, mark-small}

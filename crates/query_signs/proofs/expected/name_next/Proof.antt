@@ -1,4 +1,4 @@
--- `signs::expected::name_next` meets its contract.
+-- `query_signs::expected::name_next` meets its contract.
 use Rattle.query_signs.proofs.FrontLaws.{name-other, name-long, name-within, name-close, name-found, name-reserved}
 use Rattle.model.specs.Answers.{partOf}
 use Rattle.model.specs.Words.{isLetter}

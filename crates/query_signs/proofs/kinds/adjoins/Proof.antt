@@ -1,4 +1,4 @@
--- `signs::kinds::adjoins` meets its contract.
+-- `query_signs::kinds::adjoins` meets its contract.
 use borrow.Author.Tests.{not-true, not-false}
 use mathlib.Core.Path.{sym, _∙_}
 use borrow.Author.Needs.{needs}

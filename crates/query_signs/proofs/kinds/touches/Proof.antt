@@ -1,4 +1,4 @@
--- `signs::kinds::touches` meets its contract.
+-- `query_signs::kinds::touches` meets its contract.
 use borrow.Author.Tests.{not-true, not-false}
 use Rattle.query_signs.proofs.kinds.touches.Statement.{statement}
 use Rattle.query_signs.proofs.kinds.touches.Tie as tie

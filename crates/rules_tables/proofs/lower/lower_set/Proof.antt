@@ -1,4 +1,4 @@
--- `ranks::lower::lower_set` meets its contract. Assumes nothing.
+-- `rules_tables::lower::lower_set` meets its contract. Assumes nothing.
 use Prim.Native.Nat.{ℕ, _≤_, _<_, _-_}
 use mathlib.Core.Bool.{_||_}
 use mathlib.Core.Path.{_≡_, ap, _∙_}

@@ -1,4 +1,4 @@
--- `ranks::names::name_at` meets its contract. Assumes nothing.
+-- `rules_tables::names::name_at` meets its contract. Assumes nothing.
 use Prim.Native.Nat.{ℕ, _+_, _-_, _/_, _%_}
 use mathlib.Core.Path.{_≡_}
 use native.Mathlib.Omega.{arith}

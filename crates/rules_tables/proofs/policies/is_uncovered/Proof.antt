@@ -1,4 +1,4 @@
--- `ranks::policies::is_uncovered` meets its contract. Assumes nothing.
+-- `rules_tables::policies::is_uncovered` meets its contract. Assumes nothing.
 use Prim.Native.Nat.{_≤_, _-_}
 use mathlib.Core.Bool.{false}
 use mathlib.Core.Path.{_≡_, sym, _∙_}

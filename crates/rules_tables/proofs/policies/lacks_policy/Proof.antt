@@ -1,4 +1,4 @@
--- `ranks::policies::lacks_policy` meets its contract. Assumes nothing.
+-- `rules_tables::policies::lacks_policy` meets its contract. Assumes nothing.
 use mathlib.Core.Path.{_∙_}
 use borrow.Author.Tests.{eq-eqb, ne-eqb}
 use borrow.Author.Needs.{needs}

@@ -1,4 +1,4 @@
--- `ranks::policies::policy_place` meets its contract. Assumes nothing.
+-- `rules_tables::policies::policy_place` meets its contract. Assumes nothing.
 use Prim.Native.Nat.{_+_, _≤_, _-_, _*_}
 use mathlib.Core.Bool.{false}
 use mathlib.Core.Path.{_≡_, sym}

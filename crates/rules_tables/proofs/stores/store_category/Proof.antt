@@ -1,4 +1,4 @@
--- `ranks::stores::store_category` meets its contract. Assumes nothing.
+-- `rules_tables::stores::store_category` meets its contract. Assumes nothing.
 use native.Mathlib.Omega.{arith}
 use lib.ListN.{length-set}
 use borrow.Author.Needs.{needs}
