@@ -1,6 +1,7 @@
 // The readers and the list on many sets of texts. Each case is a folder with a number; a text that it lacks is the one beside the folders.
 // Prints of each case its name, the answers of the book, rules and request readers, what the query writer writes, the list, and the list's answer where no
 // row words are lent.
+// `run`, `print_case` and `print_answers` only print, and no contract can say what reached the output.
 ghost use Rattle.io.specs.Counts.{Counts};
 use libc::STDOUT_FILENO;
 use model::limits::MAX_BOOK_BYTES;

@@ -1,5 +1,6 @@
 // The query reader and writer on many texts: book.txt and rules.txt in the folder `queries`, and queries.txt with a query on each line.
-// Prints each query, and what the writer writes for it or the refusal.
+// Prints each query, and what the writer writes for it or the refusal. `run`, `print_queries` and `print_query` only print, and no contract can say what
+// reached the output.
 use libc::STDOUT_FILENO;
 use program_io::files;
 
