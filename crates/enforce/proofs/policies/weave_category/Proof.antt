@@ -57,21 +57,6 @@ part-weave-text-end c =
     let at-pre = at-policy-place .before .before .before .before .before .before .before .before .before .before in
     omega (arith, at-pre .pre .texts .rules-fit .policies (at-policy-place .policy-place .result) (c .before .before .if2 .left) .inside)
 
-weave-text-requires : tie.Need-weave-text-requires
-weave-text-requires c κs =
-    let at-if2 = c .before .before .before .before in
-    let at-policy-place = at-if2 .before .before in
-    let at-if1 = at-policy-place .before in
-    let at-has = at-if1 .before in
-    let at-pre = at-has .before .before .before .before .before .before .before .before in
-    let a = at-pre .args in
-    let given = at-pre .pre in
-    let enforced = sym (at-has .has .ensures) ∙ not-false _ (at-if1 .if1 .left) in
-    let found = at-policy-place .policy-place in
-    policy-ready (a .book .now) (a .words .now) (a .counts) (a .query .now) (a .rules .now) (a .rules-words .now) (a .rules-counts) (a .category)
-    (given .texts) (a .lower) (given .low) enforced (found .result) (found .ensures) (at-if2 .if2 .left) (a .texts) (given .many) (a .woven .now)
-    (a .shape) (given .held)
-
 add-t37 : tie.Need-add-t37
 add-t37 c =
     let at-pre = c .before .before .before .before .before .before .before .before .before .before .before .before .before .before .before .before .before .before .before .before .before .before in
@@ -119,6 +104,21 @@ returns-4 c =
     policy-passed (a .book .now) (a .words .now) (a .counts) (a .query .now) (a .rules .now) (a .rules-words .now) (a .rules-counts) (a .category)
     (given .texts) (a .lower) (given .low) enforced (found .result) (found .ensures) (at-if2 .if2 .left) (a .texts) (given .many) (a .woven .now)
     (a .shape) (given .held) (w .last .1 .1 .1 .1 .1 .1 .1 .1 .0) (w .result) (w .ensures) (c .enum-told .given .1)
+
+weave-text-requires : tie.Need-weave-text-requires
+weave-text-requires c κs =
+    let at-if2 = c .before .before .before .before in
+    let at-policy-place = at-if2 .before .before in
+    let at-if1 = at-policy-place .before in
+    let at-has = at-if1 .before in
+    let at-pre = at-has .before .before .before .before .before .before .before .before in
+    let a = at-pre .args in
+    let given = at-pre .pre in
+    let enforced = sym (at-has .has .ensures) ∙ not-false _ (at-if1 .if1 .left) in
+    let found = at-policy-place .policy-place in
+    policy-ready (a .book .now) (a .words .now) (a .counts) (a .query .now) (a .rules .now) (a .rules-words .now) (a .rules-counts) (a .category)
+    (given .texts) (a .lower) (given .low) enforced (found .result) (found .ensures) (at-if2 .if2 .left) (a .texts) (given .many) (a .woven .now)
+    (a .shape) (given .held)
 
 pub weave-category-spec : {M : Type 1} → statement M
 weave-category-spec =
