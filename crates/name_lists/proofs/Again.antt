@@ -20,7 +20,7 @@ unfoldable pub again : Names → Names → Bool
 again done [] = false
 again done (x ∷ xs) = pick (mem x done) true (again (done ++ (x ∷ [])) xs)
 
-twice-again : (done xs : Names) → twice (done ++ xs) ≡ (twice done || again done xs)
+pub twice-again : (done xs : Names) → twice (done ++ xs) ≡ (twice done || again done xs)
 unfolding again
 twice-again done [] = ap twice (append-nil done) ∙ go (twice done)
   where

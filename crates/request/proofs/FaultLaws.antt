@@ -1,15 +1,15 @@
 -- The tests of a request's line, identity by identity, and its lowest fault.
 use Prim.Native.Nat.{ℕ, _≤_, _<_}
 use mathlib.Core.Path.{_≡_, refl, sym, ap, subst, _∙_}
-use mathlib.Core.List.{List, [], _∷_}
+use mathlib.Core.List.{List, [], _∷_, _++_}
 use mathlib.Core.Bool.{Bool, true, false, not, _||_}
 use native.Mathlib.Omega.{arith}
 use lib.ListN.{length, length-map}
 use lib.Dec.{T, eqb, ltb}
-use Rattle.logic.specs.Tests.{either, below-or-not}
+use borrow.Author.Tests.{lt-ltb, le-ltb}
 use Rattle.model.specs.Bytes.{Bytes, bytesOf}
 use Rattle.model.specs.Choice.{pick, Maybe, nothing, just}
-use Rattle.model.specs.Lists.{any, all}
+use Rattle.model.specs.Lists.{any}
 use Rattle.model.specs.Names.{mem, twice, place}
 use Rattle.model.specs.Refusal.{lowest, _if_}
 use Rattle.model.specs.Book.{Book, nodeNames}
@@ -17,9 +17,10 @@ use Rattle.model.specs.Rules.{categoryNames, actorsOf}
 use Rattle.model.specs.Request.{Claim, requestFault}
 use Rattle.model.proofs.Decides.{not-e, or-l}
 use Rattle.model.proofs.Members.{_∈_, any-i, map-e, mem-e}
-use Rattle.model.proofs.Outcomes.{no-just}
-use Rattle.book_tables.specs.View.{wordAt, nameOf, namesAt}
-use Rattle.book_tables.proofs.NameLaws.{mem-place, length-names, place-named, place-mem, place-out}
+use Rattle.book_tables.specs.declared.BookCounts.{BookCounts}
+use Rattle.book_tables.specs.Layout.{nodeNames as nodesFrom}
+use Rattle.book_tables.specs.View.{wordAt, nameOf, namesAt, bookAt}
+use Rattle.book_tables.proofs.NameLaws.{mem-place, length-names, node-names, place-named, place-mem, place-out}
 use Rattle.rules_tables.specs.declared.RulesCounts.{RulesCounts}
 use Rattle.rules_tables.specs.Layout.{names, actorsFrom, actorCountAt}
 use Rattle.rules_tables.specs.View.{actorsAt, rulesAt}
@@ -27,9 +28,8 @@ use Rattle.rules_tables.specs.Fits.{Fits}
 use Rattle.rules_tables.proofs.Lowers.{category-names}
 use Rattle.rules_tables.proofs.Downs.{actors-of}
 use Rattle.rules_tables.proofs.Fewer.{fewer-names}
-use Rattle.request.specs.Claims.{claimsFrom, actorsIn, isUnknown}
+use Rattle.request.specs.Claims.{actorsIn, isUnknown}
 use Rattle.request.specs.Faults.{categoryPlace}
-use Rattle.request.specs.Stored.{ClaimsAsked}
 
 -- a name that was looked up is among the names exactly if its place is below their count
 pub named-test : (text : Bytes) (words : List ℕ) (offset count : ℕ) (w : Bytes) (r : ℕ) → r ≡ place w (namesAt text words offset count)
@@ -51,6 +51,15 @@ module _ (p : Claim → Bool) where
   pub any-other : (x : Claim) (xs : List Claim) → p x ≡ false → any p (x ∷ xs) ≡ any p xs
   unfolding any
   any-other x xs e = rw e
+
+  pub any-behind : (xs ys : List Claim) → any p xs ≡ false → any p (xs ++ ys) ≡ any p ys
+  unfolding any
+  any-behind [] ys h = refl
+  any-behind (x ∷ xs) ys h = go (p x) h (any-behind xs ys)
+    where
+      go : (t : Bool) → pick t true (any p xs) ≡ false → (any p xs ≡ false → any p (xs ++ ys) ≡ any p ys) → pick t true (any p (xs ++ ys)) ≡ any p ys
+      go true h r = let z : _≡_ {A = ℕ} 0 1 = cc in absurd (omega arith)
+      go false h r = r h
 
 -- an identity by its two names
 module _ (actors nodes : List Bytes) (c : Claim) where
@@ -113,32 +122,8 @@ module _ (text : Bytes) (words : List ℕ) (c : RulesCounts) (f : Fits text word
         unfolding lowest
         is-none h = by-tests ∙ rw (h4, h5, h)
 
-  -- what a line without a fault says
-  pub faultless : fault ≡ nothing → (k < c .categories) × (unknownTest ≡ false) × (twice (actorsIn xs) ≡ false)
-  unfolding lowest
-  faultless n = either (below-or-not k (c .categories))
-      (λ l. let z = go unknownTest (twice (actorsIn xs)) (not (mem (bytesOf "requestor") (actorsIn xs))) (sym (by-tests l) ∙ n) in (l, z .0, z .1))
-      (λ l. let z : just 4 ≡ nothing = sym (is-undeclared l) ∙ n in no-just 4 (sym z))
-    where
-      go : (x y z : Bool) → lowest ((4 if x) ∷ (5 if y) ∷ (11 if z) ∷ []) ≡ nothing → (x ≡ false) × (y ≡ false)
-      go true y z n = no-just 4 (sym n)
-      go false true z n = no-just 5 (sym n)
-      go false false z n = (refl, refl)
-
--- where no identity is unknown, the actors are among the category's, and the nodes among the book's
+-- where no identity is unknown, the actors are among the category's
 module _ (actors nodes : List Bytes) where
-  nodes-known : (xs : List Claim) → any (isUnknown actors nodes) xs ≡ false → all (λ c. mem (c .node) nodes) xs ≡ true
-  unfolding any all
-  nodes-known [] h = refl
-  nodes-known (x ∷ xs) h = go (mem (x .actor) actors) (mem (x .node) nodes) h (nodes-known xs)
-    where
-      go : (a n : Bool) → pick (not a || not n) true (any (isUnknown actors nodes) xs) ≡ false
-          → (any (isUnknown actors nodes) xs ≡ false → all (λ c. mem (c .node) nodes) xs ≡ true)
-          → pick n (all (λ c. mem (c .node) nodes) xs) false ≡ true
-      go true true h r = r h
-      go true false h r = sym h
-      go false n h r = let z : _≡_ {A = ℕ} 0 1 = cc in absurd (omega arith)
-
   actors-among : (xs : List Claim) → any (isUnknown actors nodes) xs ≡ false → (w : Bytes) → w ∈ actorsIn xs → w ∈ actors
   actors-among xs h w m =
       let x = map-e (λ (c : Claim). c .actor) xs w m in
@@ -146,22 +131,22 @@ module _ (actors nodes : List Bytes) where
       let t : T A = not-e A (λ t. subst T h (any-i (isUnknown actors nodes) xs (x .0) (x .1) (or-l (not A) (not (mem (x .0 .node) nodes)) t))) in
       subst (λ (v : Bytes). v ∈ actors) (sym (x .2)) (mem-e (x .0 .actor) actors t)
 
-  few-claims : (xs : List Claim) → any (isUnknown actors nodes) xs ≡ false → twice (actorsIn xs) ≡ false → length xs ≤ length actors
+  pub few-claims : (xs : List Claim) → any (isUnknown actors nodes) xs ≡ false → twice (actorsIn xs) ≡ false → length xs ≤ length actors
   few-claims xs h t = omega (arith, fewer-names (actorsIn xs) actors (λ u. subst T t u) (actors-among xs h), length-map xs (λ (c : Claim). c .actor))
 
--- so the identities of a line without a fault can be stored
-pub claims-asked : (text : Bytes) (words : List ℕ) (c : RulesCounts) → Fits text words c → (b : Book) (k : ℕ) → k < c .categories
-    → (s : Bytes) (q : ℕ) (xs : List Claim)
-    → claimsFrom s q ≡ just xs → any (isUnknown (actorsAt text words k) (nodeNames b)) xs ≡ false → twice (actorsIn xs) ≡ false → ClaimsAsked b s q
+-- a category has at most eight actors
+pub few-actors : (text : Bytes) (words : List ℕ) (c : RulesCounts) → Fits text words c → (k : ℕ) → k < c .categories → length (actorsAt text words k) ≤ 8
 unfolding actorsAt
-claims-asked text words c f b k l s q xs d h t = record {
-  claims = xs;
-  are = d;
-  few = omega (
-    arith,
-    few-claims (actorsAt text words k) (nodeNames b) xs h t,
-    length-names text words (actorsFrom k) (wordAt words (actorCountAt k)),
-    f .each k l .few-actors,
-  );
-  known = nodes-known (actorsAt text words k) (nodeNames b) xs h;
-}
+few-actors text words c f k l =
+    omega (arith, length-names text words (actorsFrom k) (wordAt words (actorCountAt k)), f .each k l .few-actors)
+
+-- a node's name that was looked up is one of the book's exactly if its place is below their count
+module _ (book : Bytes) (words : List ℕ) (counts : BookCounts) (w : Bytes) (r : ℕ) (e : r ≡ place w (nodeNames (bookAt book words counts))) where
+  pub node-test : ltb r (counts .nodes) ≡ mem w (nodeNames (bookAt book words counts))
+  node-test = rw (node-names book words counts) (named-test book words nodesFrom (counts .nodes) w r (rw (node-names book words counts) at e))
+
+  pub node-unknown : counts .nodes ≤ r → mem w (nodeNames (bookAt book words counts)) ≡ false
+  node-unknown l = sym node-test ∙ le-ltb r (counts .nodes) l
+
+  pub node-known : r < counts .nodes → mem w (nodeNames (bookAt book words counts)) ≡ true
+  node-known l = sym node-test ∙ lt-ltb r (counts .nodes) l

@@ -1,15 +1,10 @@
-// The identities of a request's line: the one that follows, and whether an actor stands among them or twice.
+// The identities of a request's line: the one that follows, and whether nothing else does.
 ghost use mathlib.Core.Path.{_≡_};
-ghost use mathlib.Core.List.{List};
-ghost use Rattle.model.specs.Choice.{just};
-ghost use Rattle.model.specs.Names.{mem, twice};
-ghost use Rattle.model.specs.Request.{Claim};
-ghost use Rattle.request.specs.Claims.{claimsFrom, areRead, actorsIn, claimAt, NextClaim};
+ghost use Rattle.request.specs.Claims.{claimsFrom, areRead, claimAt, NextClaim};
 use crate::ClaimAt;
 use items::ClaimRead;
 use items::forms;
 use name_lists::LIST_DEPTH;
-use text::compare;
 
 // The identity that was read, if one was.
 fn claim_at(read: ClaimRead) -> ClaimAt
@@ -64,54 +59,6 @@ pub fn are_claims(s: &[u8], from: usize) -> bool
                 return false;
             }
         }
-    }
-    false
-}
-
-// Whether an identity is given to an actor.
-pub fn has_actor(s: &[u8], from: usize, name: &[u8]) -> bool
-    ensures { λ r. ⌜ ((xs : List Claim) → claimsFrom (now (s .entry)) from ≡ just xs → r ≡ mem (now (name .entry)) (actorsIn xs)) ⌝ }
-{
-    let mut i = from;
-    while i < s.len() {
-        let ClaimAt::At {
-            actor_start,
-            actor_end,
-            node_start: _,
-            node_end: _,
-            next,
-        } = next_claim(s, i)
-        else {
-            return false;
-        };
-        if compare::same_bytes(name, &s[actor_start..actor_end]) {
-            return true;
-        }
-        i = next;
-    }
-    false
-}
-
-// Whether some actor is given an identity a second time.
-pub fn has_twice(s: &[u8], from: usize) -> bool
-    ensures { λ r. ⌜ ((xs : List Claim) → claimsFrom (now (s .entry)) from ≡ just xs → r ≡ twice (actorsIn xs)) ⌝ }
-{
-    let mut i = from;
-    while i < s.len() {
-        let ClaimAt::At {
-            actor_start,
-            actor_end,
-            node_start: _,
-            node_end: _,
-            next,
-        } = next_claim(s, i)
-        else {
-            return false;
-        };
-        if has_actor(s, next, &s[actor_start..actor_end]) {
-            return true;
-        }
-        i = next;
     }
     false
 }

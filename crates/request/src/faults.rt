@@ -1,4 +1,4 @@
-// The faults of a request's line.
+// The names of a request's line that are none of the category's actors or of the book's nodes.
 ghost use mathlib.Core.Path.{_≡_};
 ghost use mathlib.Core.List.{List};
 ghost use Prim.Native.Nat.{_<_};
@@ -12,20 +12,16 @@ ghost use Rattle.book_tables.specs.Fits.{Fits};
 ghost use Rattle.rules_tables.specs.View.{actorsAt};
 ghost use Rattle.rules_tables.specs.Fits.{Fits as RulesFit};
 ghost use Rattle.request.specs.Claims.{claimsFrom, isUnknown};
-ghost use Rattle.request.specs.Faults.{FaultTold};
 use crate::ClaimAt;
 use crate::claims;
 use book_tables::BookCounts;
-use model::refusal_numbers::NO_REQUESTOR;
-use model::refusal_numbers::NOT_DECLARED;
-use model::refusal_numbers::SECOND_TIME;
 use rules_tables::ACTORS;
 use rules_tables::CATEGORIES;
 use rules_tables::CATEGORY_WORDS;
 use rules_tables::RulesCounts;
 
 // Whether a name is that of an actor of category k.
-fn is_actor(rules: &[u8], table: &[u32], sizes: RulesCounts, k: usize, name: &[u8]) -> bool
+pub fn is_actor(rules: &[u8], table: &[u32], sizes: RulesCounts, k: usize, name: &[u8]) -> bool
     requires { ⌜ RulesFit (now rules) (now table) sizes × (k < sizes .categories) ⌝ }
     ensures { λ r. ⌜ r ≡ mem (now (name .entry)) (actorsAt (now (rules .entry)) (now (table .entry)) k) ⌝ }
 {
@@ -43,7 +39,7 @@ fn is_node(book: &[u8], words: &[u32], counts: BookCounts, name: &[u8]) -> bool
 }
 
 // Whether an identity is given to none of category k's actors, or is none of the nodes.
-fn has_unknown(
+pub fn has_unknown(
     book: &[u8],
     words: &[u32],
     counts: BookCounts,
@@ -80,34 +76,4 @@ fn has_unknown(
         i = next;
     }
     false
-}
-
-// The lowest fault of a request's line, or 0: its category has the number k, or that of how many there are where it is none; its identities stand from q on.
-pub fn request_fault(
-    book: &[u8],
-    words: &[u32],
-    counts: BookCounts,
-    rules: &[u8],
-    table: &[u32],
-    sizes: RulesCounts,
-    k: usize,
-    s: &[u8],
-    q: usize,
-) -> u32
-    requires { ⌜ Fits (now book) (now words) counts × RulesFit (now rules) (now table) sizes ⌝ }
-    ensures { λ r. ⌜ FaultTold (now (book .entry)) (now (words .entry)) counts (now (rules .entry)) (now (table .entry)) sizes k (now (s .entry)) q r ⌝ }
-{
-    if sizes.categories <= k {
-        return NOT_DECLARED;
-    }
-    if has_unknown(book, words, counts, rules, table, sizes, k, s, q) {
-        return NOT_DECLARED;
-    }
-    if claims::has_twice(s, q) {
-        return SECOND_TIME;
-    }
-    if claims::has_actor(s, q, b"requestor") {
-        return 0;
-    }
-    NO_REQUESTOR
 }

@@ -8,8 +8,9 @@ pub mod stores;
 use model::Identity;
 use model::limits::MAX_IDENTITIES;
 
-// Identities, of which so many are counted.
+// What a line's identities say: the lowest fault of the line, 0 being none, and without a fault the identities, of which so many are counted.
 pub struct Identities {
+    pub fault: u32,
     pub list: [Identity; MAX_IDENTITIES],
     pub count: usize,
 }

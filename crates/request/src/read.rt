@@ -7,7 +7,6 @@ ghost use Rattle.book_tables.specs.Fits.{Fits};
 ghost use Rattle.rules_tables.specs.View.{rulesAt};
 ghost use Rattle.rules_tables.specs.Fits.{Fits as RulesFit};
 ghost use Rattle.request.specs.RequestReads.{refusedRead, Reads, LineReads, RequestReads};
-use crate::faults;
 use crate::forms;
 use crate::stores;
 use book_tables::BookCounts;
@@ -19,6 +18,7 @@ use model::limits::MAX_IDENTITIES;
 use model::limits::MAX_REQUEST_BYTES;
 use model::refusal_numbers::BROKEN;
 use model::refusal_numbers::NOT_ALLOWED;
+use model::refusal_numbers::NOT_DECLARED;
 use model::refusal_numbers::REQUEST;
 use model::refusal_numbers::TOO_LONG;
 use rules_tables::CATEGORY_NAMES;
@@ -58,11 +58,14 @@ fn read_line(
         return refused(BROKEN, 1);
     };
     let k = book_tables::names::find_name(rules, table, CATEGORY_NAMES, sizes.categories, &s[p..q]);
-    let fault = faults::request_fault(book, words, counts, rules, table, sizes, k, s, q);
+    if sizes.categories <= k {
+        return refused(NOT_DECLARED, 1);
+    }
+    let given = stores::identities(book, words, counts, rules, table, sizes, k, s, q);
+    let fault = given.fault;
     if fault != 0 {
         return refused(fault, 1);
     }
-    let given = stores::identities(book, words, counts, s, q);
     let list = given.list;
     RequestRead {
         verdict: Verdict::Accepted,

@@ -12,7 +12,7 @@ use Rattle.rules_tables.specs.View.{rulesAt}
 use Rattle.request.specs.Forms.{lineOf}
 use Rattle.request.specs.RequestReads.{fed}
 use Rattle.request.proofs.ReadLaws.{line-broken, line-faulty, no-fault, accepts-line, reads-refused}
-use Rattle.request.proofs.FaultLaws.{faultless, is-named, claims-asked}
+use Rattle.request.proofs.FaultLaws.{is-undeclared, is-named}
 use Rattle.request.proofs.FormLaws.{form-at, form-none}
 use Rattle.request.proofs.read.read_line.Statement.{statement}
 use Rattle.request.proofs.read.read_line.Tie as tie
@@ -48,64 +48,72 @@ find-name-requires c κs =
     let at-pre = c .before .before .before .before .before .before .before .before .before .before in
     (at-pre .pre .1 .named, omega (arith, at-pre .pre .1 .few, at-pre .pre .1 .room))
 
-request-fault-requires : tie.Need-request-fault-requires
-request-fault-requires c κs = c .before .before .before .before .before .before .before .before .before .before .before .pre
-
 returns-2 : tie.Need-returns-2
 unfolding partOf
 returns-2 c =
-    let at-p = c .before .before .before .before .before .before in
-    let at-request-form = at-p .before .before in
-    let at-args = at-request-form .before .before .before .before .before .before in
-    let a = at-args .args in let h = form-at (a .s .now) (andThen (lineItems (a .s .now)) requestLine) _ (at-p .p .given .1)
-    (at-request-form .request-form .ensures) in
-    reads-refused (a .counts .nodes) (a .rules .now) (a .table .now) (a .sizes .categories) (fed (a .s .now)) _ _ 1 _ (c .refused2 .ensures)
-    (line-faulty (bookAt (a .book .now) (a .words .now) (a .counts)) (rulesAt (a .rules .now) (a .table .now) (a .sizes)) (a .s .now) accepted
-    (lineOf (a .s .now) (at-p .p .given .0 .0) (at-p .p .given .0 .1 .0) (h .claims)) _ (h .is)
-    (c .before .before .request-fault .ensures (partOf (a .s .now) (at-p .p .given .0 .0) ((at-p .p .given .0 .1 .0) - (at-p .p .given .0 .0)))
-    (h .claims) (c .before .before .before .find-name .ensures) (h .are)) (c .before .if1 .taken))
-
-identities-requires : tie.Need-identities-requires
-unfolding partOf
-identities-requires c κs =
-    let at-find-name = c .before .before in
+    let at-find-name = c .before .before .before in
     let at-p = at-find-name .before .before .before in
     let at-request-form = at-p .before .before in
     let at-pre = at-request-form .before .before .before .before .before .before in
-    let a = at-pre .args in let h = form-at (a .s .now) (andThen (lineItems (a .s .now)) requestLine) _ (at-p .p .given .1)
-    (at-request-form .request-form .ensures) in
-    let f = no-fault _ _ (c .before .request-fault .ensures
-    (partOf (a .s .now) (at-p .p .given .0 .0) ((at-p .p .given .0 .1 .0) - (at-p .p .given .0 .0))) (h .claims) (at-find-name .find-name .ensures)
-    (h .are)) (c .if1 .left) in
-    let z = faultless (a .rules .now) (a .table .now) (a .sizes) (at-pre .pre .1) (bookAt (a .book .now) (a .words .now) (a .counts))
-    (partOf (a .s .now) (at-p .p .given .0 .0) ((at-p .p .given .0 .1 .0) - (at-p .p .given .0 .0))) (at-find-name .find-name .result)
-    (at-find-name .find-name .ensures) (h .claims) f in (
-      at-pre .pre .0,
-      claims-asked (a .rules .now) (a .table .now) (a .sizes) (at-pre .pre .1) (bookAt (a .book .now) (a .words .now) (a .counts))
-          (at-find-name .find-name .result) (z .0) (a .s .now) (at-p .p .given .0 .1 .0) (h .claims) (h .are) (z .1) (z .2),
-    )
+    let a = at-pre .args in
+    let h = form-at (a .s .now) (andThen (lineItems (a .s .now)) requestLine) _ (at-p .p .given .1) (at-request-form .request-form .ensures) in
+    let p = at-p .p .given .0 .0 in
+    let q = at-p .p .given .0 .1 .0 in
+    let b = bookAt (a .book .now) (a .words .now) (a .counts) in
+    let r = rulesAt (a .rules .now) (a .table .now) (a .sizes) in
+    let w = partOf (a .s .now) p (q - p) in
+    reads-refused (a .counts .nodes) (a .rules .now) (a .table .now) (a .sizes .categories) (fed (a .s .now)) _ 4 1 _ (c .refused2 .ensures)
+    (line-faulty b r (a .s .now) accepted (lineOf (a .s .now) p q (h .claims)) 4 (h .is)
+    (is-undeclared (a .rules .now) (a .table .now) (a .sizes) (at-pre .pre .1) b w _ (at-find-name .find-name .ensures) (h .claims) (c .before .if1 .taken)) (omega arith))
+
+identities-requires : tie.Need-identities-requires
+identities-requires c κs =
+    let at-p = c .before .before .before .before .before in
+    let at-request-form = at-p .before .before in
+    let at-pre = at-request-form .before .before .before .before .before .before in
+    let a = at-pre .args in
+    let h = form-at (a .s .now) (andThen (lineItems (a .s .now)) requestLine) _ (at-p .p .given .1) (at-request-form .request-form .ensures) in
+    (at-pre .pre .0, at-pre .pre .1, c .if1 .left, record { claims = h .claims; are = h .are })
 
 returns-3 : tie.Need-returns-3
 unfolding partOf
 returns-3 c =
-    let at-find-name = c .before .before .before .before in
+    let at-find-name = c .before .before .before .before .before in
     let at-p = at-find-name .before .before .before in
     let at-request-form = at-p .before .before in
     let at-pre = at-request-form .before .before .before .before .before .before in
-    let a = at-pre .args in let h = form-at (a .s .now) (andThen (lineItems (a .s .now)) requestLine) _ (at-p .p .given .1)
-    (at-request-form .request-form .ensures) in
-    let f = no-fault _ _ (c .before .before .before .request-fault .ensures
-    (partOf (a .s .now) (at-p .p .given .0 .0) ((at-p .p .given .0 .1 .0) - (at-p .p .given .0 .0))) (h .claims) (at-find-name .find-name .ensures)
-    (h .are)) (c .before .before .if1 .left) in
-    let z = faultless (a .rules .now) (a .table .now) (a .sizes) (at-pre .pre .1) (bookAt (a .book .now) (a .words .now) (a .counts))
-    (partOf (a .s .now) (at-p .p .given .0 .0) ((at-p .p .given .0 .1 .0) - (at-p .p .given .0 .0))) (at-find-name .find-name .result)
-    (at-find-name .find-name .ensures) (h .claims) f in
-    accepts-line (bookAt (a .book .now) (a .words .now) (a .counts)) (rulesAt (a .rules .now) (a .table .now) (a .sizes)) (a .counts .nodes)
-    (a .rules .now) (a .table .now) (a .sizes .categories) (a .s .now) (at-p .p .given .0 .0) (at-p .p .given .0 .1 .0)
-    (at-find-name .find-name .result) (h .claims) (c .before .identities .result) (h .is) f
-    (is-named (a .rules .now) (a .table .now) (a .sizes) (at-pre .pre .1) (bookAt (a .book .now) (a .words .now) (a .counts))
-    (partOf (a .s .now) (at-p .p .given .0 .0) ((at-p .p .given .0 .1 .0) - (at-p .p .given .0 .0))) (at-find-name .find-name .result)
-    (at-find-name .find-name .ensures) (h .claims) (z .0)) (z .0) (c .before .identities .ensures (h .claims) (h .are)) (h .words)
+    let a = at-pre .args in
+    let h = form-at (a .s .now) (andThen (lineItems (a .s .now)) requestLine) _ (at-p .p .given .1) (at-request-form .request-form .ensures) in
+    let p = at-p .p .given .0 .0 in
+    let q = at-p .p .given .0 .1 .0 in
+    let b = bookAt (a .book .now) (a .words .now) (a .counts) in
+    let r = rulesAt (a .rules .now) (a .table .now) (a .sizes) in
+    let w = partOf (a .s .now) p (q - p) in
+    reads-refused (a .counts .nodes) (a .rules .now) (a .table .now) (a .sizes .categories) (fed (a .s .now)) _ _ 1 _ (c .refused3 .ensures)
+    (line-faulty b r (a .s .now) accepted (lineOf (a .s .now) p q (h .claims)) _ (h .is)
+    (c .before .before .identities .ensures .told w (h .claims) (at-find-name .find-name .ensures) (h .are)) (c .before .if2 .taken))
+
+returns-4 : tie.Need-returns-4
+unfolding partOf
+returns-4 c =
+    let at-find-name = c .before .before .before .before .before in
+    let at-p = at-find-name .before .before .before in
+    let at-request-form = at-p .before .before in
+    let at-pre = at-request-form .before .before .before .before .before .before in
+    let a = at-pre .args in
+    let h = form-at (a .s .now) (andThen (lineItems (a .s .now)) requestLine) _ (at-p .p .given .1) (at-request-form .request-form .ensures) in
+    let p = at-p .p .given .0 .0 in
+    let q = at-p .p .given .0 .1 .0 in
+    let b = bookAt (a .book .now) (a .words .now) (a .counts) in
+    let r = rulesAt (a .rules .now) (a .table .now) (a .sizes) in
+    let w = partOf (a .s .now) p (q - p) in
+    let l = c .before .before .before .if1 .left in
+    let z = c .before .if2 .left in
+    let i = c .before .before .identities .ensures in
+    accepts-line b r (a .counts .nodes) (a .rules .now) (a .table .now) (a .sizes .categories) (a .s .now) p q (at-find-name .find-name .result) (h .claims)
+    (c .before .before .identities .result) (h .is) (no-fault _ _ (i .told w (h .claims) (at-find-name .find-name .ensures) (h .are)) z)
+    (is-named (a .rules .now) (a .table .now) (a .sizes) (at-pre .pre .1) b w (at-find-name .find-name .result) (at-find-name .find-name .ensures) (h .claims) l) l
+    (i .stored z (h .claims) (h .are)) (h .words)
 
 pub read-line-spec : {M : Type 1} → statement M
 read-line-spec =
@@ -120,8 +128,9 @@ read-line-spec =
     part-find-name-start
     part-find-name-end
     find-name-requires
-    request-fault-requires
     (λ c κs. search needs)
     returns-2
     identities-requires
-    returns-3)
+    (λ c κs. search needs)
+    returns-3
+    returns-4)
