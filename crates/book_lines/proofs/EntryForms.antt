@@ -18,7 +18,8 @@ use Rattle.model.specs.Answers.{partOf, nameAt, valueOf}
 use Rattle.model.specs.declared.Value.{Value}
 use Rattle.items.specs.declared.EntryRead.{EntryRead}
 use Rattle.items.specs.declared.EntryRead.the-variants as entry
-use Rattle.items.specs.Rest.{spacesFrom, formAt}
+use Rattle.items.specs.declared.Form.{Form}
+use Rattle.items.specs.Rest.{formEnds, formAt}
 use Rattle.items.specs.Forms.{onEntry}
 use Rattle.items.specs.Places.{EntryPlaces, EntryPlaced, NextEntry}
 use Rattle.items.proofs.ListLaws.{form-entries}
@@ -34,64 +35,67 @@ use Rattle.book_lines.specs.Forms.{FormAsked}
 use Rattle.book_lines.specs.Entries.{shift, entriesForm, EntriesGot}
 use Rattle.book_lines.proofs.PieceLaws.{part-moved, value-moved}
 
--- the rest of a line, by the next entry
-abbrev restForm : Bytes → ℕ → (List Entry → Maybe BookLine) → Maybe BookLine
-restForm line at k = formAt true at line (λ is. andThen (each entryOf is) k)
+-- the rest of a form, by the next entry
+abbrev restForm : Form → Bytes → ℕ → (List Entry → Maybe BookLine) → Maybe BookLine
+restForm within line at k = formAt within true at line (λ is. andThen (each entryOf is) k)
 
-module _ (line : Bytes) (at : ℕ) (r : EntryRead) (e : NextEntry 2 line at r) where
+module _ (within : Form) (line : Bytes) (at : ℕ) (r : EntryRead) (e : NextEntry (within .inner) line at r) where
   entry-on : (k : List Entry → Maybe BookLine) (a b : ℕ) (v : Value) (q : ℕ) → r ≡ entry.Entry a b v q
-      → restForm line at k ≡ restForm line q (λ es. k (record { attr = partOf line a (b - a); value = valueOf line v } ∷ es))
+      → restForm within line at k ≡ restForm within line q (λ es. k (record { attr = partOf line a (b - a); value = valueOf line v } ∷ es))
   unfolding onEntry
-  entry-on k a b v q h = form-entries line true at k ∙ rw (sym (e .is) ∙ h)
+  entry-on k a b v q h = form-entries line within true at k ∙ rw (sym (e .is) ∙ h)
 
-  entry-close : (k : List Entry → Maybe BookLine) (z : ℕ) → r ≡ entry.Close z → restForm line at k ≡ pick (spacesFrom line z) (k []) nothing
+  entry-close : (k : List Entry → Maybe BookLine) (z : ℕ) → r ≡ entry.Close z → restForm within line at k ≡ pick (formEnds within line z) (k []) nothing
   unfolding onEntry
-  entry-close k z h = form-entries line true at k ∙ rw (sym (e .is) ∙ h)
+  entry-close k z h = form-entries line within true at k ∙ rw (sym (e .is) ∙ h)
 
-  entry-none : (k : List Entry → Maybe BookLine) → r ≡ entry.None → restForm line at k ≡ nothing
+  entry-none : (k : List Entry → Maybe BookLine) → r ≡ entry.None → restForm within line at k ≡ nothing
   unfolding onEntry
-  entry-none k h = form-entries line true at k ∙ rw (sym (e .is) ∙ h)
+  entry-none k h = form-entries line within true at k ∙ rw (sym (e .is) ∙ h)
 
-  pub entry-stands : (a b : ℕ) (v : Value) (q : ℕ) → r ≡ entry.Entry a b v q → EntryPlaces line at a b v q
-  entry-stands a b v q h = subst (EntryPlaced line at) h (e .placed)
+pub entry-stands : {d : ℕ} (line : Bytes) (at : ℕ) (r : EntryRead) → NextEntry d line at r
+    → (a b : ℕ) (v : Value) (q : ℕ) → r ≡ entry.Entry a b v q → EntryPlaces line at a b v q
+entry-stands line at r e a b v q h = subst (EntryPlaced line at) h (e .placed)
 
 -- where reading the entries stands: those read, and that the line goes on behind them
-pub record Reading (text line : Bytes) (words words′ : List ℕ) (c : BookCounts) (offset declared from at : ℕ) (known : EntriesRead) : Type 0 where
+pub record Reading (within : Form) (text line : Bytes) (words words′ : List ℕ) (c : BookCounts) (offset declared from at : ℕ)
+    (known : EntriesRead) : Type 0 where
   pub got : List Entry
-  pub form : (k : List Entry → Maybe BookLine) → entriesForm line from k ≡ restForm line at (λ es. k (got ++ es))
+  pub form : (k : List Entry → Maybe BookLine) → entriesForm within line from k ≡ restForm within line at (λ es. k (got ++ es))
   pub after : EntriesKnown text words′ c offset declared got known
   pub agrees : Agree c words words′
   pub few : known .count ≤ at
   pub inside : at ≤ length line
 
-module _ (text line : Bytes) (words : List ℕ) (c : BookCounts) (offset declared from : ℕ) where
-  -- before the first entry
-  none-known : EntriesKnown text words c offset declared [] (record { fault = 0; seen = 0; count = 0 })
-  unfolding entriesFault undeclared any all twice mem entriesFrom listed
-  none-known = record {
-    count = refl;
-    fault = refl;
-    seen = λ a l. bit-zero a;
-    stored = λ z room. record { are = refl; each = λ i l. absurd (omega arith) };
-  }
+-- before the first entry
+none-known : (text : Bytes) (words : List ℕ) (c : BookCounts) (offset declared : ℕ)
+    → EntriesKnown text words c offset declared [] (record { fault = 0; seen = 0; count = 0 })
+unfolding entriesFault undeclared any all twice mem entriesFrom listed
+none-known text words c offset declared = record {
+  count = refl;
+  fault = refl;
+  seen = λ a l. bit-zero a;
+  stored = λ z room. record { are = refl; each = λ i l. absurd (omega arith) };
+}
 
-  pub reading-starts : from ≤ length line → Reading text line words words c offset declared from from (record { fault = 0; seen = 0; count = 0 })
+module _ {within : Form} (text line : Bytes) (words : List ℕ) (c : BookCounts) (offset declared from : ℕ) where
+  pub reading-starts : from ≤ length line → Reading within text line words words c offset declared from from (record { fault = 0; seen = 0; count = 0 })
   reading-starts l = record {
     got = [];
-    form = λ k. form-entries line false from k ∙ sym (form-entries line true from k);
-    after = none-known;
+    form = λ k. form-entries line within false from k ∙ sym (form-entries line within true from k);
+    after = none-known text words c offset declared;
     agrees = agree-same c words;
     few = omega arith;
     inside = l;
   }
 
-  module _ (words′ : List ℕ) (at : ℕ) (known : EntriesRead) (reading : Reading text line words words′ c offset declared from at known)
-      (r : EntryRead) (e : NextEntry 2 line at r) where
+  module _ (words′ : List ℕ) (at : ℕ) (known : EntriesRead) (reading : Reading within text line words words′ c offset declared from at known)
+      (r : EntryRead) (e : NextEntry (within .inner) line at r) where
     -- with one entry more
     pub reading-on : (base : ℕ) → FormAsked text line words c base → (words″ : List ℕ) (known′ : EntriesRead) (a b : ℕ) (v : Value) (q : ℕ)
         → r ≡ entry.Entry a b v q
         → EntryAdded text words′ words″ c offset declared (record { start = base + a; length = b - a }) (shift base v) known known′
-        → Reading text line words words″ c offset declared from q known′
+        → Reading within text line words words″ c offset declared from q known′
     unfolding nameAt
     reading-on base f words″ known′ a b v q h added =
         let s = entry-stands line at r e a b v q h in
@@ -103,9 +107,9 @@ module _ (text line : Bytes) (words : List ℕ) (c : BookCounts) (offset declare
         record {
           got = reading .got ++ (x ∷ []);
           form = λ k. reading .form k
-              ∙ entry-on line at r e (λ es. k (reading .got ++ es)) a b v q h
-              ∙ (λ t. restForm line q (λ es. k (reading .got ++ (sym same t ∷ es))))
-              ∙ (λ t. restForm line q (λ es. k (sym (append-assoc (reading .got) (x ∷ []) es) t)));
+              ∙ entry-on within line at r e (λ es. k (reading .got ++ es)) a b v q h
+              ∙ (λ t. restForm within line q (λ es. k (reading .got ++ (sym same t ∷ es))))
+              ∙ (λ t. restForm within line q (λ es. k (sym (append-assoc (reading .got) (x ∷ []) es) t)));
           after = added .after (reading .got) (reading .after);
           agrees = agree-trans c words words′ words″ (reading .agrees) (added .agrees);
           few = omega (arith, added .counted, reading .few, s .behind);
@@ -113,18 +117,18 @@ module _ (text line : Bytes) (words : List ℕ) (c : BookCounts) (offset declare
         }
 
     -- at the closing bracket
-    pub reading-ends : length line ≤ 65536 → (z : ℕ) → r ≡ entry.Close z → (t : Bool) → t ≡ spacesFrom line z → t ≡ true
-        → EntriesGot text line words′ c offset declared from known
+    pub reading-ends : length line ≤ 65536 → (z : ℕ) → r ≡ entry.Close z → (t : Bool) → t ≡ formEnds within line z → t ≡ true
+        → EntriesGot within text line words′ c offset declared from known
     reading-ends l z h t te th = record {
       got = reading .got;
-      form = λ k. reading .form k ∙ entry-close line at r e (λ es. k (reading .got ++ es)) z h ∙ rw (sym te ∙ th) (ap k (append-nil (reading .got)));
+      form = λ k. reading .form k ∙ entry-close within line at r e (λ es. k (reading .got ++ es)) z h ∙ rw (sym te ∙ th) (ap k (append-nil (reading .got)));
       after = reading .after;
       few = omega (arith, reading .few, reading .inside);
     }
 
-    pub reading-spoilt : (z : ℕ) → r ≡ entry.Close z → (t : Bool) → t ≡ spacesFrom line z → t ≡ false → (k : List Entry → Maybe BookLine)
-        → entriesForm line from k ≡ nothing
-    reading-spoilt z h t te th k = reading .form k ∙ entry-close line at r e (λ es. k (reading .got ++ es)) z h ∙ rw (sym te ∙ th)
+    pub reading-spoilt : (z : ℕ) → r ≡ entry.Close z → (t : Bool) → t ≡ formEnds within line z → t ≡ false → (k : List Entry → Maybe BookLine)
+        → entriesForm within line from k ≡ nothing
+    reading-spoilt z h t te th k = reading .form k ∙ entry-close within line at r e (λ es. k (reading .got ++ es)) z h ∙ rw (sym te ∙ th)
 
-    pub reading-broken : r ≡ entry.None → (k : List Entry → Maybe BookLine) → entriesForm line from k ≡ nothing
-    reading-broken h k = reading .form k ∙ entry-none line at r e (λ es. k (reading .got ++ es)) h
+    pub reading-broken : r ≡ entry.None → (k : List Entry → Maybe BookLine) → entriesForm within line from k ≡ nothing
+    reading-broken h k = reading .form k ∙ entry-none within line at r e (λ es. k (reading .got ++ es)) h

@@ -16,7 +16,8 @@ use Rattle.text.specs.declared.End.{End}
 use Rattle.text.specs.declared.End.the-variants as end
 use Rattle.items.specs.declared.ItemAt.{ItemAt}
 use Rattle.items.specs.declared.ItemAt.the-variants as piece
-use Rattle.items.specs.Rest.{spacesFrom, formAt}
+use Rattle.items.specs.declared.Form.{Form}
+use Rattle.items.specs.Rest.{formDepth, formEnds, formAt, lineAt}
 use Rattle.items.specs.Places.{NextWord, NextName}
 use Rattle.items.specs.Pieces.{wordNext, onPiece, onPlace}
 use Rattle.items.specs.Forms.{formOpens, formCloses}
@@ -44,40 +45,40 @@ unfolding formStepOf formStep
 step-broken rule b m e = rw e
 
 -- the form of a line opens, or does not
-pub opens-at : (line : Bytes) (r : End) (i : ℕ) → r ≡ formOpens line → r ≡ end.At i → andThen (lineItems line) bookLine ≡ formAt true i line bookLine
+pub opens-at : (line : Bytes) (r : End) (i : ℕ) → r ≡ formOpens line 0 → r ≡ end.At i → andThen (lineItems line) bookLine ≡ lineAt true i line bookLine
 unfolding onPlace
 opens-at line r i e h = line-form bookLine line ∙ rw (sym e ∙ h)
 
-pub opens-none : (line : Bytes) (r : End) → r ≡ formOpens line → r ≡ end.None → andThen (lineItems line) bookLine ≡ nothing
+pub opens-none : (line : Bytes) (r : End) → r ≡ formOpens line 0 → r ≡ end.None → andThen (lineItems line) bookLine ≡ nothing
 unfolding onPlace
 opens-none line r e h = line-form bookLine line ∙ rw (sym e ∙ h)
 
 -- the first word, or none
-module _ (line : Bytes) (from : ℕ) (r : ItemAt) (e : NextWord 3 true line from r) where
-  pub headed : (p q : ℕ) → r ≡ piece.At p q → formAt true from line bookLine ≡ formAt false q line (lineOf (headOf (partOf line p (q - p))))
+module _ (within : Form) (line : Bytes) (from : ℕ) (r : ItemAt) (e : NextWord (within .inner) true line from r) where
+  pub headed : (p q : ℕ) → r ≡ piece.At p q → formAt within true from line bookLine ≡ formAt within false q line (lineOf (headOf (partOf line p (q - p))))
   unfolding bookLine onPiece
   headed p q h =
-      form-word true from line _ ∙ rw (sym (e .is) ∙ h)
-      (ap (λ (f : List Item → Maybe BookLine). formAt false q line f) (fun-ext (line-head (partOf line p (q - p)))))
+      form-word within true from line (within .inner) _ ∙ rw (sym (e .is) ∙ h)
+      (ap (λ (f : List Item → Maybe BookLine). formAt within false q line f) (fun-ext (line-head (partOf line p (q - p)))))
 
-  pub headless : r ≡ piece.None → formAt true from line bookLine ≡ nothing
+  pub headless : r ≡ piece.None → formAt within true from line bookLine ≡ nothing
   unfolding bookLine onPiece
-  headless h = form-word true from line _ ∙ rw (sym (e .is) ∙ h)
+  headless h = form-word within true from line (within .inner) _ ∙ rw (sym (e .is) ∙ h)
 
 -- a reading after a word, which the rest of the line goes on with
 pick-none : {B : Type 0} (x : Bool) → pick {A = Maybe B} x nothing nothing ≡ nothing
 pick-none true = refl
 pick-none false = refl
 
-form-nothing : {B : Type 0} (free : Bool) (i : ℕ) (s : Bytes) → formAt {B = B} free i s (λ is. nothing) ≡ nothing
+form-nothing : {B : Type 0} (within : Form) (free : Bool) (i : ℕ) (s : Bytes) → formAt {B = B} within free i s (λ is. nothing) ≡ nothing
 unfolding formAt
-form-nothing free i s = rest-same 3 free i s _ _ (λ e is. pick-none (spacesFrom s e)) ∙ rest-nothing 3 free i s
+form-nothing within free i s = rest-same (formDepth within) free i s _ _ (λ e is. pick-none (formEnds within s e)) ∙ rest-nothing (formDepth within) free i s
 
-form-then : {A B : Type 0} (free : Bool) (i : ℕ) (s : Bytes) (o : Maybe A) (k : A → List Item → Maybe B)
-    → formAt free i s (λ is. andThen o (λ a. k a is)) ≡ andThen o (λ a. formAt free i s (k a))
+form-then : {A B : Type 0} (within : Form) (free : Bool) (i : ℕ) (s : Bytes) (o : Maybe A) (k : A → List Item → Maybe B)
+    → formAt within free i s (λ is. andThen o (λ a. k a is)) ≡ andThen o (λ a. formAt within free i s (k a))
 unfolding andThen
-form-then free i s nothing k = form-nothing free i s
-form-then free i s (just a) k = refl
+form-then within free i s nothing k = form-nothing within free i s
+form-then within free i s (just a) k = refl
 
 first-then : {A B : Type 0} (g : Bytes → Maybe A) (is : List Item) (k : A → List Item → Maybe B)
     → first (λ x. andThen (asWord x) g) is k ≡ first asWord is (λ w is. andThen (g w) (λ a. k a is))
@@ -90,78 +91,79 @@ first-then g (i ∷ is) k = go (asWord i)
     go (just w) = refl
 
 -- a type, and the rest behind it
-kind-form : {B : Type 0} (line : Bytes) (i : ℕ) (k : Kind → List Item → Maybe B)
-    → formAt false i line (λ is. first (λ x. andThen (asWord x) kindOf) is k)
-    ≡ onKind (kindPiece line (wordNext 3 false line i)) (λ t q. formAt false q line (k t))
+kind-form : {B : Type 0} (within : Form) (line : Bytes) (i : ℕ) (k : Kind → List Item → Maybe B)
+    → formAt within false i line (λ is. first (λ x. andThen (asWord x) kindOf) is k)
+    ≡ onKind (kindPiece line (wordNext (within .inner) false line i)) (λ t q. formAt within false q line (k t))
 unfolding onPiece kindPiece onKind
-kind-form line i k =
-    ap (λ (f : List Item → Maybe _). formAt false i line f) (fun-ext (λ is. first-then kindOf is k))
-    ∙ form-word false i line (λ w is. andThen (kindOf w) (λ t. k t is))
-    ∙ go (wordNext 3 false line i)
+kind-form within line i k =
+    ap (λ (f : List Item → Maybe _). formAt within false i line f) (fun-ext (λ is. first-then kindOf is k))
+    ∙ form-word within false i line (within .inner) (λ w is. andThen (kindOf w) (λ t. k t is))
+    ∙ go (wordNext (within .inner) false line i)
   where
-    go : (r : ItemAt) → onPiece r (λ p q. formAt false q line (λ is. andThen (kindOf (partOf line p (q - p))) (λ t. k t is)))
-        ≡ onKind (kindPiece line r) (λ t q. formAt false q line (k t))
-    go (piece.At p q) = form-then false q line (kindOf (partOf line p (q - p))) k
-        ∙ kind-word line i (partOf line p (q - p)) q (λ t q. formAt false q line (k t))
+    go : (r : ItemAt) → onPiece r (λ p q. formAt within false q line (λ is. andThen (kindOf (partOf line p (q - p))) (λ t. k t is)))
+        ≡ onKind (kindPiece line r) (λ t q. formAt within false q line (k t))
+    go (piece.At p q) = form-then within false q line (kindOf (partOf line p (q - p))) k
+        ∙ kind-word line i (partOf line p (q - p)) q (λ t q. formAt within false q line (k t))
     go piece.None = refl
 
 -- NAME TYPE
-module _ (line : Bytes) (from : ℕ) (make : Bytes → Kind → BookLine) (r : ItemAt) (e : NextName 3 line from r) where
-  pub attr-nameless : r ≡ piece.None → formAt false from line (attrLine make) ≡ nothing
+module _ (within : Form) (line : Bytes) (from : ℕ) (make : Bytes → Kind → BookLine) (r : ItemAt) (e : NextName (within .inner) line from r) where
+  pub attr-nameless : r ≡ piece.None → formAt within false from line (attrLine make) ≡ nothing
   unfolding attrLine onPiece
-  attr-nameless h = name-form line from _ ∙ rw (sym (e .is) ∙ h)
+  attr-nameless h = name-form within line from _ ∙ rw (sym (e .is) ∙ h)
 
-  module _ (p q : ℕ) (h : r ≡ piece.At p q) (t : KindRead) (te : t ≡ kindPiece line (wordNext 3 false line q)) where
-    attr-typed : formAt false from line (attrLine make) ≡ onKind t (λ k z. formAt false z line (λ is. atEnd is (make (partOf line p (q - p)) k)))
+  module _ (p q : ℕ) (h : r ≡ piece.At p q) (t : KindRead) (te : t ≡ kindPiece line (wordNext (within .inner) false line q)) where
+    attr-typed : formAt within false from line (attrLine make) ≡ onKind t (λ k z. formAt within false z line (λ is. atEnd is (make (partOf line p (q - p)) k)))
     unfolding attrLine onPiece
     attr-typed =
-        let named : formAt false from line (attrLine make)
-        ≡ formAt false q line (λ is. first (λ x. andThen (asWord x) kindOf) is (λ k is. atEnd is (make (partOf line p (q - p)) k))) = name-form line from _
-        ∙ rw (sym (e .is) ∙ h) in
-        named ∙ kind-form line q (λ k is. atEnd is (make (partOf line p (q - p)) k))
-        ∙ ap (λ (x : KindRead). onKind x (λ k z. formAt false z line (λ is. atEnd is (make (partOf line p (q - p)) k)))) (sym te)
+        let named : formAt within false from line (attrLine make)
+        ≡ formAt within false q line (λ is. first (λ x. andThen (asWord x) kindOf) is (λ k is. atEnd is (make (partOf line p (q - p)) k))) =
+        name-form within line from _ ∙ rw (sym (e .is) ∙ h) in
+        named ∙ kind-form within line q (λ k is. atEnd is (make (partOf line p (q - p)) k))
+        ∙ ap (λ (x : KindRead). onKind x (λ k z. formAt within false z line (λ is. atEnd is (make (partOf line p (q - p)) k)))) (sym te)
 
-    pub attr-kindless : t ≡ kind.None → formAt false from line (attrLine make) ≡ nothing
+    pub attr-kindless : t ≡ kind.None → formAt within false from line (attrLine make) ≡ nothing
     unfolding onKind
     attr-kindless k = attr-typed ∙ rw k
 
-    pub attr-ends : (k z : ℕ) → t ≡ kind.Kind k z → (c : Bool) → c ≡ formCloses line z
-        → formAt false from line (attrLine make) ≡ pick c (just (make (partOf line p (q - p)) (kindIn k))) nothing
+    pub attr-ends : (k z : ℕ) → t ≡ kind.Kind k z → (c : Bool) → c ≡ formCloses (within .closes) line z
+        → formAt within false from line (attrLine make) ≡ pick c (just (make (partOf line p (q - p)) (kindIn k))) nothing
     unfolding onKind
     attr-ends k z th c ce =
-        let typed : formAt false from line (attrLine make) ≡ formAt false z line (λ is. atEnd is (make (partOf line p (q - p)) (kindIn k))) = attr-typed
+        let typed : formAt within false from line (attrLine make)
+        ≡ formAt within false z line (λ is. atEnd is (make (partOf line p (q - p)) (kindIn k))) = attr-typed
         ∙ rw th in
-        typed ∙ form-end false z line (make (partOf line p (q - p)) (kindIn k))
+        typed ∙ form-end within false z line (make (partOf line p (q - p)) (kindIn k))
         ∙ ap (λ (x : Bool). pick {A = Maybe BookLine} x (just (make (partOf line p (q - p)) (kindIn k))) nothing) (sym ce)
 
 -- what was read of an attribute's line
-module _ (line : Bytes) (from : ℕ) (r : AttrRead)
-    (form : (make : Bytes → Kind → BookLine) → formAt false from line (attrLine make) ≡ onAttr line r (λ n k. just (make n k)))
+module _ (within : Form) (line : Bytes) (from : ℕ) (r : AttrRead)
+    (form : (make : Bytes → Kind → BookLine) → formAt within false from line (attrLine make) ≡ onAttr line r (λ n k. just (make n k)))
     (make : Bytes → Kind → BookLine) where
-  pub attr-got : (p q k : ℕ) → r ≡ attr.Attr p q k → formAt false from line (attrLine make) ≡ just (make (partOf line p (q - p)) (kindIn k))
+  pub attr-got : (p q k : ℕ) → r ≡ attr.Attr p q k → formAt within false from line (attrLine make) ≡ just (make (partOf line p (q - p)) (kindIn k))
   unfolding onAttr
   attr-got p q k e = form make ∙ rw e
 
-  pub attr-none : r ≡ attr.None → formAt false from line (attrLine make) ≡ nothing
+  pub attr-none : r ≡ attr.None → formAt within false from line (attrLine make) ≡ nothing
   unfolding onAttr
   attr-none e = form make ∙ rw e
 
 -- NAME
-module _ (line : Bytes) (from : ℕ) (r : ItemAt) (e : NextName 3 line from r) where
-  pub label-nameless : r ≡ piece.None → formAt false from line labelLine ≡ nothing
+module _ (within : Form) (line : Bytes) (from : ℕ) (r : ItemAt) (e : NextName (within .inner) line from r) where
+  pub label-nameless : r ≡ piece.None → formAt within false from line labelLine ≡ nothing
   unfolding labelLine onPiece
-  label-nameless h = name-form line from _ ∙ rw (sym (e .is) ∙ h)
+  label-nameless h = name-form within line from _ ∙ rw (sym (e .is) ∙ h)
 
-  pub label-ends : (p q : ℕ) → r ≡ piece.At p q → (c : Bool) → c ≡ formCloses line q
-      → formAt false from line labelLine ≡ pick c (just (label (partOf line p (q - p)))) nothing
+  pub label-ends : (p q : ℕ) → r ≡ piece.At p q → (c : Bool) → c ≡ formCloses (within .closes) line q
+      → formAt within false from line labelLine ≡ pick c (just (label (partOf line p (q - p)))) nothing
   unfolding labelLine onPiece
   label-ends p q h c ce =
-      let named : formAt false from line labelLine ≡ formAt false q line (λ is. atEnd is (label (partOf line p (q - p)))) = name-form line from _
-      ∙ rw (sym (e .is) ∙ h) in
-      named ∙ form-end false q line (label (partOf line p (q - p)))
+      let named : formAt within false from line labelLine ≡ formAt within false q line (λ is. atEnd is (label (partOf line p (q - p)))) =
+      name-form within line from _ ∙ rw (sym (e .is) ∙ h) in
+      named ∙ form-end within false q line (label (partOf line p (q - p)))
       ∙ ap (λ (x : Bool). pick {A = Maybe BookLine} x (just (label (partOf line p (q - p)))) nothing) (sym ce)
 
 -- a first word that is none of the five
-pub form-other : (line : Bytes) (i : ℕ) (h : Head) → h ≡ head.Other → formAt false i line (lineOf h) ≡ nothing
+pub form-other : (within : Form) (line : Bytes) (i : ℕ) (h : Head) → h ≡ head.Other → formAt within false i line (lineOf h) ≡ nothing
 unfolding lineOf
-form-other line i h e = rw e (form-nothing false i line)
+form-other within line i h e = rw e (form-nothing within false i line)

@@ -17,6 +17,7 @@ use Rattle.model.specs.Answers.{partOf, nameAt}
 use Rattle.model.specs.declared.Part.{Part}
 use Rattle.items.specs.declared.ItemAt.{ItemAt}
 use Rattle.items.specs.declared.ItemAt.the-variants as piece
+use Rattle.items.specs.declared.Form.{Form}
 use Rattle.items.specs.Rest.{formAt}
 use Rattle.items.specs.Places.{WordPlaces, NextName}
 use Rattle.items.specs.Pieces.{onPiece}
@@ -45,60 +46,61 @@ pub attr-stands : (line : Bytes) (from : ℕ) (r : AttrRead) (p q k : ℕ) → A
 attr-stands line from r p q k h e = subst (AttrFits line from) e h
 
 -- the names that were read
-pub names-got : (line : Bytes) (from : ℕ) (r : RelNames) → NamesTold line from r → (l x y : Part) (q : ℕ) → r ≡ names.Read l x y q → NamesGot line from l x y q
-names-got line from r told l x y q h = subst (NamesTold line from) h told
+pub names-got : {within : Form} (line : Bytes) (from : ℕ) (r : RelNames) → NamesTold within line from r
+    → (l x y : Part) (q : ℕ) → r ≡ names.Read l x y q → NamesGot within line from l x y q
+names-got {within} line from r told l x y q h = subst (NamesTold within line from) h told
 
-module _ (rule : NameRule) (text line : Bytes) (words : List ℕ) (c : BookCounts) (base from : ℕ) (f : FormAsked text line words c base) where
+module _ (rule : NameRule) (within : Form) (text line : Bytes) (words : List ℕ) (c : BookCounts) (base from : ℕ) (f : FormAsked text line words c base) where
   abbrev book : Book
   book = bookAt text words c
 
   -- (vattr NAME TYPE), (eattr NAME TYPE)
-  module _ (r : AttrRead) (form : (make : Bytes → Kind → BookLine) → formAt false from line (attrLine make) ≡ onAttr line r (λ n k. just (make n k)))
+  module _ (r : AttrRead) (form : (make : Bytes → Kind → BookLine) → formAt within false from line (attrLine make) ≡ onAttr line r (λ n k. just (make n k)))
       (fits : AttrFits line from r) (make : Bytes → Kind → BookLine) where
     pub attr-step : (p q k : ℕ) → r ≡ attr.Attr p q k
-        → formStepOf rule book (formAt false from line (attrLine make))
+        → formStepOf rule book (formAt within false from line (attrLine make))
         ≡ stepOf rule book (make (nameAt text (record { start = base + p; length = q - p })) (kindIn k))
     attr-step p q k e =
-        step-form rule book _ _ (attr-got line from r form make p q k e)
+        step-form rule book _ _ (attr-got within line from r form make p q k e)
         ∙ ap (λ (n : Bytes). stepOf rule book (make n (kindIn k))) (sym (piece-named text line words c base from p q f (attr-stands line from r p q k fits e)))
 
-    pub attr-broken : r ≡ attr.None → formStepOf rule book (formAt false from line (attrLine make)) ≡ fault 3
-    attr-broken e = step-broken rule book _ (attr-none line from r form make e)
+    pub attr-broken : r ≡ attr.None → formStepOf rule book (formAt within false from line (attrLine make)) ≡ fault 3
+    attr-broken e = step-broken rule book _ (attr-none within line from r form make e)
 
   -- (label NAME)
-  module _ (r : ItemAt) (e : NextName 3 line from r) where
-    pub label-broken : r ≡ piece.None → formStepOf rule book (formAt false from line labelLine) ≡ fault 3
-    label-broken h = step-broken rule book _ (label-nameless line from r e h)
+  module _ (r : ItemAt) (e : NextName (within .inner) line from r) where
+    pub label-broken : r ≡ piece.None → formStepOf rule book (formAt within false from line labelLine) ≡ fault 3
+    label-broken h = step-broken rule book _ (label-nameless within line from r e h)
 
-    pub label-open : (p q : ℕ) → r ≡ piece.At p q → (t : Bool) → t ≡ formCloses line q → t ≡ false
-        → formStepOf rule book (formAt false from line labelLine) ≡ fault 3
-    label-open p q h t te th = step-broken rule book _ (label-ends line from r e p q h t te ∙ rw th)
+    pub label-open : (p q : ℕ) → r ≡ piece.At p q → (t : Bool) → t ≡ formCloses (within .closes) line q → t ≡ false
+        → formStepOf rule book (formAt within false from line labelLine) ≡ fault 3
+    label-open p q h t te th = step-broken rule book _ (label-ends within line from r e p q h t te ∙ rw th)
 
-    pub label-step : (p q : ℕ) → r ≡ piece.At p q → (t : Bool) → t ≡ formCloses line q → t ≡ true
-        → formStepOf rule book (formAt false from line labelLine) ≡ stepOf rule book (label (nameAt text (record { start = base + p; length = q - p })))
+    pub label-step : (p q : ℕ) → r ≡ piece.At p q → (t : Bool) → t ≡ formCloses (within .closes) line q → t ≡ true
+        → formStepOf rule book (formAt within false from line labelLine) ≡ stepOf rule book (label (nameAt text (record { start = base + p; length = q - p })))
     label-step p q h t te th =
-        step-form rule book _ _ (label-ends line from r e p q h t te ∙ rw th)
+        step-form rule book _ _ (label-ends within line from r e p q h t te ∙ rw th)
         ∙ ap (λ (n : Bytes). stepOf rule book (label n)) (sym (piece-named text line words c base from p q f (placed-at line from r h (e .placed))))
 
   -- (node NAME (ATTR VALUE)...)
-  module _ (r : ItemAt) (e : NextName 3 line from r) where
-    pub node-broken : r ≡ piece.None → formStepOf rule book (formAt false from line nodeLine) ≡ fault 3
+  module _ (r : ItemAt) (e : NextName (within .inner) line from r) where
+    pub node-broken : r ≡ piece.None → formStepOf rule book (formAt within false from line nodeLine) ≡ fault 3
     unfolding nodeLine onPiece
-    node-broken h = step-broken rule book _ (name-form line from _ ∙ rw (sym (e .is) ∙ h))
+    node-broken h = step-broken rule book _ (name-form within line from _ ∙ rw (sym (e .is) ∙ h))
 
     module _ (p q : ℕ) (h : r ≡ piece.At p q) (words′ : List ℕ) (offset declared : ℕ) (a : EntriesAnswer)
-        (done : EntriesDone text line words words′ c offset declared q a) where
-      node-named : formAt false from line nodeLine ≡ entriesForm line q (λ es. just (node (partOf line p (q - p)) es))
+        (done : EntriesDone within text line words words′ c offset declared q a) where
+      node-named : formAt within false from line nodeLine ≡ entriesForm within line q (λ es. just (node (partOf line p (q - p)) es))
       unfolding nodeLine onPiece
-      node-named = name-form line from _ ∙ rw (sym (e .is) ∙ h)
+      node-named = name-form within line from _ ∙ rw (sym (e .is) ∙ h)
 
-      pub node-spoilt : a ≡ answer.None → formStepOf rule book (formAt false from line nodeLine) ≡ fault 3
+      pub node-spoilt : a ≡ answer.None → formStepOf rule book (formAt within false from line nodeLine) ≡ fault 3
       node-spoilt n =
-          let told = subst (EntriesTold text line words′ c offset declared q) n (done .told) in
+          let told = subst (EntriesTold within text line words′ c offset declared q) n (done .told) in
           step-broken rule book _ (node-named ∙ told (λ es. just (node (partOf line p (q - p)) es)))
 
-      pub node-step : (known : EntriesRead) → a ≡ answer.Read known → (got : EntriesGot text line words′ c offset declared q known)
-          → formStepOf rule book (formAt false from line nodeLine)
+      pub node-step : (known : EntriesRead) → a ≡ answer.Read known → (got : EntriesGot within text line words′ c offset declared q known)
+          → formStepOf rule book (formAt within false from line nodeLine)
           ≡ stepOf rule (bookAt text words′ c) (node (nameAt text (record { start = base + p; length = q - p })) (got .got))
       node-step known n got =
           step-form rule book _ _ (node-named ∙ got .form (λ es. just (node (partOf line p (q - p)) es)))
@@ -107,27 +109,27 @@ module _ (rule : NameRule) (text line : Bytes) (words : List ℕ) (c : BookCount
           (sym (book-kept text words words′ c (done .agrees .tables) (f .fits)))
 
   -- (rel LABEL FROM TO (ATTR VALUE)...)
-  module _ (r : RelNames) (told : NamesTold line from r) where
-    pub rel-broken : r ≡ names.None → formStepOf rule book (formAt false from line relLine) ≡ fault 3
+  module _ (r : RelNames) (told : NamesTold within line from r) where
+    pub rel-broken : r ≡ names.None → formStepOf rule book (formAt within false from line relLine) ≡ fault 3
     unfolding relLine
-    rel-broken h = step-broken rule book _ (subst (NamesTold line from) h told (λ l x y is. andThen (each entryOf is) (λ es. just (rel l x y es))))
+    rel-broken h = step-broken rule book _ (subst (NamesTold within line from) h told (λ l x y is. andThen (each entryOf is) (λ es. just (rel l x y es))))
 
     module _ (l x y : Part) (q : ℕ) (h : r ≡ names.Read l x y q) where
-      rel-got : NamesGot line from l x y q
+      rel-got : NamesGot within line from l x y q
       rel-got = names-got line from r told l x y q h
 
-      module _ (words′ : List ℕ) (offset declared : ℕ) (a : EntriesAnswer) (done : EntriesDone text line words words′ c offset declared q a) where
-        rel-named : formAt false from line relLine ≡ entriesForm line q (λ es. just (rel (nameAt line l) (nameAt line x) (nameAt line y) es))
+      module _ (words′ : List ℕ) (offset declared : ℕ) (a : EntriesAnswer) (done : EntriesDone within text line words words′ c offset declared q a) where
+        rel-named : formAt within false from line relLine ≡ entriesForm within line q (λ es. just (rel (nameAt line l) (nameAt line x) (nameAt line y) es))
         unfolding relLine
         rel-named = rel-got .form (λ l x y is. andThen (each entryOf is) (λ es. just (rel l x y es)))
 
-        pub rel-spoilt : a ≡ answer.None → formStepOf rule book (formAt false from line relLine) ≡ fault 3
+        pub rel-spoilt : a ≡ answer.None → formStepOf rule book (formAt within false from line relLine) ≡ fault 3
         rel-spoilt n =
-            let broken = subst (EntriesTold text line words′ c offset declared q) n (done .told) in
+            let broken = subst (EntriesTold within text line words′ c offset declared q) n (done .told) in
             step-broken rule book _ (rel-named ∙ broken (λ es. just (rel (nameAt line l) (nameAt line x) (nameAt line y) es)))
 
-        pub rel-step : (known : EntriesRead) → a ≡ answer.Read known → (got : EntriesGot text line words′ c offset declared q known)
-            → formStepOf rule book (formAt false from line relLine)
+        pub rel-step : (known : EntriesRead) → a ≡ answer.Read known → (got : EntriesGot within text line words′ c offset declared q known)
+            → formStepOf rule book (formAt within false from line relLine)
             ≡ stepOf rule (bookAt text words′ c) (rel (nameAt text (movedPart base l)) (nameAt text (movedPart base x)) (nameAt text (movedPart base y))
             (got .got))
         rel-step known n got =
@@ -140,9 +142,11 @@ module _ (rule : NameRule) (text line : Bytes) (words : List ℕ) (c : BookCount
             (sym (book-kept text words words′ c (done .agrees .tables) (f .fits)))
 
 -- the entries that were read
-pub entries-got : (text line : Bytes) (words words′ : List ℕ) (c : BookCounts) (offset declared from : ℕ) (a : EntriesAnswer) (known : EntriesRead)
-    → EntriesDone text line words words′ c offset declared from a → a ≡ answer.Read known → EntriesGot text line words′ c offset declared from known
-entries-got text line words words′ c offset declared from a known done e = subst (EntriesTold text line words′ c offset declared from) e (done .told)
+pub entries-got : {within : Form} (text line : Bytes) (words words′ : List ℕ) (c : BookCounts) (offset declared from : ℕ) (a : EntriesAnswer)
+    (known : EntriesRead) → EntriesDone within text line words words′ c offset declared from a → a ≡ answer.Read known
+    → EntriesGot within text line words′ c offset declared from known
+entries-got {within} text line words words′ c offset declared from a known done e =
+    subst (EntriesTold within text line words′ c offset declared from) e (done .told)
 
 -- what was asked before the entries, after them
 pub moved-asked : (text line : Bytes) (words : List ℕ) (c : BookCounts) (base : ℕ) (p : Part) → FormAsked text line words c base → PartFits line p
@@ -150,32 +154,32 @@ pub moved-asked : (text line : Bytes) (words : List ℕ) (c : BookCounts) (base 
 moved-asked text line words c base p f s = record { inside = omega (arith, f .inside, s .inside); short = s .short; limit = f .limit }
 
 -- LABEL FROM TO
-module _ (line : Bytes) (from : ℕ) (r : ItemAt) (e : NextName 3 line from r) where
-  pub names-first : r ≡ piece.None → NamesTold line from names.None
+module _ (within : Form) (line : Bytes) (from : ℕ) (r : ItemAt) (e : NextName (within .inner) line from r) where
+  pub names-first : r ≡ piece.None → NamesTold within line from names.None
   unfolding onPiece
-  names-first h k = name-form line from _ ∙ rw (sym (e .is) ∙ h)
+  names-first h k = name-form within line from _ ∙ rw (sym (e .is) ∙ h)
 
-  module _ (a b : ℕ) (h : r ≡ piece.At a b) (r₂ : ItemAt) (e₂ : NextName 3 line b r₂) where
-    pub names-second : r₂ ≡ piece.None → NamesTold line from names.None
+  module _ (a b : ℕ) (h : r ≡ piece.At a b) (r₂ : ItemAt) (e₂ : NextName (within .inner) line b r₂) where
+    pub names-second : r₂ ≡ piece.None → NamesTold within line from names.None
     unfolding onPiece
-    names-second h₂ k = name-form line from _ ∙ rw (sym (e .is) ∙ h) (name-form line b _ ∙ rw (sym (e₂ .is) ∙ h₂))
+    names-second h₂ k = name-form within line from _ ∙ rw (sym (e .is) ∙ h) (name-form within line b _ ∙ rw (sym (e₂ .is) ∙ h₂))
 
-    module _ (c d : ℕ) (h₂ : r₂ ≡ piece.At c d) (r₃ : ItemAt) (e₃ : NextName 3 line d r₃) where
-      pub names-third : r₃ ≡ piece.None → NamesTold line from names.None
+    module _ (c d : ℕ) (h₂ : r₂ ≡ piece.At c d) (r₃ : ItemAt) (e₃ : NextName (within .inner) line d r₃) where
+      pub names-third : r₃ ≡ piece.None → NamesTold within line from names.None
       unfolding onPiece
-      names-third h₃ k = name-form line from _
-          ∙ rw (sym (e .is) ∙ h) (name-form line b _ ∙ rw (sym (e₂ .is) ∙ h₂) (name-form line d _ ∙ rw (sym (e₃ .is) ∙ h₃)))
+      names-third h₃ k = name-form within line from _
+          ∙ rw (sym (e .is) ∙ h) (name-form within line b _ ∙ rw (sym (e₂ .is) ∙ h₂) (name-form within line d _ ∙ rw (sym (e₃ .is) ∙ h₃)))
 
       pub names-all : (x y : ℕ) → r₃ ≡ piece.At x y
-          → NamesGot line from (record { start = a; length = b - a }) (record { start = c; length = d - c }) (record { start = x; length = y - x }) y
+          → NamesGot within line from (record { start = a; length = b - a }) (record { start = c; length = d - c }) (record { start = x; length = y - x }) y
       unfolding onPiece nameAt
       names-all x y h₃ =
           let s = placed-at line from r h (e .placed) in
           let t = placed-at line b r₂ h₂ (e₂ .placed) in
           let u = placed-at line d r₃ h₃ (e₃ .placed) in
           record {
-            form = λ k. name-form line from _ ∙ rw (sym (e .is) ∙ h)
-                (name-form line b _ ∙ rw (sym (e₂ .is) ∙ h₂) (name-form line d _ ∙ rw (sym (e₃ .is) ∙ h₃)));
+            form = λ k. name-form within line from _ ∙ rw (sym (e .is) ∙ h)
+                (name-form within line b _ ∙ rw (sym (e₂ .is) ∙ h₂) (name-form within line d _ ∙ rw (sym (e₃ .is) ∙ h₃)));
             label = record { inside = omega (arith, s .some, s .inside); short = omega (arith, s .short) };
             start = record { inside = omega (arith, t .some, t .inside); short = omega (arith, t .short) };
             end = record { inside = omega (arith, u .some, u .inside); short = omega (arith, u .short) };

@@ -18,6 +18,7 @@ use Rattle.model.specs.declared.Value.{Value}
 use Rattle.model.specs.declared.Value.the-variants.{Number, Text, Truth}
 use Rattle.items.specs.declared.NameItem.{NameItem}
 use Rattle.items.specs.declared.NameItem.the-variants as name
+use Rattle.items.specs.declared.Form.{Form}
 use Rattle.items.specs.Rest.{formAt}
 use Rattle.items.specs.Places.{WordPlaces, ValueInside}
 use Rattle.items.specs.Pieces.{namePlaces, nameNext, onPiece, onName}
@@ -36,19 +37,21 @@ use Rattle.book_lines.specs.Names.{movedPart}
 use Rattle.book_lines.specs.Entries.{shift}
 
 -- a name, and the rest behind it
-module _ {B : Type 0} (line : Bytes) (i : ℕ) where
+module _ {B : Type 0} (within : Form) (line : Bytes) (i : ℕ) where
   pub name-form : (k : Bytes → List Item → Maybe B)
-      → formAt false i line (λ is. first asName is k) ≡ onPiece (namePlaces (nameNext 3 false line i)) (λ p q. formAt false q line (k (partOf line p (q - p))))
+      → formAt within false i line (λ is. first asName is k)
+      ≡ onPiece (namePlaces (nameNext (within .inner) false line i)) (λ p q. formAt within false q line (k (partOf line p (q - p))))
   unfolding onName onPiece
-  name-form k = form-name false i line k ∙ go (nameNext 3 false line i)
+  name-form k = form-name within false i line (within .inner) k ∙ go (nameNext (within .inner) false line i)
     where
-      go : (r : NameItem) → onName line r (λ n q. formAt false q line (k n)) (λ e. nothing)
-          ≡ onPiece (namePlaces r) (λ p q. formAt false q line (k (partOf line p (q - p))))
+      go : (r : NameItem) → onName line r (λ n q. formAt within false q line (k n)) (λ e. nothing)
+          ≡ onPiece (namePlaces r) (λ p q. formAt within false q line (k (partOf line p (q - p))))
       go (name.Name p q) = refl
       go (name.Close e) = refl
       go name.None = refl
 
-  -- a type, and the rest behind it
+-- a type, and the rest behind it
+module _ {B : Type 0} (line : Bytes) (i : ℕ) where
   pub kind-word : (w : Bytes) (q : ℕ) (f : Kind → ℕ → Maybe B) → andThen (kindOf w) (λ k. f k q) ≡ onKind (kindRead w q) f
   unfolding kindOf kindRead onKind kindIn andThen
   kind-word w q f = go (same w (bytesOf "int")) (same w (bytesOf "str")) (same w (bytesOf "bool"))

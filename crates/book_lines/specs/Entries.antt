@@ -11,6 +11,7 @@ use Rattle.model.specs.Forms.{entryOf}
 use Rattle.model.specs.BookLines.{BookLine}
 use Rattle.model.specs.declared.Value.{Value}
 use Rattle.model.specs.declared.Value.the-variants.{Number, Text, Truth}
+use Rattle.items.specs.declared.Form.{Form}
 use Rattle.items.specs.Rest.{formAt}
 use Rattle.book_tables.specs.declared.BookCounts.{BookCounts}
 use Rattle.book_tables.specs.Agree.{Agree}
@@ -25,22 +26,23 @@ shift base (Number n) = Number n
 shift base (Text start size) = Text (base + start) size
 shift base (Truth t) = Truth t
 
--- the rest of a line as entries
-abbrev pub entriesForm : Bytes → ℕ → (List Entry → Maybe BookLine) → Maybe BookLine
-entriesForm line from k = formAt false from line (λ is. andThen (each entryOf is) k)
+-- the rest of a form as entries
+abbrev pub entriesForm : Form → Bytes → ℕ → (List Entry → Maybe BookLine) → Maybe BookLine
+entriesForm within line from k = formAt within false from line (λ is. andThen (each entryOf is) k)
 
 -- the entries were read
-pub record EntriesGot (text line : Bytes) (words : List ℕ) (c : BookCounts) (offset declared from : ℕ) (known : EntriesRead) : Type 0 where
+pub record EntriesGot (within : Form) (text line : Bytes) (words : List ℕ) (c : BookCounts) (offset declared from : ℕ) (known : EntriesRead) : Type 0 where
   pub got : List Entry
-  pub form : (k : List Entry → Maybe BookLine) → entriesForm line from k ≡ k got
+  pub form : (k : List Entry → Maybe BookLine) → entriesForm within line from k ≡ k got
   pub after : EntriesKnown text words c offset declared got known
   pub few : known .count ≤ 65536
 
-abbrev pub EntriesTold : Bytes → Bytes → List ℕ → BookCounts → ℕ → ℕ → ℕ → EntriesAnswer → Type 0
-EntriesTold text line words c offset declared from (answer.Read known) = EntriesGot text line words c offset declared from known
-EntriesTold text line words c offset declared from answer.None = (k : List Entry → Maybe BookLine) → entriesForm line from k ≡ nothing
+abbrev pub EntriesTold : Form → Bytes → Bytes → List ℕ → BookCounts → ℕ → ℕ → ℕ → EntriesAnswer → Type 0
+EntriesTold within text line words c offset declared from (answer.Read known) = EntriesGot within text line words c offset declared from known
+EntriesTold within text line words c offset declared from answer.None = (k : List Entry → Maybe BookLine) → entriesForm within line from k ≡ nothing
 
 -- what reading the entries gives
-pub record EntriesDone (text line : Bytes) (words words′ : List ℕ) (c : BookCounts) (offset declared from : ℕ) (r : EntriesAnswer) : Type 0 where
-  pub agrees : Agree c words words′
-  pub told : EntriesTold text line words′ c offset declared from r
+pub record EntriesDone (within : Form) (text line : Bytes) (words words′ : List ℕ) (c : BookCounts) (offset declared from : ℕ) (r : EntriesAnswer) : Type 0
+  where
+    pub agrees : Agree c words words′
+    pub told : EntriesTold within text line words′ c offset declared from r

@@ -11,6 +11,7 @@ use Rattle.model.specs.Forms.{asName, first}
 use Rattle.model.specs.BookLines.{BookLine}
 use Rattle.model.specs.Answers.{nameAt}
 use Rattle.model.specs.declared.Part.{Part}
+use Rattle.items.specs.declared.Form.{Form}
 use Rattle.items.specs.Rest.{formAt}
 use Rattle.items.specs.Places.{WordPlaces}
 use Rattle.book_tables.specs.Fits.{Inside}
@@ -33,19 +34,19 @@ pub record PartFits (line : Bytes) (p : Part) : Type 0 where
   pub inside : Inside line (p .start) (p .length)
   pub short : p .length < 32
 
--- three names, and then the rest of the line
-abbrev pub namesForm : Bytes → ℕ → (Bytes → Bytes → Bytes → List Item → Maybe BookLine) → Maybe BookLine
-namesForm line from k = formAt false from line (λ is. first asName is (λ l is. first asName is (λ x is. first asName is (λ y is. k l x y is))))
+-- three names, and then the rest of the form
+abbrev pub namesForm : Form → Bytes → ℕ → (Bytes → Bytes → Bytes → List Item → Maybe BookLine) → Maybe BookLine
+namesForm within line from k = formAt within false from line (λ is. first asName is (λ l is. first asName is (λ x is. first asName is (λ y is. k l x y is))))
 
 -- three names were read
-pub record NamesGot (line : Bytes) (from : ℕ) (l x y : Part) (q : ℕ) : Type 0 where
+pub record NamesGot (within : Form) (line : Bytes) (from : ℕ) (l x y : Part) (q : ℕ) : Type 0 where
   pub form : (k : Bytes → Bytes → Bytes → List Item → Maybe BookLine)
-      → namesForm line from k ≡ formAt false q line (k (nameAt line l) (nameAt line x) (nameAt line y))
+      → namesForm within line from k ≡ formAt within false q line (k (nameAt line l) (nameAt line x) (nameAt line y))
   pub label : PartFits line l
   pub start : PartFits line x
   pub end : PartFits line y
   pub inside : q ≤ length line
 
-abbrev pub NamesTold : Bytes → ℕ → RelNames → Type 0
-NamesTold line from (names.Read l x y q) = NamesGot line from l x y q
-NamesTold line from names.None = (k : Bytes → Bytes → Bytes → List Item → Maybe BookLine) → namesForm line from k ≡ nothing
+abbrev pub NamesTold : Form → Bytes → ℕ → RelNames → Type 0
+NamesTold within line from (names.Read l x y q) = NamesGot within line from l x y q
+NamesTold within line from names.None = (k : Bytes → Bytes → Bytes → List Item → Maybe BookLine) → namesForm within line from k ≡ nothing

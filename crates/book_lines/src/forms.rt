@@ -23,7 +23,10 @@ use crate::steps;
 use book_tables::BookCounts;
 use book_tables::NameRule;
 use book_tables::Owner;
+use items::Form;
 use items::ItemAt;
+use items::forms::LINE_CLOSES;
+use items::forms::LIST_DEPTH;
 use items::places;
 use model::Part;
 use model::refusal_numbers::BROKEN;
@@ -42,32 +45,46 @@ pub fn read_line(
     ensures { λ r. ⌜ Stepped (now (text .entry)) (now (words .exit)) r
         (formStepOf rule (bookAt (now (text .entry)) (now (words .entry)) counts) (andThen (lineItems (now (line .entry))) bookLine)) ⌝ }
 {
-    match items::forms::open_form(line) {
-        End::At(from) => read_head(text, line, base, from, words, counts, rule),
+    match items::forms::open_form(line, 0) {
+        End::At(from) => read_head(
+            text,
+            line,
+            base,
+            from,
+            Form {
+                inner: LIST_DEPTH,
+                closes: LINE_CLOSES,
+            },
+            words,
+            counts,
+            rule,
+        ),
         End::None => LineStep::Fault(BROKEN),
     }
 }
 
-// Reads a line from its first word on.
-fn read_head(
+// Reads the form of a line from its first word on, wherever among the lists of the text it stands.
+pub fn read_head(
     text: &[u8],
     line: &[u8],
     base: usize,
     from: usize,
+    form: Form,
     words: &mut [u32],
     counts: BookCounts,
     rule: NameRule,
 ) -> LineStep
     requires { ⌜ FormAsked (now text) (now line) (now words) counts base ⌝ }
     ensures { λ r. ⌜ Stepped (now (text .entry)) (now (words .exit)) r
-        (formStepOf rule (bookAt (now (text .entry)) (now (words .entry)) counts) (formAt true from (now (line .entry)) bookLine)) ⌝ }
+        (formStepOf rule (bookAt (now (text .entry)) (now (words .entry)) counts) (formAt form true from (now (line .entry)) bookLine)) ⌝ }
 {
-    match places::next_word(line, from, true, pieces::FORM_DEPTH) {
+    match places::next_word(line, from, true, form.inner) {
         ItemAt::At(p, q) => read_rest(
             text,
             line,
             base,
             q,
+            form,
             pieces::head(&line[p..q]),
             words,
             counts,
@@ -77,12 +94,13 @@ fn read_head(
     }
 }
 
-// Reads the rest of a line, by its first word.
+// Reads the rest of a form, by its first word.
 fn read_rest(
     text: &[u8],
     line: &[u8],
     base: usize,
     from: usize,
+    form: Form,
     head: Head,
     words: &mut [u32],
     counts: BookCounts,
@@ -90,27 +108,27 @@ fn read_rest(
 ) -> LineStep
     requires { ⌜ FormAsked (now text) (now line) (now words) counts base ⌝ }
     ensures { λ r. ⌜ Stepped (now (text .entry)) (now (words .exit)) r
-        (formStepOf rule (bookAt (now (text .entry)) (now (words .entry)) counts) (formAt false from (now (line .entry)) (lineOf head))) ⌝ }
+        (formStepOf rule (bookAt (now (text .entry)) (now (words .entry)) counts) (formAt form false from (now (line .entry)) (lineOf head))) ⌝ }
 {
     match head {
-        Head::Attr(owner) => attr_line(text, line, base, from, owner, words, counts),
-        Head::Label => label_line(text, line, base, from, words, counts),
-        Head::Node => owners::node_line(text, line, base, from, words, counts, rule),
-        Head::Rel => owners::rel_line(text, line, base, from, words, counts),
+        Head::Attr(owner) => attr_line(text, line, base, from, form, owner, words, counts),
+        Head::Label => label_line(text, line, base, from, form, words, counts),
+        Head::Node => owners::node_line(text, line, base, from, form, words, counts, rule),
+        Head::Rel => owners::rel_line(text, line, base, from, form, words, counts),
         Head::Other => LineStep::Fault(BROKEN),
     }
 }
 
 // NAME TYPE, and nothing more.
-fn read_attr(line: &[u8], from: usize) -> AttrRead
+fn read_attr(line: &[u8], from: usize, form: Form) -> AttrRead
     ensures form { λ r. ⌜ ((make : Bytes → Kind → BookLine)
-        → formAt false from (now (line .entry)) (attrLine make) ≡ onAttr (now (line .entry)) r (λ n k. just (make n k))) ⌝ }
+        → formAt form false from (now (line .entry)) (attrLine make) ≡ onAttr (now (line .entry)) r (λ n k. just (make n k))) ⌝ }
     ensures fits { λ r. ⌜ AttrFits (now (line .entry)) from r ⌝ }
 {
-    match places::next_name(line, from, pieces::FORM_DEPTH) {
-        ItemAt::At(p, q) => match pieces::next_kind(line, q) {
+    match places::next_name(line, from, form.inner) {
+        ItemAt::At(p, q) => match pieces::next_kind(line, q, form.inner) {
             KindRead::Kind(kind, end) => {
-                if items::forms::form_closes(line, end) {
+                if items::forms::form_closes(line, end, form.closes) {
                     return AttrRead::Attr(p, q, kind);
                 }
                 AttrRead::None
@@ -127,15 +145,16 @@ fn attr_line(
     line: &[u8],
     base: usize,
     from: usize,
+    form: Form,
     owner: Owner,
     words: &mut [u32],
     counts: BookCounts,
 ) -> LineStep
     requires { ⌜ FormAsked (now text) (now line) (now words) counts base ⌝ }
     ensures { λ r. ⌜ ((rule : Rule) → Stepped (now (text .entry)) (now (words .exit)) r
-        (formStepOf rule (bookAt (now (text .entry)) (now (words .entry)) counts) (formAt false from (now (line .entry)) (attrLine (declares owner))))) ⌝ }
+        (formStepOf rule (bookAt (now (text .entry)) (now (words .entry)) counts) (formAt form false from (now (line .entry)) (attrLine (declares owner))))) ⌝ }
 {
-    match read_attr(line, from) {
+    match read_attr(line, from, form) {
         AttrRead::Attr(p, q, kind) => steps::add_attr(
             text,
             words,
@@ -157,16 +176,17 @@ fn label_line(
     line: &[u8],
     base: usize,
     from: usize,
+    form: Form,
     words: &mut [u32],
     counts: BookCounts,
 ) -> LineStep
     requires { ⌜ FormAsked (now text) (now line) (now words) counts base ⌝ }
     ensures { λ r. ⌜ ((rule : Rule) → Stepped (now (text .entry)) (now (words .exit)) r
-        (formStepOf rule (bookAt (now (text .entry)) (now (words .entry)) counts) (formAt false from (now (line .entry)) labelLine))) ⌝ }
+        (formStepOf rule (bookAt (now (text .entry)) (now (words .entry)) counts) (formAt form false from (now (line .entry)) labelLine))) ⌝ }
 {
-    match places::next_name(line, from, pieces::FORM_DEPTH) {
+    match places::next_name(line, from, form.inner) {
         ItemAt::At(p, q) => {
-            if items::forms::form_closes(line, q) {
+            if items::forms::form_closes(line, q, form.closes) {
                 return steps::add_label(
                     text,
                     words,

@@ -16,21 +16,18 @@ ghost use Rattle.book_lines.specs.Entries.{shift, EntriesDone};
 use crate::EntriesAnswer;
 use crate::LineStep;
 use crate::RelNames;
-use crate::pieces::FORM_DEPTH;
 use crate::steps;
 use book_entries::EntriesRead;
 use book_tables::BookCounts;
 use book_tables::NameRule;
 use book_tables::Owner;
 use items::EntryRead;
+use items::Form;
 use items::ItemAt;
 use items::places;
 use model::Part;
 use model::Value;
 use model::refusal_numbers::BROKEN;
-
-// In a list of a line's form two may still be opened.
-pub const ENTRY_DEPTH: usize = 2;
 
 // A value with its text's place in the whole text.
 fn shifted(value: Value, base: usize) -> Value
@@ -44,18 +41,19 @@ fn shifted(value: Value, base: usize) -> Value
     }
 }
 
-// (ATTR VALUE)... to the end of the line, of an owner's attributes; each is stored behind those before it.
+// (ATTR VALUE)... to the end of the form, of an owner's attributes; each is stored behind those before it.
 fn read_entries(
     text: &[u8],
     line: &[u8],
     base: usize,
     from: usize,
+    form: Form,
     words: &mut [u32],
     counts: BookCounts,
     owner: Owner,
 ) -> EntriesAnswer
     requires { ⌜ FormAsked (now text) (now line) (now words) counts base × (from ≤ length (now line)) ⌝ }
-    ensures { λ r. ⌜ EntriesDone (now (text .entry)) (now (line .entry)) (now (words .entry)) (now (words .exit)) counts
+    ensures { λ r. ⌜ EntriesDone form (now (text .entry)) (now (line .entry)) (now (words .entry)) (now (words .exit)) counts
         (tablesOf owner counts .attributes) (tablesOf owner counts .declared) from r ⌝ }
 {
     let tables = book_tables::owners::tables(counts, owner);
@@ -68,7 +66,7 @@ fn read_entries(
         count: 0,
     };
     loop {
-        match items::forms::entry(line, at, ENTRY_DEPTH) {
+        match items::forms::entry(line, at, form.inner) {
             EntryRead::Entry {
                 start,
                 end,
@@ -91,7 +89,7 @@ fn read_entries(
                 at = next;
             }
             EntryRead::Close(e) => {
-                if items::forms::only_spaces(line, e) {
+                if items::forms::form_ends(line, e, form.closes) {
                     return EntriesAnswer::Read(known);
                 }
                 return EntriesAnswer::None;
@@ -120,17 +118,18 @@ pub fn node_line(
     line: &[u8],
     base: usize,
     from: usize,
+    form: Form,
     words: &mut [u32],
     counts: BookCounts,
     rule: NameRule,
 ) -> LineStep
     requires { ⌜ FormAsked (now text) (now line) (now words) counts base ⌝ }
     ensures { λ r. ⌜ Stepped (now (text .entry)) (now (words .exit)) r
-        (formStepOf rule (bookAt (now (text .entry)) (now (words .entry)) counts) (formAt false from (now (line .entry)) nodeLine)) ⌝ }
+        (formStepOf rule (bookAt (now (text .entry)) (now (words .entry)) counts) (formAt form false from (now (line .entry)) nodeLine)) ⌝ }
 {
-    match places::next_name(line, from, FORM_DEPTH) {
+    match places::next_name(line, from, form.inner) {
         ItemAt::At(p, q) => {
-            match read_entries(text, line, base, q, words, counts, Owner::Node) {
+            match read_entries(text, line, base, q, form, words, counts, Owner::Node) {
                 EntriesAnswer::Read(read) => steps::add_node(
                     text,
                     words,
@@ -150,12 +149,12 @@ pub fn node_line(
 }
 
 // LABEL FROM TO
-fn read_names(line: &[u8], from: usize) -> RelNames
-    ensures { λ r. ⌜ NamesTold (now (line .entry)) from r ⌝ }
+fn read_names(line: &[u8], from: usize, form: Form) -> RelNames
+    ensures { λ r. ⌜ NamesTold form (now (line .entry)) from r ⌝ }
 {
-    match places::next_name(line, from, FORM_DEPTH) {
-        ItemAt::At(a, b) => match places::next_name(line, b, FORM_DEPTH) {
-            ItemAt::At(c, d) => match places::next_name(line, d, FORM_DEPTH) {
+    match places::next_name(line, from, form.inner) {
+        ItemAt::At(a, b) => match places::next_name(line, b, form.inner) {
+            ItemAt::At(c, d) => match places::next_name(line, d, form.inner) {
                 ItemAt::At(e, f) => RelNames::Read(
                     Part {
                         start: a,
@@ -185,16 +184,26 @@ pub fn rel_line(
     line: &[u8],
     base: usize,
     from: usize,
+    form: Form,
     words: &mut [u32],
     counts: BookCounts,
 ) -> LineStep
     requires { ⌜ FormAsked (now text) (now line) (now words) counts base ⌝ }
     ensures { λ r. ⌜ ((rule : Rule) → Stepped (now (text .entry)) (now (words .exit)) r
-        (formStepOf rule (bookAt (now (text .entry)) (now (words .entry)) counts) (formAt false from (now (line .entry)) relLine))) ⌝ }
+        (formStepOf rule (bookAt (now (text .entry)) (now (words .entry)) counts) (formAt form false from (now (line .entry)) relLine))) ⌝ }
 {
-    match read_names(line, from) {
+    match read_names(line, from, form) {
         RelNames::Read(label, x, y, q) => {
-            match read_entries(text, line, base, q, words, counts, Owner::Relationship) {
+            match read_entries(
+                text,
+                line,
+                base,
+                q,
+                form,
+                words,
+                counts,
+                Owner::Relationship,
+            ) {
                 EntriesAnswer::Read(read) => steps::add_relationship(
                     text,
                     words,

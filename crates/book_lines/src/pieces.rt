@@ -13,9 +13,6 @@ use items::ItemAt;
 use items::places;
 use text::compare::same_bytes;
 
-// "lists nest to depth 4": in the one list of a line three may still be opened.
-pub const FORM_DEPTH: usize = 3;
-
 // Which of the five first words a word is.
 pub fn head(word: &[u8]) -> Head
     ensures { λ r. ⌜ r ≡ headOf (now (word .entry)) ⌝ }
@@ -55,10 +52,10 @@ fn kind_of(word: &[u8], end: usize) -> KindRead
 }
 
 // The type that follows a name.
-pub fn next_kind(line: &[u8], from: usize) -> KindRead
-    ensures { λ r. ⌜ r ≡ kindPiece (now (line .entry)) (wordNext 3 false (now (line .entry)) from) ⌝ }
+pub fn next_kind(line: &[u8], from: usize, depth: usize) -> KindRead
+    ensures { λ r. ⌜ r ≡ kindPiece (now (line .entry)) (wordNext depth false (now (line .entry)) from) ⌝ }
 {
-    match places::next_word(line, from, false, FORM_DEPTH) {
+    match places::next_word(line, from, false, depth) {
         ItemAt::At(p, q) => kind_of(&line[p..q], q),
         ItemAt::None => KindRead::None,
     }

@@ -1,6 +1,6 @@
--- Laws of forms: the one list of a line, piece by piece.
-use Prim.Native.Nat.{ℕ, suc, _+_, _-_, _≤_, _<_}
-use mathlib.Core.Path.{_≡_, refl, sym, _∙_}
+-- Laws of forms, piece by piece; and of the one list of a line, which is a form.
+use Prim.Native.Nat.{ℕ, zero, suc, _+_, _-_, _≤_, _<_}
+use mathlib.Core.Path.{_≡_, refl, sym, ap, _∙_}
 use mathlib.Core.List.{List as ListOf, [], _∷_}
 use mathlib.Core.Bool.{Bool, true, false}
 use native.Mathlib.Omega.{arith}
@@ -19,13 +19,17 @@ use Rattle.model.specs.Answers.{partOf}
 use Rattle.text.specs.declared.End.{End}
 use Rattle.text.specs.declared.End.the-variants as end
 use Rattle.text.specs.Places.{peekAt, past, isSpace}
-use Rattle.items.specs.Rest.{restAt, spacesFrom, formAt, onNext}
-use Rattle.items.specs.Pieces.{wordNext, quotedNext, nameNext, valueNext, openNext, closeNext, onPiece, onName, onValue, onPlace}
-use Rattle.items.specs.Forms.{formOpens, spacesBehind, formCloses}
+use Rattle.items.specs.declared.ItemAt.{ItemAt}
+use Rattle.items.specs.declared.NameItem.{NameItem}
+use Rattle.items.specs.declared.Form.{Form}
+use Rattle.items.specs.Rest.{restAt, spacesFrom, endsAfter, formDepth, formEnds, formAt, lineAt, onNext}
+use Rattle.items.specs.Pieces.{wordNext, quotedNext, nameNext, valueNext, openNext, closeNext, afterEnd, onPiece, onName, onValue, onPlace}
+use Rattle.items.specs.Forms.{formOpens, formCloses}
 use Rattle.items.proofs.SizeLaws.{kindOr, plain-kind}
 use Rattle.items.proofs.RestLaws.{rest-same}
 use Rattle.items.proofs.ReadLaws.{item-plain, item-opened}
 use Rattle.items.proofs.ItemLaws.{no-items}
+use Rattle.items.proofs.PieceTests.{word-depth, name-depth}
 use Rattle.items.proofs.PieceLaws.{first-word, first-quoted, first-name, first-value, first-list, each-list, end-next}
 
 pick-none : {B : Type 0} (x : Bool) → pick {A = Maybe B} x nothing nothing ≡ nothing
@@ -58,14 +62,14 @@ module _ {B : Type 0} (f : ListOf Item → Maybe B) (s : Bytes) where
       go true = refl
       go false = refl
 
-  pub line-form : andThen (lineItems s) f ≡ onPlace (formOpens s) (λ i. formAt true i s f)
-  unfolding lineItems lineOf formOpens onPlace formAt restAt
+  pub line-form : andThen (lineItems s) f ≡ onPlace (formOpens s 0) (λ i. lineAt true i s f)
+  unfolding lineItems lineOf formOpens onPlace formAt endsAfter restAt
   line-form = rw (spaces-first s) (go (eqb (peekAt s p) 40) refl)
     where
       p : ℕ
       p = past isSpace s 0
 
-      go : (x : Bool) → eqb (peekAt s p) 40 ≡ x → lineOf p (itemAt 4 (drop p s)) ≡ onPlace (pick x (end.At (p + 1)) end.None) (λ i. formAt true i s f)
+      go : (x : Bool) → eqb (peekAt s p) 40 ≡ x → lineOf p (itemAt 4 (drop p s)) ≡ onPlace (pick x (end.At (p + 1)) end.None) (λ i. lineAt true i s f)
       go true h = rw (item-opened 4 3 s p refl (eqb-true (peekAt s p) 40 h)) (line-list p (listAt (itemAt 3) true 0 (drop (p + 1) s)))
       go false h = rw (← item-plain 4 s p (eqb-false (peekAt s p) 40 h)) (line-other p (plainAt (drop p s)) (plain-kind (drop p s)))
 
@@ -87,70 +91,95 @@ then-pick true o k = refl
 then-pick false nothing k = refl
 then-pick false (just a) k = refl
 
-module _ {A B : Type 0} (free : Bool) (i : ℕ) (s : Bytes) where
+picked : {B : Type 0} (x : Bool) (o : Maybe B) → pick x o nothing ≡ andThen o (λ a. pick x (just a) nothing)
+unfolding andThen
+picked true nothing = refl
+picked true (just a) = refl
+picked false nothing = refl
+picked false (just a) = refl
+
+module _ {A B : Type 0} (form : Form) (free : Bool) (i : ℕ) (s : Bytes) where
   form-first : (reading : Item → Maybe A) (k : A → ListOf Item → Maybe B)
-      → formAt free i s (λ is. first reading is k) ≡ restAt 3 free i s (λ e is. first reading is (λ a is. pick (spacesFrom s e) (k a is) nothing))
+      → formAt form free i s (λ is. first reading is k) ≡ restAt (formDepth form) free i s
+      (λ e is. first reading is (λ a is. pick (formEnds form s e) (k a is) nothing))
   unfolding formAt
-  form-first reading k = rest-same 3 free i s _ _ (λ e is. first-pick reading (spacesFrom s e) is k)
+  form-first reading k = rest-same (formDepth form) free i s _ _ (λ e is. first-pick reading (formEnds form s e) is k)
 
   form-each : (reading : Item → Maybe A) (k : ListOf A → Maybe B)
-      → formAt free i s (λ is. andThen (each reading is) k) ≡ restAt 3 free i s (λ e is. andThen (each reading is) (λ l. pick (spacesFrom s e) (k l) nothing))
+      → formAt form free i s (λ is. andThen (each reading is) k)
+      ≡ restAt (formDepth form) free i s (λ e is. andThen (each reading is) (λ l. pick (formEnds form s e) (k l) nothing))
   unfolding formAt
-  form-each reading k = rest-same 3 free i s _ _ (λ e is. then-pick (spacesFrom s e) (each reading is) k)
+  form-each reading k = rest-same (formDepth form) free i s _ _ (λ e is. then-pick (formEnds form s e) (each reading is) k)
 
-module _ {B : Type 0} (free : Bool) (i : ℕ) (s : Bytes) where
-  pub form-word : (k : Bytes → ListOf Item → Maybe B)
-      → formAt free i s (λ is. first asWord is k) ≡ onPiece (wordNext 3 free s i) (λ p q. formAt false q s (k (partOf s p (q - p))))
+module _ {B : Type 0} (form : Form) (free : Bool) (i : ℕ) (s : Bytes) where
+  -- a word or a name is read alike, however many lists may be opened in it
+  pub form-word : (d : ℕ) (k : Bytes → ListOf Item → Maybe B)
+      → formAt form free i s (λ is. first asWord is k) ≡ onPiece (wordNext d free s i) (λ p q. formAt form false q s (k (partOf s p (q - p))))
   unfolding formAt
-  form-word k = form-first free i s asWord k ∙ first-word 3 free s i (λ e w is. pick (spacesFrom s e) (k w is) nothing)
+  form-word d k =
+      form-first form free i s asWord k
+      ∙ first-word (formDepth form) free s i (λ e w is. pick (formEnds form s e) (k w is) nothing)
+      ∙ ap (λ (r : ItemAt). onPiece r (λ p q. formAt form false q s (k (partOf s p (q - p))))) (word-depth (formDepth form) d free s i)
 
   pub form-quoted : (k : Bytes → ListOf Item → Maybe B)
-      → formAt free i s (λ is. first asQuoted is k) ≡ onPiece (quotedNext 3 free s i) (λ p q. formAt false (q + 1) s (k (partOf s p (q - p))))
+      → formAt form free i s (λ is. first asQuoted is k) ≡ onPiece (quotedNext (formDepth form) free s i)
+      (λ p q. formAt form false (q + 1) s (k (partOf s p (q - p))))
   unfolding formAt
-  form-quoted k = form-first free i s asQuoted k ∙ first-quoted 3 free s i (λ e w is. pick (spacesFrom s e) (k w is) nothing)
+  form-quoted k = form-first form free i s asQuoted k ∙ first-quoted (formDepth form) free s i (λ e w is. pick (formEnds form s e) (k w is) nothing)
 
-  pub form-name : (k : Bytes → ListOf Item → Maybe B)
-      → formAt free i s (λ is. first asName is k) ≡ onName s (nameNext 3 free s i) (λ n q. formAt false q s (k n)) (λ e. nothing)
+  pub form-name : (d : ℕ) (k : Bytes → ListOf Item → Maybe B)
+      → formAt form free i s (λ is. first asName is k) ≡ onName s (nameNext d free s i) (λ n q. formAt form false q s (k n)) (λ e. nothing)
   unfolding formAt
-  form-name k = form-first free i s asName k ∙ first-name 3 free s i (λ e n is. pick (spacesFrom s e) (k n is) nothing)
+  form-name d k =
+      form-first form free i s asName k
+      ∙ first-name (formDepth form) free s i (λ e n is. pick (formEnds form s e) (k n is) nothing)
+      ∙ ap (λ (r : NameItem). onName s r (λ n q. formAt form false q s (k n)) (λ e. nothing)) (name-depth (formDepth form) d free s i)
 
   pub form-value : (k : Value → ListOf Item → Maybe B)
-      → formAt free i s (λ is. first asValue is k) ≡ onValue s (valueNext 3 free s i) (λ v q. formAt false q s (k v))
+      → formAt form free i s (λ is. first asValue is k) ≡ onValue s (valueNext (formDepth form) free s i) (λ v q. formAt form false q s (k v))
   unfolding formAt
-  form-value k = form-first free i s asValue k ∙ first-value 3 free s i (λ e v is. pick (spacesFrom s e) (k v is) nothing)
+  form-value k = form-first form free i s asValue k ∙ first-value (formDepth form) free s i (λ e v is. pick (formEnds form s e) (k v is) nothing)
 
   pub form-list : {A : Type 0} (h : ListOf Item → Maybe A) (k : A → ListOf Item → Maybe B)
-      → formAt free i s (λ is. first (λ x. andThen (itemsOf x) h) is k)
-      ≡ onNext (openNext s i) (λ p. restAt 2 true p s (λ q is. andThen (h is) (λ a. formAt true q s (k a)))) (λ e. nothing)
+      → formAt form free i s (λ is. first (λ x. andThen (itemsOf x) h) is k)
+      ≡ onNext (openNext s i) (λ p. restAt (form .inner) true p s (λ q is. andThen (h is) (λ a. formAt form true q s (k a)))) (λ e. nothing)
   unfolding formAt
-  form-list h k = form-first free i s (λ x. andThen (itemsOf x) h) k ∙ first-list h 2 free s i (λ e a is. pick (spacesFrom s e) (k a is) nothing)
+  form-list h k = form-first form free i s (λ x. andThen (itemsOf x) h) k
+      ∙ first-list h (form .inner) free s i (λ e a is. pick (formEnds form s e) (k a is) nothing)
 
   pub form-lists : {A : Type 0} (h : ListOf Item → Maybe A) (k : ListOf A → Maybe B)
-      → formAt free i s (λ is. andThen (each (λ x. andThen (itemsOf x) h) is) k)
-      ≡ onNext (openNext s i) (λ p. restAt 2 true p s
-      (λ q is. andThen (h is) (λ a. formAt true q s (λ is. andThen (each (λ x. andThen (itemsOf x) h) is) (λ l. k (a ∷ l))))))
-      (λ e. pick (spacesFrom s e) (k []) nothing)
+      → formAt form free i s (λ is. andThen (each (λ x. andThen (itemsOf x) h) is) k)
+      ≡ onNext (openNext s i) (λ p. restAt (form .inner) true p s
+      (λ q is. andThen (h is) (λ a. formAt form true q s (λ is. andThen (each (λ x. andThen (itemsOf x) h) is) (λ l. k (a ∷ l))))))
+      (λ e. pick (formEnds form s e) (k []) nothing)
   unfolding formAt
   form-lists h k =
-      form-each free i s (λ x. andThen (itemsOf x) h) k ∙ each-list h 2 free s i (λ e l. pick (spacesFrom s e) (k l) nothing)
-      ∙ (λ t. onNext (openNext s i) (λ p. restAt 2 true p s
-      (λ q is. andThen (h is) (λ a. sym (form-each true q s (λ x. andThen (itemsOf x) h) (λ l. k (a ∷ l))) t))) (λ e. pick (spacesFrom s e) (k []) nothing))
+      form-each form free i s (λ x. andThen (itemsOf x) h) k ∙ each-list h (form .inner) free s i (λ e l. pick (formEnds form s e) (k l) nothing)
+      ∙ (λ t. onNext (openNext s i) (λ p. restAt (form .inner) true p s
+      (λ q is. andThen (h is) (λ a. sym (form-each form true q s (λ x. andThen (itemsOf x) h) (λ l. k (a ∷ l))) t)))
+      (λ e. pick (formEnds form s e) (k []) nothing))
 
-  pub form-end : (a : B) → formAt free i s (λ is. atEnd is a) ≡ pick (formCloses s i) (just a) nothing
-  unfolding formAt formCloses spacesBehind onPlace andThen
+  pub form-end : (a : B) → formAt form free i s (λ is. atEnd is a) ≡ pick (formCloses (form .closes) s i) (just a) nothing
+  unfolding formAt endsAfter onPlace afterEnd andThen
   form-end a =
-      rest-same 3 free i s _ _ (λ e is. turned (spacesFrom s e) (atEnd is a)) ∙ end-next 3 free s i a (λ e a. pick (spacesFrom s e) (just a) nothing)
-      ∙ shut (closeNext s i)
+      rest-same (formDepth form) free i s _ _ (λ e is. picked (formEnds form s e) (atEnd is a))
+      ∙ end-next (formDepth form) free s i a (λ e a. pick (formEnds form s e) (just a) nothing) ∙ shut (closeNext s i)
     where
-      turned : (x : Bool) (o : Maybe B) → pick x o nothing ≡ andThen o (λ a. pick x (just a) nothing)
-      turned true nothing = refl
-      turned true (just a) = refl
-      turned false nothing = refl
-      turned false (just a) = refl
-
-      shut : (r : End) → onPlace r (λ e. pick (spacesFrom s e) (just a) nothing) ≡ pick (spacesBehind s r) (just a) nothing
+      shut : (r : End) → onPlace r (λ e. pick (formEnds form s e) (just a) nothing)
+          ≡ pick (afterEnd r (λ e. formEnds form s e) false) (just a) nothing
       shut (end.At e) = refl
       shut end.None = refl
+
+-- a form at the end of another one is a form, in one list more
+pub form-inside : {B : Type 0} (d closes : ℕ) (free : Bool) (i : ℕ) (s : Bytes) (h : ListOf Item → Maybe B)
+    → formAt (record { inner = suc d; closes = closes }) free i s (λ is. first (λ x. andThen (itemsOf x) h) is (λ a is. atEnd is a))
+    ≡ onNext (openNext s i) (λ p. formAt (record { inner = d; closes = suc closes }) true p s h) (λ e. nothing)
+unfolding formAt
+form-inside d closes free i s h =
+    let form : Form = record { inner = suc d; closes = closes } in
+    form-list form free i s h (λ a is. atEnd is a)
+    ∙ (λ t. onNext (openNext s i) (λ p. restAt (suc d) true p s (λ q is. andThen (h is) (λ a. form-end form true q s a t))) (λ e. nothing))
+    ∙ (λ t. onNext (openNext s i) (λ p. restAt (suc d) true p s (λ q is. sym (picked (endsAfter (suc closes) s q) (h is)) t)) (λ e. nothing))
 
 -- nothing but spaces
 all-run : (p : ℕ → Bool) (t : Bytes) → all p t ≡ true → length t ≤ length (run p t)
@@ -179,18 +208,25 @@ spaces-from s i = go (all isSpace (drop i s)) refl
     go true h = le-leb (length s) (i + length (run isSpace (drop i s))) (omega (arith, all-run isSpace (drop i s) h, length-drop i s))
     go false h = lt-leb (length s) (i + length (run isSpace (drop i s))) (omega (arith, not-all-run isSpace (drop i s) h, length-drop i s))
 
+-- what the tests of `form_ends` say
+module _ (s : Bytes) (i : ℕ) where
+  pub ends-on : (k : ℕ) (r : End) → 0 < k → r ≡ closeNext s i → afterEnd r (λ e. endsAfter (k - 1) s e) false ≡ endsAfter k s i
+  unfolding endsAfter
+  ends-on zero r l h = absurd (omega arith)
+  ends-on (suc k) r l h = let e : suc k - 1 ≡ k = omega arith in rw e (ap (λ (r : End). afterEnd r (λ e. endsAfter k s e) false) h)
+
 -- what the tests of `open_form` say
-module _ (s : Bytes) (p : ℕ) (e : p ≡ past isSpace s 0) where
-  pub form-opens : peekAt s p ≡ 40 → end.At (p + 1) ≡ formOpens s
+module _ (s : Bytes) (i p : ℕ) (e : p ≡ past isSpace s i) where
+  pub form-opens : peekAt s p ≡ 40 → end.At (p + 1) ≡ formOpens s i
   unfolding formOpens
   form-opens h = rw (← e, eq-eqb (peekAt s p) 40 h)
 
-  pub form-shut : (peekAt s p ≡ 40 → ⊥) → end.None ≡ formOpens s
+  pub form-shut : (peekAt s p ≡ 40 → ⊥) → end.None ≡ formOpens s i
   unfolding formOpens
   form-shut h = rw (← e, ne-eqb (peekAt s p) 40 h)
 
 -- a line that ends in a line feed
 pub form-of : {B : Type 0} (bytes : Bytes) (f : ListOf Item → Maybe B)
-    → andThen (formOf (record { bytes = bytes; ended = true })) f ≡ onPlace (formOpens bytes) (λ i. formAt true i bytes f)
+    → andThen (formOf (record { bytes = bytes; ended = true })) f ≡ onPlace (formOpens bytes 0) (λ i. lineAt true i bytes f)
 unfolding formOf
 form-of bytes f = line-form f bytes

@@ -24,7 +24,8 @@ use Rattle.items.specs.declared.ValueItem.{ValueItem}
 use Rattle.items.specs.declared.ValueItem.the-variants as read
 use Rattle.items.specs.declared.ClaimRead.the-variants as claim
 use Rattle.items.specs.declared.EntryRead.the-variants as entry
-use Rattle.items.specs.Rest.{restAt, spacesFrom, formAt, onNext}
+use Rattle.items.specs.declared.Form.{Form}
+use Rattle.items.specs.Rest.{restAt, formEnds, formAt, onNext}
 use Rattle.items.specs.Pieces.{wordNext, nameNext, valueNext, openNext, closeNext, onPiece, onName, onValue, onPlace, afterEnd, namePlaces}
 use Rattle.items.specs.Forms.{claimNode, claimActor, claimRest, claimHead, claimAfter, claimNext, onClaim, entryValued, entryNamed, entryAfter}
 use Rattle.items.specs.Forms.{entryNext, onEntry}
@@ -89,15 +90,17 @@ module _ {B : Type 0} (s : Bytes) where
   after-entry d next.None k g = refl
 
   -- a form that is asked for entries goes on behind each, to its closing bracket
-  pub form-entries : (free : Bool) (i : ℕ) (k : ListOf Entry → Maybe B)
-      → formAt free i s (λ is. andThen (each entryOf is) k)
-      ≡ onEntry s (entryNext 2 s i) (λ x q. formAt true q s (λ is. andThen (each entryOf is) (λ l. k (x ∷ l)))) (λ e. pick (spacesFrom s e) (k []) nothing)
+  pub form-entries : (form : Form) (free : Bool) (i : ℕ) (k : ListOf Entry → Maybe B)
+      → formAt form free i s (λ is. andThen (each entryOf is) k)
+      ≡ onEntry s (entryNext (form .inner) s i) (λ x q. formAt form true q s (λ is. andThen (each entryOf is) (λ l. k (x ∷ l))))
+      (λ e. pick (formEnds form s e) (k []) nothing)
   unfolding entryOf entryNext entryItems
-  form-entries free i k =
-      form-lists free i s entryItems k
-      ∙ (λ t. onNext (openNext s i) (λ p. entry-items 2 p (λ x q. formAt true q s (λ is. andThen (each entryOf is) (λ l. k (x ∷ l))))
-      (λ e. pick (spacesFrom s e) (k []) nothing) t) (λ e. pick (spacesFrom s e) (k []) nothing))
-      ∙ after-entry 2 (openNext s i) (λ x q. formAt true q s (λ is. andThen (each entryOf is) (λ l. k (x ∷ l)))) (λ e. pick (spacesFrom s e) (k []) nothing)
+  form-entries form free i k =
+      form-lists form free i s entryItems k
+      ∙ (λ t. onNext (openNext s i) (λ p. entry-items (form .inner) p (λ x q. formAt form true q s (λ is. andThen (each entryOf is) (λ l. k (x ∷ l))))
+      (λ e. pick (formEnds form s e) (k []) nothing) t) (λ e. pick (formEnds form s e) (k []) nothing))
+      ∙ after-entry (form .inner) (openNext s i) (λ x q. formAt form true q s (λ is. andThen (each entryOf is) (λ l. k (x ∷ l))))
+      (λ e. pick (formEnds form s e) (k []) nothing)
 
 -- (id ACTOR NODE)...
 claimItems : ListOf Item → Maybe Claim
@@ -182,15 +185,17 @@ module _ {B : Type 0} (d : ℕ) (s : Bytes) (k : Claim → ℕ → Maybe B) (g :
   after-claim next.None = refl
 
 -- a form that is asked for identities goes on behind each, to its closing bracket
-pub form-claims : {B : Type 0} (s : Bytes) (free : Bool) (i : ℕ) (k : ListOf Claim → Maybe B)
-    → formAt free i s (λ is. andThen (each claimOf is) k)
-    ≡ onClaim s (claimNext 2 s i) (λ x q. formAt true q s (λ is. andThen (each claimOf is) (λ l. k (x ∷ l)))) (λ e. pick (spacesFrom s e) (k []) nothing)
+pub form-claims : {B : Type 0} (s : Bytes) (form : Form) (free : Bool) (i : ℕ) (k : ListOf Claim → Maybe B)
+    → formAt form free i s (λ is. andThen (each claimOf is) k)
+    ≡ onClaim s (claimNext (form .inner) s i) (λ x q. formAt form true q s (λ is. andThen (each claimOf is) (λ l. k (x ∷ l))))
+    (λ e. pick (formEnds form s e) (k []) nothing)
 unfolding claimOf claimNext claimItems
-form-claims s free i k =
-    form-lists free i s claimItems k
-    ∙ (λ t. onNext (openNext s i) (λ p. claim-items 2 s (λ x q. formAt true q s (λ is. andThen (each claimOf is) (λ l. k (x ∷ l))))
-    (λ e. pick (spacesFrom s e) (k []) nothing) p t) (λ e. pick (spacesFrom s e) (k []) nothing))
-    ∙ after-claim 2 s (λ x q. formAt true q s (λ is. andThen (each claimOf is) (λ l. k (x ∷ l)))) (λ e. pick (spacesFrom s e) (k []) nothing) (openNext s i)
+form-claims s form free i k =
+    form-lists form free i s claimItems k
+    ∙ (λ t. onNext (openNext s i) (λ p. claim-items (form .inner) s (λ x q. formAt form true q s (λ is. andThen (each claimOf is) (λ l. k (x ∷ l))))
+    (λ e. pick (formEnds form s e) (k []) nothing) p t) (λ e. pick (formEnds form s e) (k []) nothing))
+    ∙ after-claim (form .inner) s (λ x q. formAt form true q s (λ is. andThen (each claimOf is) (λ l. k (x ∷ l))))
+    (λ e. pick (formEnds form s e) (k []) nothing) (openNext s i)
 
 -- what the tests of `entry` say
 module _ (d : ℕ) (s : Bytes) (i p : ℕ) (e : next.Item p ≡ openNext s i) where

@@ -20,6 +20,7 @@ use Rattle.text.specs.declared.End.the-variants as end
 use Rattle.text.specs.Places.{peekAt, endOf}
 use Rattle.items.specs.declared.ItemRead.{ItemRead}
 use Rattle.items.specs.declared.ItemRead.the-variants.{Word, Number, Text, Quoted, List, None}
+use Rattle.items.specs.declared.Next.{Next}
 use Rattle.items.specs.declared.Next.the-variants as next
 use Rattle.items.specs.declared.ItemAt.the-variants as piece
 use Rattle.items.specs.declared.NameItem.the-variants as name
@@ -101,6 +102,25 @@ module _ (s : Bytes) (p : ℕ) where
       go : (x : Bool) → eqb (peekAt s p) 40 ≡ x → wordOf s p ≡ wordEnd (readAt d s p)
       go true h = rw (eqb-true (peekAt s p) 40 h) (opened-of d (eqb-true (peekAt s p) 40 h))
       go false h = plain-of ∙ ap wordEnd (read-plain d s p (eqb-false (peekAt s p) 40 h))
+
+-- a word and a name are read alike, however many lists may be opened
+module _ (d d′ : ℕ) where
+  piece-depth : (s : Bytes) (p : ℕ) → wordPiece p (readAt d s p) ≡ wordPiece p (readAt d′ s p)
+  unfolding wordPiece
+  piece-depth s p = ap (λ (x : End). afterEnd x (λ q. piece.At p q) piece.None) (sym (word-of s p d) ∙ word-of s p d′)
+
+  pub word-depth : (free : Bool) (s : Bytes) (i : ℕ) → wordNext d free s i ≡ wordNext d′ free s i
+  unfolding wordNext
+  word-depth free s i = λ t. afterEnd (itemPlace (nextAt free s i)) (λ p. piece-depth s p t) piece.None
+
+  pub name-depth : (free : Bool) (s : Bytes) (i : ℕ) → nameNext d free s i ≡ nameNext d′ free s i
+  unfolding nameNext nameAfter
+  name-depth free s i = go (nextAt free s i)
+    where
+      go : (n : Next) → nameAfter d s n ≡ nameAfter d′ s n
+      go (next.Item p) = ap (namePiece s) (piece-depth s p)
+      go (next.Close e) = refl
+      go next.None = refl
 
 -- what the tests of the readers say
 module _ (d : ℕ) (free : Bool) (s : Bytes) (i : ℕ) where

@@ -1,5 +1,5 @@
--- Lists of a known form among the items of a line, and the one list that a line is.
-use Prim.Native.Nat.{ℕ, _+_, _-_}
+-- Lists of a known form among the items of a form, and where a form opens and closes.
+use Prim.Native.Nat.{ℕ, suc, _+_, _-_}
 use mathlib.Core.Bool.{Bool, true, false}
 use lib.Dec.{eqb}
 use Rattle.model.specs.Bytes.{Bytes, bytesOf, same}
@@ -20,7 +20,7 @@ use Rattle.items.specs.declared.EntryRead.{EntryRead}
 use Rattle.items.specs.declared.EntryRead.the-variants as entry
 use Rattle.items.specs.declared.ClaimRead.{ClaimRead}
 use Rattle.items.specs.declared.ClaimRead.the-variants as claim
-use Rattle.items.specs.Rest.{spacesFrom}
+use Rattle.items.specs.Rest.{endsAfter}
 use Rattle.items.specs.Pieces.{afterEnd, namePlaces, wordNext, nameNext, valueNext, openNext, closeNext}
 
 -- the next (ATTR VALUE), step by step
@@ -46,18 +46,13 @@ onEntry s (entry.Entry a b v q) f g = f (record { attr = partOf s a (b - a); val
 onEntry s (entry.Close e) f g = g e
 onEntry s entry.None f g = nothing
 
--- where the items of the one list of a line begin
-unfoldable pub formOpens : Bytes → End
-formOpens s = let p = past isSpace s 0 in pick (eqb (peekAt s p) 40) (end.At (p + 1)) end.None
+-- where the items of a form begin that opens next, spaces aside
+unfoldable pub formOpens : Bytes → ℕ → End
+formOpens s i = let p = past isSpace s i in pick (eqb (peekAt s p) 40) (end.At (p + 1)) end.None
 
--- nothing but spaces stands behind an end
-unfoldable pub spacesBehind : Bytes → End → Bool
-spacesBehind s (end.At e) = spacesFrom s e
-spacesBehind s end.None = false
-
--- the list of a line closes next, and nothing but spaces follows
-unfoldable pub formCloses : Bytes → ℕ → Bool
-formCloses s i = spacesBehind s (closeNext s i)
+-- a form closes next, and behind it so many lists; nothing else but spaces follows
+abbrev pub formCloses : ℕ → Bytes → ℕ → Bool
+formCloses closes s i = endsAfter (suc closes) s i
 
 -- the two names of an (id ACTOR NODE) behind its first word, step by step
 unfoldable pub claimNode : Bytes → ℕ → ℕ → ItemAt → ClaimRead

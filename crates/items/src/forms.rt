@@ -1,6 +1,6 @@
-// The one list of a line: where it opens, its pieces that are lists of a known form, and that nothing but spaces follows it.
+// A form: where it opens, its pieces that are lists of a known form, and that nothing follows it but spaces and the brackets that close the lists it stands in.
 ghost use mathlib.Core.Path.{_≡_};
-ghost use Rattle.items.specs.Rest.{spacesFrom};
+ghost use Rattle.items.specs.Rest.{endsAfter};
 ghost use Rattle.items.specs.Forms.{claimRest, claimNext, formOpens, formCloses};
 ghost use Rattle.items.specs.Places.{NextEntry};
 use crate::ClaimRead;
@@ -16,32 +16,49 @@ use text::bytes;
 use text::compare;
 use text::words;
 
-// Where the items of the one list of a line begin.
-pub fn open_form(s: &[u8]) -> End
-    ensures { λ r. ⌜ r ≡ formOpens (now (s .entry)) ⌝ }
+// "lists nest to depth 4": in the one list of a line three may still be opened, in a list of it two.
+pub const LINE_DEPTH: usize = 3;
+
+pub const LIST_DEPTH: usize = 2;
+
+// The one list of a line stands in no list.
+pub const LINE_CLOSES: usize = 0;
+
+// Where the items of a form begin that opens next, spaces aside.
+pub fn open_form(s: &[u8], from: usize) -> End
+    ensures { λ r. ⌜ r ≡ formOpens (now (s .entry)) from ⌝ }
 {
-    let p = words::spaces_end(s, 0);
+    let p = words::spaces_end(s, from);
     if bytes::peek(s, p) == bytes::OPENING_BRACKET {
         return End::At(p + 1);
     }
     End::None
 }
 
-// Whether nothing but spaces stands from a place on.
-pub fn only_spaces(s: &[u8], from: usize) -> bool
-    ensures { λ r. ⌜ r ≡ spacesFrom (now (s .entry)) from ⌝ }
+// Whether from a place on so many lists close, and nothing else but spaces stands there.
+pub fn form_ends(s: &[u8], from: usize, closes: usize) -> bool
+    ensures { λ r. ⌜ r ≡ endsAfter closes (now (s .entry)) from ⌝ }
 {
-    s.len() <= words::spaces_end(s, from)
+    let mut at = from;
+    let mut left = closes;
+    while 0 < left {
+        let End::At(e) = pieces::close_list(s, at) else {
+            return false;
+        };
+        at = e;
+        left -= 1;
+    }
+    s.len() <= words::spaces_end(s, at)
 }
 
-// Whether the list of a line closes next, and nothing but spaces follows.
-pub fn form_closes(s: &[u8], from: usize) -> bool
-    ensures { λ r. ⌜ r ≡ formCloses (now (s .entry)) from ⌝ }
+// Whether a form closes next, and behind it so many lists; nothing else but spaces follows.
+pub fn form_closes(s: &[u8], from: usize, closes: usize) -> bool
+    ensures { λ r. ⌜ r ≡ formCloses closes (now (s .entry)) from ⌝ }
 {
     let End::At(e) = pieces::close_list(s, from) else {
         return false;
     };
-    only_spaces(s, e)
+    form_ends(s, e, closes)
 }
 
 // The next (ATTR VALUE) of a form, which ends where the list reader says, or the form's closing bracket; in an entry `depth` lists may still be opened.

@@ -6,6 +6,12 @@ pub mod read;
 
 use model::Value;
 
+// Where a form stands among the lists of a text: in each list of it `inner` lists may still be opened, and behind it `closes` lists close.
+pub struct Form {
+    pub inner: usize,
+    pub closes: usize,
+}
+
 // What the item at a place is, and where it ends; or that none can be read there. A whole number z is given as z + 2^63.
 pub enum ItemRead {
     Word(usize),

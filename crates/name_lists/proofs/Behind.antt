@@ -26,7 +26,7 @@ use Rattle.items.specs.declared.ItemAt.the-variants as piece
 use Rattle.items.specs.declared.NameItem.{NameItem}
 use Rattle.items.specs.declared.NameItem.the-variants as name
 use Rattle.items.specs.Reads.{nextAt, listEnd}
-use Rattle.items.specs.Rest.{restAt, formAt, onNext}
+use Rattle.items.specs.Rest.{restAt, lineForm, lineAt, onNext}
 use Rattle.items.specs.Pieces.{itemPlace, afterEnd, wordPiece, namePiece, readAt, namePlaces, wordNext, nameAfter, nameNext, openNext, closeAfter}
 use Rattle.items.specs.Pieces.{closeNext, onPiece, onName, onPlace}
 use Rattle.items.proofs.RestLaws.{rest-same, rest-nothing, rest-end}
@@ -214,38 +214,38 @@ left-start f s from x e = (x, e, refl)
 module _ {B : Type 0} (head s : Bytes) (k : List Bytes → List Item → Maybe B) where
   -- what follows the names
   abbrev goOn : NamesRead → Maybe B
-  goOn x = formAt true (x .end) s (k (x .names))
+  goOn x = lineAt true (x .end) s (k (x .names))
 
   headed-word : (p : ℕ) → restAt 2 true p s
-      (λ e is. first asWord is (λ w is. andThen (pick (same w head) (each asName is) nothing) (λ ns. formAt true e s (k ns))))
+      (λ e is. first asWord is (λ w is. andThen (pick (same w head) (each asName is) nothing) (λ ns. lineAt true e s (k ns))))
       ≡ onPlace (headPiece head s (wordNext 2 true s p)) (λ a. andThen (namesBehind s a) goOn)
   unfolding onPiece onPlace headPiece andThen
-  headed-word p = first-word 2 true s p (λ e w is. andThen (pick (same w head) (each asName is) nothing) (λ ns. formAt true e s (k ns)))
+  headed-word p = first-word 2 true s p (λ e w is. andThen (pick (same w head) (each asName is) nothing) (λ ns. lineAt true e s (k ns)))
       ∙ go (wordNext 2 true s p)
     where
-      by : (b : Bool) (q : ℕ) → restAt 2 false q s (λ e is. andThen (pick b (each asName is) nothing) (λ ns. formAt true e s (k ns)))
+      by : (b : Bool) (q : ℕ) → restAt 2 false q s (λ e is. andThen (pick b (each asName is) nothing) (λ ns. lineAt true e s (k ns)))
           ≡ onPlace (pick b (end.At q) end.None) (λ a. andThen (namesBehind s a) goOn)
-      by true q = rest-names s q (λ e ns. formAt true e s (k ns))
+      by true q = rest-names s q (λ e ns. lineAt true e s (k ns))
       by false q = rest-nothing 2 false q s
 
       go : (r : ItemAt) → onPiece r (λ a b. restAt 2 false b s
-          (λ e is. andThen (pick (same (partOf s a (b - a)) head) (each asName is) nothing) (λ ns. formAt true e s (k ns))))
+          (λ e is. andThen (pick (same (partOf s a (b - a)) head) (each asName is) nothing) (λ ns. lineAt true e s (k ns))))
           ≡ onPlace (headPiece head s r) (λ a. andThen (namesBehind s a) goOn)
       go (piece.At a b) = by (same (partOf s a (b - a)) head) b
       go piece.None = refl
 
   pub headed-names : (free : Bool) (i : ℕ)
-      → formAt free i s (λ is. first (namesAfter head) is k) ≡ onPlace (headedAt head s i) (λ a. andThen (namesBehind s a) goOn)
+      → lineAt free i s (λ is. first (namesAfter head) is k) ≡ onPlace (headedAt head s i) (λ a. andThen (namesBehind s a) goOn)
   unfolding namesAfter headedAt onNext onPlace afterEnd
   headed-names free i =
-      form-list free i s (λ is. first asWord is (λ w is. pick (same w head) (each asName is) nothing)) k
+      form-list lineForm free i s (λ is. first asWord is (λ w is. pick (same w head) (each asName is) nothing)) k
       ∙ go (openNext s i)
     where
       go : (n : Next) → onNext n (λ p. restAt 2 true p s
-          (λ q is. andThen (first asWord is (λ w is. pick (same w head) (each asName is) nothing)) (λ a. formAt true q s (k a)))) (λ e. nothing)
+          (λ q is. andThen (first asWord is (λ w is. pick (same w head) (each asName is) nothing)) (λ a. lineAt true q s (k a)))) (λ e. nothing)
           ≡ onPlace (afterEnd (itemPlace n) (λ p. headPiece head s (wordNext 2 true s p)) end.None) (λ a. andThen (namesBehind s a) goOn)
       go (next.Item p) =
-          rest-same 2 true p s _ _ (λ e is. first-then asWord is (λ w is. pick (same w head) (each asName is) nothing) (λ a. formAt true e s (k a)))
+          rest-same 2 true p s _ _ (λ e is. first-then asWord is (λ w is. pick (same w head) (each asName is) nothing) (λ a. lineAt true e s (k a)))
           ∙ headed-word p
       go (next.Close e) = refl
       go next.None = refl

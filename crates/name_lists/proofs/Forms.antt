@@ -15,7 +15,7 @@ use Rattle.items.specs.declared.ItemAt.{ItemAt}
 use Rattle.items.specs.declared.ItemAt.the-variants as piece
 use Rattle.items.specs.declared.NameItem.{NameItem}
 use Rattle.items.specs.declared.NameItem.the-variants as name
-use Rattle.items.specs.Rest.{formAt, spacesFrom}
+use Rattle.items.specs.Rest.{formAt, lineForm, lineAt, endsAfter}
 use Rattle.items.specs.Pieces.{namePlaces, wordNext, nameNext, onPiece, onName, onPlace}
 use Rattle.items.specs.Forms.{formOpens}
 use Rattle.items.proofs.FormLaws.{line-form, form-word, form-name}
@@ -24,10 +24,10 @@ use Rattle.name_lists.proofs.Behind.{rest-on}
 
 -- what is made of what a form gives
 pub form-on : {A B : Type 0} (free : Bool) (i : ℕ) (s : Bytes) (f : List Item → Maybe A) (h : A → Maybe B)
-    → formAt free i s (λ is. andThen (f is) h) ≡ andThen (formAt free i s f) h
+    → lineAt free i s (λ is. andThen (f is) h) ≡ andThen (lineAt free i s f) h
 unfolding formAt andThen
-form-on {A} {B} free i s f h = rest-same 3 free i s _ _ (λ e is. go (spacesFrom s e) (f is))
-    ∙ rest-on 3 free i s (λ e is. pick (spacesFrom s e) (f is) nothing) h
+form-on {A} {B} free i s f h = rest-same 3 free i s _ _ (λ e is. go (endsAfter 0 s e) (f is))
+    ∙ rest-on 3 free i s (λ e is. pick (endsAfter 0 s e) (f is) nothing) h
   where
     go : (b : Bool) (o : Maybe A) → pick b (andThen o h) nothing ≡ andThen (pick b o nothing) h
     go true o = refl
@@ -35,44 +35,44 @@ form-on {A} {B} free i s f h = rest-same 3 free i s _ _ (λ e is. go (spacesFrom
 
 -- where the one list of a line opens
 module _ {B : Type 0} (s : Bytes) (f : List Item → Maybe B) where
-  pub line-unopened : end.None ≡ formOpens s → andThen (lineItems s) f ≡ nothing
+  pub line-unopened : end.None ≡ formOpens s 0 → andThen (lineItems s) f ≡ nothing
   unfolding onPlace
-  line-unopened e = line-form f s ∙ ap (λ (o : End). onPlace o (λ i. formAt true i s f)) (sym e)
+  line-unopened e = line-form f s ∙ ap (λ (o : End). onPlace o (λ i. lineAt true i s f)) (sym e)
 
-  pub line-opened : {i : ℕ} → end.At i ≡ formOpens s → andThen (lineItems s) f ≡ formAt true i s f
+  pub line-opened : {i : ℕ} → end.At i ≡ formOpens s 0 → andThen (lineItems s) f ≡ lineAt true i s f
   unfolding onPlace
-  line-opened e = line-form f s ∙ ap (λ (o : End). onPlace o (λ i. formAt true i s f)) (sym e)
+  line-opened e = line-form f s ∙ ap (λ (o : End). onPlace o (λ i. lineAt true i s f)) (sym e)
 
 -- a word that begins what follows
 module _ {B : Type 0} (free : Bool) (s : Bytes) (i : ℕ) (k : Bytes → List Item → Maybe B) where
-  pub no-word : piece.None ≡ wordNext 3 free s i → formAt free i s (λ is. first asWord is k) ≡ nothing
+  pub no-word : piece.None ≡ wordNext 3 free s i → lineAt free i s (λ is. first asWord is k) ≡ nothing
   unfolding onPiece
-  no-word w = form-word free i s k ∙ ap (λ (r : ItemAt). onPiece r (λ p q. formAt false q s (k (partOf s p (q - p))))) (sym w)
+  no-word w = form-word lineForm free i s 3 k ∙ ap (λ (r : ItemAt). onPiece r (λ p q. lineAt false q s (k (partOf s p (q - p))))) (sym w)
 
-  pub a-word : {p q : ℕ} → piece.At p q ≡ wordNext 3 free s i → formAt free i s (λ is. first asWord is k) ≡ formAt false q s (k (partOf s p (q - p)))
+  pub a-word : {p q : ℕ} → piece.At p q ≡ wordNext 3 free s i → lineAt free i s (λ is. first asWord is k) ≡ lineAt false q s (k (partOf s p (q - p)))
   unfolding onPiece
-  a-word w = form-word free i s k ∙ ap (λ (r : ItemAt). onPiece r (λ p q. formAt false q s (k (partOf s p (q - p))))) (sym w)
+  a-word w = form-word lineForm free i s 3 k ∙ ap (λ (r : ItemAt). onPiece r (λ p q. lineAt false q s (k (partOf s p (q - p))))) (sym w)
 
 -- a name that begins what follows
 module _ {B : Type 0} (s : Bytes) (i : ℕ) (k : Bytes → List Item → Maybe B) where
-  pub no-name : piece.None ≡ namePlaces (nameNext 3 false s i) → formAt false i s (λ is. first asName is k) ≡ nothing
+  pub no-name : piece.None ≡ namePlaces (nameNext 3 false s i) → lineAt false i s (λ is. first asName is k) ≡ nothing
   unfolding onName
-  no-name n = form-name false i s k ∙ go (nameNext 3 false s i) n
+  no-name n = form-name lineForm false i s 3 k ∙ go (nameNext 3 false s i) n
     where
-      go : (r : NameItem) → piece.None ≡ namePlaces r → onName s r (λ n q. formAt false q s (k n)) (λ e. nothing) ≡ nothing
+      go : (r : NameItem) → piece.None ≡ namePlaces r → onName s r (λ n q. lineAt false q s (k n)) (λ e. nothing) ≡ nothing
       go (name.Name p q) n = let z : _≡_ {A = ℕ} 0 1 = cc in absurd (omega arith)
       go (name.Close e) n = refl
       go name.None n = refl
 
   pub a-name : (p q : ℕ) → piece.At p q ≡ namePlaces (nameNext 3 false s i)
-      → formAt false i s (λ is. first asName is k) ≡ formAt false q s (k (partOf s p (q - p)))
+      → lineAt false i s (λ is. first asName is k) ≡ lineAt false q s (k (partOf s p (q - p)))
   unfolding onName
-  a-name p q n = form-name false i s k ∙ go (nameNext 3 false s i) n
+  a-name p q n = form-name lineForm false i s 3 k ∙ go (nameNext 3 false s i) n
     where
-      go : (r : NameItem) → piece.At p q ≡ namePlaces r → onName s r (λ n q. formAt false q s (k n)) (λ e. nothing) ≡ formAt false q s (k (partOf s p (q - p)))
+      go : (r : NameItem) → piece.At p q ≡ namePlaces r → onName s r (λ n q. lineAt false q s (k n)) (λ e. nothing) ≡ lineAt false q s (k (partOf s p (q - p)))
       go (name.Name a b) n =
           let ea : a ≡ p = cc in
           let eb : b ≡ q = cc in
-          ap (λ (v : ℕ). formAt false b s (k (partOf s v (b - v)))) ea ∙ ap (λ (v : ℕ). formAt false v s (k (partOf s p (v - p)))) eb
+          ap (λ (v : ℕ). lineAt false b s (k (partOf s v (b - v)))) ea ∙ ap (λ (v : ℕ). lineAt false v s (k (partOf s p (v - p)))) eb
       go (name.Close e) n = let z : _≡_ {A = ℕ} 0 1 = cc in absurd (omega arith)
       go name.None n = let z : _≡_ {A = ℕ} 0 1 = cc in absurd (omega arith)

@@ -1,8 +1,8 @@
 // The list that a head word begins.
 ghost use mathlib.Core.Path.{_≡_};
 ghost use Rattle.name_lists.specs.Names.{headedAt};
-use crate::LIST_DEPTH;
 use items::ItemAt;
+use items::forms::LIST_DEPTH;
 use items::pieces;
 use items::places;
 use text::End;

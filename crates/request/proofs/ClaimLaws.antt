@@ -24,7 +24,7 @@ use Rattle.items.specs.declared.ItemAt.the-variants as piece
 use Rattle.items.specs.declared.ClaimRead.{ClaimRead}
 use Rattle.items.specs.declared.ClaimRead.the-variants as claim
 use Rattle.items.specs.Reads.{nextAt}
-use Rattle.items.specs.Rest.{formAt, spacesFrom}
+use Rattle.items.specs.Rest.{formAt, lineForm, lineAt, endsAfter}
 use Rattle.items.specs.Pieces.{afterEnd, namePlaces, wordNext, nameNext, openAfter, openNext, closeAfter, closeNext}
 use Rattle.items.specs.Places.{WordPlaces, Placed}
 use Rattle.items.specs.Forms.{claimNode, claimActor, claimRest, claimHead, claimAfter, claimNext, onClaim}
@@ -111,21 +111,21 @@ then-self (just a) = refl
 -- one identity after another
 module _ (s : Bytes) (i : ℕ) where
   -- a form that is asked for identities
-  pub claims-then : {B : Type 0} (free : Bool) (k : List Claim → Maybe B) → formAt free i s (λ is. andThen (each claimOf is) k) ≡ andThen (claimsFrom s i) k
+  pub claims-then : {B : Type 0} (free : Bool) (k : List Claim → Maybe B) → lineAt free i s (λ is. andThen (each claimOf is) k) ≡ andThen (claimsFrom s i) k
   unfolding claimsFrom
-  claims-then free k = form-claims s free i k ∙ sym (form-claims s true i k) ∙ form-on true i s (λ is. each claimOf is) k
+  claims-then free k = form-claims s lineForm free i k ∙ sym (form-claims s lineForm true i k) ∙ form-on true i s (λ is. each claimOf is) k
 
 module _ (s : Bytes) (i : ℕ) where
   -- what follows a piece that was read
   abbrev behind : ClaimRead → Maybe (List Claim)
-  behind r = onClaim s r (λ x q. oneMore x (claimsFrom s q)) (λ e. pick (spacesFrom s e) (just []) nothing)
+  behind r = onClaim s r (λ x q. oneMore x (claimsFrom s q)) (λ e. pick (endsAfter 0 s e) (just []) nothing)
 
   claims-next : claimsFrom s i ≡ behind (claimNext 2 s i)
   unfolding claimsFrom oneMore
   claims-next =
-      (λ t. formAt true i s (λ is. then-self (each claimOf is) t))
-      ∙ form-claims s true i just
-      ∙ (λ t. onClaim s (claimNext 2 s i) (λ x q. claims-then s q true (λ xs. just (x ∷ xs)) t) (λ e. pick (spacesFrom s e) (just []) nothing))
+      (λ t. lineAt true i s (λ is. then-self (each claimOf is) t))
+      ∙ form-claims s lineForm true i just
+      ∙ (λ t. onClaim s (claimNext 2 s i) (λ x q. claims-then s q true (λ xs. just (x ∷ xs)) t) (λ e. pick (endsAfter 0 s e) (just []) nothing))
 
   claims-by : (r : ClaimRead) → r ≡ claimNext 2 s i → claimsFrom s i ≡ behind r
   claims-by r e = claims-next ∙ ap behind (sym e)
@@ -140,9 +140,9 @@ module _ (s : Bytes) (i : ℕ) where
   unfolding onClaim
   read-on {a} {b} {x} {y} {e} h = more-read (claimOn s a b x y) (claimsFrom s e) ∙ ap areRead (sym (claims-by _ h))
 
-  pub read-closed : {e : ℕ} → claim.Close e ≡ claimNext 2 s i → spacesFrom s e ≡ areRead (claimsFrom s i)
+  pub read-closed : {e : ℕ} → claim.Close e ≡ claimNext 2 s i → endsAfter 0 s e ≡ areRead (claimsFrom s i)
   unfolding onClaim areRead
-  read-closed {e} h = go (spacesFrom s e) ∙ ap areRead (sym (claims-by _ h))
+  read-closed {e} h = go (endsAfter 0 s e) ∙ ap areRead (sym (claims-by _ h))
     where
       go : (b : Bool) → b ≡ areRead (pick b (just []) nothing)
       go true = refl
@@ -154,7 +154,7 @@ module _ (s : Bytes) (i : ℕ) where
 
   claims-end : length s ≤ i → claimsFrom s i ≡ nothing
   unfolding claimsFrom formAt
-  claims-end l = rest-end 3 true s i (λ e is. pick (spacesFrom s e) (each claimOf is) nothing) l
+  claims-end l = rest-end 3 true s i (λ e is. pick (endsAfter 0 s e) (each claimOf is) nothing) l
 
   pub read-over : length s ≤ i → false ≡ areRead (claimsFrom s i)
   unfolding areRead
@@ -189,7 +189,7 @@ module _ (s : Bytes) (i : ℕ) where
 
       go : (r : ClaimRead) → at.None ≡ claimAt r → behind r ≡ just xs → xs ≡ []
       go (claim.Claim a b x y e) n h = let z : _≡_ {A = ℕ} 0 1 = cc in absurd (omega arith)
-      go (claim.Close e) n h = by (spacesFrom s e) h
+      go (claim.Close e) n h = by (endsAfter 0 s e) h
       go claim.None n h = no-just xs h
 
   pub claims-over : {C : Type 0} (xs : List Claim) → length s ≤ i → claimsFrom s i ≡ just xs → C

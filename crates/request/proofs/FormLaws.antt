@@ -14,7 +14,7 @@ use Rattle.model.specs.Answers.{partOf}
 use Rattle.text.specs.declared.End.the-variants as end
 use Rattle.items.specs.declared.ItemAt.{ItemAt}
 use Rattle.items.specs.declared.ItemAt.the-variants as piece
-use Rattle.items.specs.Rest.{formAt}
+use Rattle.items.specs.Rest.{lineAt}
 use Rattle.items.specs.Pieces.{namePlaces, wordNext, nameNext}
 use Rattle.items.specs.Forms.{formOpens}
 use Rattle.items.specs.Places.{WordPlaces}
@@ -37,31 +37,31 @@ then-never nothing = refl
 then-never (just a) = refl
 
 module _ (s : Bytes) where
-  pub unopened : end.None ≡ formOpens s → andThen (lineItems s) requestLine ≡ nothing
+  pub unopened : end.None ≡ formOpens s 0 → andThen (lineItems s) requestLine ≡ nothing
   unopened e = line-unopened s requestLine e
 
-  module _ {i : ℕ} (opened : end.At i ≡ formOpens s) where
+  module _ {i : ℕ} (opened : end.At i ≡ formOpens s 0) where
     pub wordless : piece.None ≡ wordNext 3 true s i → andThen (lineItems s) requestLine ≡ nothing
     unfolding requestLine byWord made
     wordless w = line-opened s requestLine opened ∙ no-word true s i byWord w
 
     module _ {a b : ℕ} (w : piece.At a b ≡ wordNext 3 true s i) where
-      worded : andThen (lineItems s) requestLine ≡ formAt false b s (byWord (partOf s a (b - a)))
+      worded : andThen (lineItems s) requestLine ≡ lineAt false b s (byWord (partOf s a (b - a)))
       unfolding requestLine byWord made
       worded = line-opened s requestLine opened ∙ a-word true s i byWord w
 
       pub of-other : same (partOf s a (b - a)) (bytesOf "request") ≡ false → andThen (lineItems s) requestLine ≡ nothing
       unfolding byWord made
-      of-other h = worded ∙ ap (λ (t : Bool). formAt false b s (λ is. first asName is (made t))) h ∙ go (namePlaces (nameNext 3 false s b)) refl
+      of-other h = worded ∙ ap (λ (t : Bool). lineAt false b s (λ is. first asName is (made t))) h ∙ go (namePlaces (nameNext 3 false s b)) refl
         where
-          go : (r : ItemAt) → r ≡ namePlaces (nameNext 3 false s b) → formAt false b s (λ is. first asName is (made false)) ≡ nothing
+          go : (r : ItemAt) → r ≡ namePlaces (nameNext 3 false s b) → lineAt false b s (λ is. first asName is (made false)) ≡ nothing
           go (piece.At p q) e = a-name s b (made false) p q e ∙ claims-then s q false (λ cs. nothing) ∙ then-never (claimsFrom s q)
           go piece.None e = no-name s b (made false) e
 
       module _ (h : same (partOf s a (b - a)) (bytesOf "request") ≡ true) where
-        of-request : andThen (lineItems s) requestLine ≡ formAt false b s (λ is. first asName is (made true))
+        of-request : andThen (lineItems s) requestLine ≡ lineAt false b s (λ is. first asName is (made true))
         unfolding byWord
-        of-request = worded ∙ ap (λ (t : Bool). formAt false b s (λ is. first asName is (made t))) h
+        of-request = worded ∙ ap (λ (t : Bool). lineAt false b s (λ is. first asName is (made t))) h
 
         pub unnamed : piece.None ≡ namePlaces (nameNext 3 false s b) → andThen (lineItems s) requestLine ≡ nothing
         unnamed e = of-request ∙ no-name s b (made true) e

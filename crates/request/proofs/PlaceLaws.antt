@@ -141,7 +141,7 @@ module _ (s : Bytes) where
       go (next.Close e) h = h
       go next.None h = tt
 
-  form-next : EndNext 0 (formOpens s)
+  form-next : EndNext 0 (formOpens s 0)
   unfolding formOpens isWordByte isLetter isDigit between
   form-next = go (eqb (peekAt s p) 40) refl
     where
@@ -216,7 +216,7 @@ module _ (s : Bytes) where
       go claim.None h n = let z : _≡_ {A = ℕ} 0 1 = cc in absurd (omega arith)
 
   -- the first two words of a line: request, and the category's name
-  pub form-words : (i a b p q : ℕ) → end.At i ≡ formOpens s → piece.At a b ≡ wordNext 3 true s i → piece.At p q ≡ namePlaces (nameNext 3 false s b)
+  pub form-words : (i a b p q : ℕ) → end.At i ≡ formOpens s 0 → piece.At a b ≡ wordNext 3 true s i → piece.At p q ≡ namePlaces (nameNext 3 false s b)
       → drop 2 (wordsFrom false 0 s) ≡ wordsAt s q
   form-words i a b p q o w n =
       let h : wordsAt s 0 ≡ wordsAt s i = subst (EndNext 0) (sym o) form-next in

@@ -14,7 +14,7 @@ use Rattle.model.specs.RequestPlaces.{wordsFrom}
 use Rattle.model.specs.declared.Part.{Part}
 use Rattle.items.specs.declared.ClaimRead.{ClaimRead}
 use Rattle.items.specs.declared.ClaimRead.the-variants as claim
-use Rattle.items.specs.Rest.{formAt}
+use Rattle.items.specs.Rest.{lineAt}
 use Rattle.items.specs.Forms.{claimNext}
 use Rattle.items.specs.Places.{WordPlaces}
 use Rattle.request.specs.declared.ClaimAt.{ClaimAt}
@@ -30,7 +30,7 @@ partAt p q = record { start = p; length = q - p }
 
 -- the identities from a place on, to the end of the line
 unfoldable pub claimsFrom : Bytes → ℕ → Maybe (List Claim)
-claimsFrom s i = formAt true i s (λ is. each claimOf is)
+claimsFrom s i = lineAt true i s (λ is. each claimOf is)
 
 -- one identity more in front
 unfoldable pub oneMore : Claim → Maybe (List Claim) → Maybe (List Claim)

@@ -4,7 +4,8 @@ ghost use Rattle.request.specs.Claims.{claimsFrom, areRead, claimAt, Nex
 use crate::ClaimAt;
 use items::ClaimRead;
 use items::forms;
-use name_lists::LIST_DEPTH;
+use items::forms::LINE_CLOSES;
+use items::forms::LIST_DEPTH;
 
 // The identity that was read, if one was.
 fn claim_at(read: ClaimRead) -> ClaimAt
@@ -53,7 +54,7 @@ pub fn are_claims(s: &[u8], from: usize) -> bool
                 i = next;
             }
             ClaimRead::Close(e) => {
-                return forms::only_spaces(s, e);
+                return forms::form_ends(s, e, LINE_CLOSES);
             }
             ClaimRead::None => {
                 return false;

@@ -6,8 +6,8 @@ ghost use Rattle.request.specs.Forms.{FormRead};
 use crate::claims;
 use items::ItemAt;
 use items::forms;
+use items::forms::LINE_DEPTH;
 use items::places;
-use name_lists::LINE_DEPTH;
 use text::End;
 use text::compare;
 
@@ -15,7 +15,7 @@ use text::compare;
 pub fn request_form(s: &[u8]) -> ItemAt
     ensures { λ r. ⌜ FormRead (now (s .entry)) (andThen (lineItems (now (s .entry))) requestLine) r ⌝ }
 {
-    let End::At(i) = forms::open_form(s) else {
+    let End::At(i) = forms::open_form(s, 0) else {
         return ItemAt::None;
     };
     let ItemAt::At(a, b) = places::next_word(s, i, true, LINE_DEPTH) else {

@@ -8,7 +8,7 @@ use lib.ListN.{length}
 use Rattle.model.specs.Bytes.{Bytes, bytesOf, same}
 use Rattle.model.specs.Choice.{pick, Maybe, nothing, just, andThen}
 use Rattle.model.specs.Items.{Item, lineItems}
-use Rattle.model.specs.Forms.{asName, first, atEnd}
+use Rattle.model.specs.Forms.{first, atEnd}
 use Rattle.model.specs.Grammar.{queryText}
 use Rattle.model.specs.QueryText.{QueryText}
 use Rattle.model.specs.ReadRules.{RulesLine, category, policy, categoryLine, policyLine, rulesLine}
@@ -19,10 +19,10 @@ use Rattle.items.specs.declared.ItemAt.{ItemAt}
 use Rattle.items.specs.declared.ItemAt.the-variants as piece
 use Rattle.items.specs.declared.NameItem.{NameItem}
 use Rattle.items.specs.declared.NameItem.the-variants as name
-use Rattle.items.specs.Rest.{formAt, spacesFrom}
-use Rattle.items.specs.Pieces.{namePlaces, wordNext, nameNext, quotedNext, onPiece, onName, onPlace}
+use Rattle.items.specs.Rest.{formAt, lineForm, lineAt, endsAfter}
+use Rattle.items.specs.Pieces.{namePlaces, wordNext, nameNext, quotedNext, onPiece, onPlace}
 use Rattle.items.specs.Forms.{formOpens, formCloses}
-use Rattle.items.proofs.FormLaws.{line-form, form-word, form-quoted, form-name, form-end}
+use Rattle.items.proofs.FormLaws.{line-form, form-word, form-quoted, form-end}
 use Rattle.items.proofs.RestLaws.{rest-same, rest-nothing}
 use Rattle.items.specs.Places.{WordPlaces, QuotedPlaces, QuotedPlaced}
 use Rattle.name_lists.specs.Names.{NamesRead, namesBehind, namesEnd, headedAt}
@@ -36,20 +36,20 @@ module _ (head s : Bytes) (i : ℕ) where
   pub list-none : end.None ≡ headedAt head s i → (free : Bool) (k : List Bytes → List Item → Maybe RulesLine) → afterList head s free i k ≡ nothing
   unfolding onPlace
   list-none e free k = headed-names head s k free i
-      ∙ ap (λ (o : End). onPlace o (λ a. andThen (namesBehind s a) (λ x. formAt true (x .end) s (k (x .names))))) (sym e)
+      ∙ ap (λ (o : End). onPlace o (λ a. andThen (namesBehind s a) (λ x. lineAt true (x .end) s (k (x .names))))) (sym e)
 
   module _ {a : ℕ} (h : end.At a ≡ headedAt head s i) where
     list-names : (free : Bool) (k : List Bytes → List Item → Maybe RulesLine)
-        → afterList head s free i k ≡ andThen (namesBehind s a) (λ x. formAt true (x .end) s (k (x .names)))
+        → afterList head s free i k ≡ andThen (namesBehind s a) (λ x. lineAt true (x .end) s (k (x .names)))
     unfolding onPlace
     list-names free k = headed-names head s k free i
-        ∙ ap (λ (o : End). onPlace o (λ a. andThen (namesBehind s a) (λ x. formAt true (x .end) s (k (x .names))))) (sym h)
+        ∙ ap (λ (o : End). onPlace o (λ a. andThen (namesBehind s a) (λ x. lineAt true (x .end) s (k (x .names))))) (sym h)
 
     pub list-broken : end.None ≡ namesEnd (namesBehind s a) → (free : Bool) (k : List Bytes → List Item → Maybe RulesLine) → afterList head s free i k ≡ nothing
     unfolding namesEnd andThen
     list-broken n free k = list-names free k ∙ go (namesBehind s a) n
       where
-        go : (o : Maybe NamesRead) → end.None ≡ namesEnd o → andThen o (λ x. formAt true (x .end) s (k (x .names))) ≡ nothing
+        go : (o : Maybe NamesRead) → end.None ≡ namesEnd o → andThen o (λ x. lineAt true (x .end) s (k (x .names))) ≡ nothing
         go nothing e = refl
         go (just x) e = let z : _≡_ {A = ℕ} 0 1 = cc in absurd (omega arith)
 
@@ -64,8 +64,8 @@ module _ (head s : Bytes) (i : ℕ) where
             record {
               read = x;
               is = q;
-              line = λ free k. list-names free k ∙ ap (λ (o : Maybe NamesRead). andThen o (λ x. formAt true (x .end) s (k (x .names)))) q
-                  ∙ ap (λ (v : ℕ). formAt true v s (k (x .names))) f;
+              line = λ free k. list-names free k ∙ ap (λ (o : Maybe NamesRead). andThen o (λ x. lineAt true (x .end) s (k (x .names)))) q
+                  ∙ ap (λ (v : ℕ). lineAt true v s (k (x .names))) f;
             }
 
 -- a category's line
@@ -73,30 +73,30 @@ module _ (s : Bytes) (i : ℕ) where
   overOf : Bytes → List Bytes → List Bytes → List Item → Maybe RulesLine
   overOf n actors over is = atEnd is (category n actors over)
 
-  pub category-unnamed : piece.None ≡ namePlaces (nameNext 3 false s i) → formAt false i s categoryLine ≡ nothing
+  pub category-unnamed : piece.None ≡ namePlaces (nameNext 3 false s i) → lineAt false i s categoryLine ≡ nothing
   unfolding categoryLine
   category-unnamed e = no-name s i _ e
 
   module _ {p q : ℕ} (n : piece.At p q ≡ namePlaces (nameNext 3 false s i)) where
     pub category-no-actors : ((free : Bool) (k : List Bytes → List Item → Maybe RulesLine) → afterList (bytesOf "actors") s free q k ≡ nothing)
-        → formAt false i s categoryLine ≡ nothing
+        → lineAt false i s categoryLine ≡ nothing
     unfolding categoryLine
     category-no-actors h = a-name s i _ p q n ∙ h false _
 
     module _ {a e : ℕ} (x : ListRead (bytesOf "actors") s q a e) where
       pub category-no-over : ((free : Bool) (k : List Bytes → List Item → Maybe RulesLine) → afterList (bytesOf "over") s free e k ≡ nothing)
-          → formAt false i s categoryLine ≡ nothing
+          → lineAt false i s categoryLine ≡ nothing
       unfolding categoryLine
       category-no-over h = a-name s i _ p q n ∙ x .line false _ ∙ h true _
 
       pub category-line : {o f : ℕ} (y : ListRead (bytesOf "over") s e o f)
-          → formAt false i s categoryLine ≡ pick (formCloses s f) (just (category (between s p q) (x .read .names) (y .read .names))) nothing
+          → lineAt false i s categoryLine ≡ pick (formCloses 0 s f) (just (category (between s p q) (x .read .names) (y .read .names))) nothing
       unfolding categoryLine
       category-line {o} {f} y = a-name s i _ p q n ∙ x .line false _ ∙ y .line true _
-          ∙ form-end true f s (category (between s p q) (x .read .names) (y .read .names))
+          ∙ form-end lineForm true f s (category (between s p q) (x .read .names) (y .read .names))
 
-      pub category-read : {o f : ℕ} (y : ListRead (bytesOf "over") s e o f) → WordPlaces s i p q → formCloses s f ≡ true
-          → CategoryRead s (formAt false i s categoryLine) p q a o
+      pub category-read : {o f : ℕ} (y : ListRead (bytesOf "over") s e o f) → WordPlaces s i p q → formCloses 0 s f ≡ true
+          → CategoryRead s (lineAt false i s categoryLine) p q a o
       category-read {o} {f} y h t = record {
         places = record { after = omega arith; some = h .some; inside = h .inside; short = h .short };
         actors = x .read;
@@ -106,12 +106,12 @@ module _ (s : Bytes) (i : ℕ) where
         is = category-line y ∙ ap (λ (b : Bool). pick b (just (category (between s p q) (x .read .names) (y .read .names))) nothing) t;
       }
 
-      pub category-open : {o f : ℕ} (y : ListRead (bytesOf "over") s e o f) → formCloses s f ≡ false → formAt false i s categoryLine ≡ nothing
+      pub category-open : {o f : ℕ} (y : ListRead (bytesOf "over") s e o f) → formCloses 0 s f ≡ false → lineAt false i s categoryLine ≡ nothing
       category-open y t = category-line y ∙ ap (λ (b : Bool). pick b (just (category (between s p q) (x .read .names) (y .read .names))) nothing) t
 
 -- a policy's line
 module _ (s : Bytes) (i : ℕ) where
-  pub policy-unnamed : piece.None ≡ namePlaces (nameNext 3 false s i) → formAt false i s policyLine ≡ nothing
+  pub policy-unnamed : piece.None ≡ namePlaces (nameNext 3 false s i) → lineAt false i s policyLine ≡ nothing
   unfolding policyLine
   policy-unnamed e = no-name s i _ e
 
@@ -120,30 +120,30 @@ module _ (s : Bytes) (i : ℕ) where
     abbrev made : Bytes → Maybe RulesLine
     made t = andThen (queryText t) (λ (tree : QueryText). just (policy (between s p q) (length t) tree))
 
-    pub policy-no-text : piece.None ≡ quotedNext 3 false s q → formAt false i s policyLine ≡ nothing
+    pub policy-no-text : piece.None ≡ quotedNext 3 false s q → lineAt false i s policyLine ≡ nothing
     unfolding policyLine onPiece
     policy-no-text e =
         a-name s i _ p q n
-        ∙ form-quoted false q s (λ t is. andThen (atEnd is t) made)
-        ∙ ap (λ (r : ItemAt). onPiece r (λ p q. formAt false (q + 1) s (λ is. andThen (atEnd is (partOf s p (q - p))) made))) (sym e)
+        ∙ form-quoted lineForm false q s (λ t is. andThen (atEnd is t) made)
+        ∙ ap (λ (r : ItemAt). onPiece r (λ p q. lineAt false (q + 1) s (λ is. andThen (atEnd is (partOf s p (q - p))) made))) (sym e)
 
     pub policy-line : {t u : ℕ} → piece.At t u ≡ quotedNext 3 false s q
-        → formAt false i s policyLine ≡ pick (formCloses s (u + 1)) (made (between s t u)) nothing
+        → lineAt false i s policyLine ≡ pick (formCloses 0 s (u + 1)) (made (between s t u)) nothing
     unfolding policyLine onPiece andThen
     policy-line {t} {u} e =
         a-name s i _ p q n
-        ∙ form-quoted false q s (λ t is. andThen (atEnd is t) made)
-        ∙ ap (λ (r : ItemAt). onPiece r (λ p q. formAt false (q + 1) s (λ is. andThen (atEnd is (partOf s p (q - p))) made))) (sym e)
+        ∙ form-quoted lineForm false q s (λ t is. andThen (atEnd is t) made)
+        ∙ ap (λ (r : ItemAt). onPiece r (λ p q. lineAt false (q + 1) s (λ is. andThen (atEnd is (partOf s p (q - p))) made))) (sym e)
         ∙ form-on false (u + 1) s (λ is. atEnd is (between s t u)) made
-        ∙ ap (λ (o : Maybe Bytes). andThen o made) (form-end false (u + 1) s (between s t u))
-        ∙ go (formCloses s (u + 1))
+        ∙ ap (λ (o : Maybe Bytes). andThen o made) (form-end lineForm false (u + 1) s (between s t u))
+        ∙ go (formCloses 0 s (u + 1))
       where
         go : (b : Bool) → andThen (pick b (just (between s t u)) nothing) made ≡ pick b (made (between s t u)) nothing
         go true = refl
         go false = refl
 
     module _ {t u : ℕ} (e : piece.At t u ≡ quotedNext 3 false s q) where
-      pub policy-read : WordPlaces s i p q → QuotedPlaces s t u → formCloses s (u + 1) ≡ true → PolicyRead s (formAt false i s policyLine) p q t u
+      pub policy-read : WordPlaces s i p q → QuotedPlaces s t u → formCloses 0 s (u + 1) ≡ true → PolicyRead s (lineAt false i s policyLine) p q t u
       policy-read h k c = record {
         places = record { after = omega arith; some = h .some; inside = h .inside; short = h .short };
         some = k .some;
@@ -151,7 +151,7 @@ module _ (s : Bytes) (i : ℕ) where
         is = policy-line e ∙ ap (λ (b : Bool). pick b (made (between s t u)) nothing) c;
       }
 
-      pub policy-open : formCloses s (u + 1) ≡ false → formAt false i s policyLine ≡ nothing
+      pub policy-open : formCloses 0 s (u + 1) ≡ false → lineAt false i s policyLine ≡ nothing
       policy-open c = policy-line e ∙ ap (λ (b : Bool). pick b (made (between s t u)) nothing) c
 
 -- what was read, by the answer
@@ -170,45 +170,45 @@ form-moved s m m′ r e h = subst (λ (x : Maybe RulesLine). FormRead s x r) (sy
 
 -- the line by its first word
 module _ (s : Bytes) where
-  pub unopened : end.None ≡ formOpens s → andThen (lineItems s) rulesLine ≡ nothing
+  pub unopened : end.None ≡ formOpens s 0 → andThen (lineItems s) rulesLine ≡ nothing
   unfolding onPlace
-  unopened e = line-form rulesLine s ∙ ap (λ (o : End). onPlace o (λ i. formAt true i s rulesLine)) (sym e)
+  unopened e = line-form rulesLine s ∙ ap (λ (o : End). onPlace o (λ i. lineAt true i s rulesLine)) (sym e)
 
-  module _ {i : ℕ} (e : end.At i ≡ formOpens s) where
-    opened : andThen (lineItems s) rulesLine ≡ formAt true i s rulesLine
+  module _ {i : ℕ} (e : end.At i ≡ formOpens s 0) where
+    opened : andThen (lineItems s) rulesLine ≡ lineAt true i s rulesLine
     unfolding onPlace
-    opened = line-form rulesLine s ∙ ap (λ (o : End). onPlace o (λ i. formAt true i s rulesLine)) (sym e)
+    opened = line-form rulesLine s ∙ ap (λ (o : End). onPlace o (λ i. lineAt true i s rulesLine)) (sym e)
 
     byWord : Bytes → List Item → Maybe RulesLine
     byWord w is = pick (same w (bytesOf "category")) (categoryLine is) (pick (same w (bytesOf "policy")) (policyLine is) nothing)
 
     pub wordless : piece.None ≡ wordNext 3 true s i → andThen (lineItems s) rulesLine ≡ nothing
     unfolding rulesLine onPiece byWord
-    wordless w = opened ∙ form-word true i s byWord ∙ ap (λ (r : ItemAt). onPiece r (λ p q. formAt false q s (byWord (partOf s p (q - p))))) (sym w)
+    wordless w = opened ∙ form-word lineForm true i s 3 byWord ∙ ap (λ (r : ItemAt). onPiece r (λ p q. lineAt false q s (byWord (partOf s p (q - p))))) (sym w)
 
     module _ {p q : ℕ} (w : piece.At p q ≡ wordNext 3 true s i) where
-      worded : andThen (lineItems s) rulesLine ≡ formAt false q s (byWord (between s p q))
+      worded : andThen (lineItems s) rulesLine ≡ lineAt false q s (byWord (between s p q))
       unfolding rulesLine onPiece byWord
-      worded = opened ∙ form-word true i s byWord ∙ ap (λ (r : ItemAt). onPiece r (λ p q. formAt false q s (byWord (partOf s p (q - p))))) (sym w)
+      worded = opened ∙ form-word lineForm true i s 3 byWord ∙ ap (λ (r : ItemAt). onPiece r (λ p q. lineAt false q s (byWord (partOf s p (q - p))))) (sym w)
 
-      pub of-category : same (between s p q) (bytesOf "category") ≡ true → andThen (lineItems s) rulesLine ≡ formAt false q s categoryLine
+      pub of-category : same (between s p q) (bytesOf "category") ≡ true → andThen (lineItems s) rulesLine ≡ lineAt false q s categoryLine
       unfolding byWord
-      of-category h = worded ∙ ap (λ (b : Bool). formAt false q s
+      of-category h = worded ∙ ap (λ (b : Bool). lineAt false q s
           (λ is. pick b (categoryLine is) (pick (same (between s p q) (bytesOf "policy")) (policyLine is) nothing))) h
 
       module _ (h : same (between s p q) (bytesOf "category") ≡ false) where
-        not-category : andThen (lineItems s) rulesLine ≡ formAt false q s (λ is. pick (same (between s p q) (bytesOf "policy")) (policyLine is) nothing)
+        not-category : andThen (lineItems s) rulesLine ≡ lineAt false q s (λ is. pick (same (between s p q) (bytesOf "policy")) (policyLine is) nothing)
         unfolding byWord
-        not-category = worded ∙ ap (λ (b : Bool). formAt false q s
+        not-category = worded ∙ ap (λ (b : Bool). lineAt false q s
             (λ is. pick b (categoryLine is) (pick (same (between s p q) (bytesOf "policy")) (policyLine is) nothing))) h
 
-        pub of-policy : same (between s p q) (bytesOf "policy") ≡ true → andThen (lineItems s) rulesLine ≡ formAt false q s policyLine
-        of-policy k = not-category ∙ ap (λ (b : Bool). formAt false q s (λ is. pick b (policyLine is) nothing)) k
+        pub of-policy : same (between s p q) (bytesOf "policy") ≡ true → andThen (lineItems s) rulesLine ≡ lineAt false q s policyLine
+        of-policy k = not-category ∙ ap (λ (b : Bool). lineAt false q s (λ is. pick b (policyLine is) nothing)) k
 
         pub of-neither : same (between s p q) (bytesOf "policy") ≡ false → andThen (lineItems s) rulesLine ≡ nothing
         unfolding formAt
-        of-neither k = not-category ∙ ap (λ (b : Bool). formAt false q s (λ is. pick b (policyLine is) nothing)) k
-            ∙ (rest-same 3 false q s _ _ (λ e is. never (spacesFrom s e)) ∙ rest-nothing 3 false q s)
+        of-neither k = not-category ∙ ap (λ (b : Bool). lineAt false q s (λ is. pick b (policyLine is) nothing)) k
+            ∙ (rest-same 3 false q s _ _ (λ e is. never (endsAfter 0 s e)) ∙ rest-nothing 3 false q s)
           where
             never : (b : Bool) → pick {A = Maybe RulesLine} b nothing nothing ≡ nothing
             never true = refl

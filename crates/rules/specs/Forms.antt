@@ -13,7 +13,7 @@ use Rattle.model.specs.ReadRules.{RulesLine, category, policy, namesAfter}
 use Rattle.model.specs.Answers.{partOf}
 use Rattle.items.specs.declared.ItemAt.{ItemAt}
 use Rattle.items.specs.declared.ItemAt.the-variants as piece
-use Rattle.items.specs.Rest.{formAt}
+use Rattle.items.specs.Rest.{lineAt}
 use Rattle.items.specs.Places.{WordPlaces}
 use Rattle.name_lists.specs.Names.{NamesRead, namesBehind}
 use Rattle.rules.specs.declared.RulesForm.{RulesForm}
@@ -25,13 +25,13 @@ between s p q = partOf s p (q - p)
 
 -- what the model makes of the form from the place i on, where a list of names with this head follows
 abbrev pub afterList : Bytes → Bytes → Bool → ℕ → (List Bytes → List Item → Maybe RulesLine) → Maybe RulesLine
-afterList head s free i k = formAt free i s (λ is. first (namesAfter head) is k)
+afterList head s free i k = lineAt free i s (λ is. first (namesAfter head) is k)
 
 -- a list of names: its names stand from the place a on, and the form goes on at the place e
 pub record ListRead (head s : Bytes) (i a e : ℕ) : Type 0 where
   pub read : NamesRead
   pub is : namesBehind s a ≡ just read
-  pub line : (free : Bool) (k : List Bytes → List Item → Maybe RulesLine) → afterList head s free i k ≡ formAt true e s (k (read .names))
+  pub line : (free : Bool) (k : List Bytes → List Item → Maybe RulesLine) → afterList head s free i k ≡ lineAt true e s (k (read .names))
 
 -- such a list, or that there is none
 abbrev pub NamesList : Bytes → Bytes → ℕ → ItemAt → Type 0

@@ -3,13 +3,14 @@ ghost use mathlib.Core.Bool.{false};
 ghost use Rattle.model.specs.Choice.{andThen};
 ghost use Rattle.model.specs.Items.{lineItems};
 ghost use Rattle.model.specs.ReadRules.{categoryLine, policyLine, rulesLine};
-ghost use Rattle.items.specs.Rest.{formAt};
+ghost use Rattle.items.specs.Rest.{lineAt};
 ghost use Rattle.rules.specs.Forms.{NamesList, FormRead};
 use crate::RulesForm;
 use items::ItemAt;
 use items::forms;
+use items::forms::LINE_CLOSES;
+use items::forms::LINE_DEPTH;
 use items::places;
-use name_lists::LINE_DEPTH;
 use name_lists::scans;
 use text::End;
 use text::compare;
@@ -29,7 +30,7 @@ fn names_list(s: &[u8], from: usize, head: &[u8]) -> ItemAt
 
 // NAME (actors WORD...) (over CATEGORY...), behind the line's first word.
 fn category_form(s: &[u8], from: usize) -> RulesForm
-    ensures { λ r. ⌜ FormRead (now (s .entry)) (formAt false from (now (s .entry)) categoryLine) r ⌝ }
+    ensures { λ r. ⌜ FormRead (now (s .entry)) (lineAt false from (now (s .entry)) categoryLine) r ⌝ }
 {
     let ItemAt::At(p, q) = places::next_name(s, from, LINE_DEPTH) else {
         return RulesForm::None;
@@ -40,7 +41,7 @@ fn category_form(s: &[u8], from: usize) -> RulesForm
     let ItemAt::At(o, f) = names_list(s, e, b"over") else {
         return RulesForm::None;
     };
-    if forms::form_closes(s, f) {
+    if forms::form_closes(s, f, LINE_CLOSES) {
         return RulesForm::Category(p, q, a, o);
     }
     RulesForm::None
@@ -48,7 +49,7 @@ fn category_form(s: &[u8], from: usize) -> RulesForm
 
 // CATEGORY "QUERY", behind the line's first word.
 fn policy_form(s: &[u8], from: usize) -> RulesForm
-    ensures { λ r. ⌜ FormRead (now (s .entry)) (formAt false from (now (s .entry)) policyLine) r ⌝ }
+    ensures { λ r. ⌜ FormRead (now (s .entry)) (lineAt false from (now (s .entry)) policyLine) r ⌝ }
 {
     let ItemAt::At(p, q) = places::next_name(s, from, LINE_DEPTH) else {
         return RulesForm::None;
@@ -56,7 +57,7 @@ fn policy_form(s: &[u8], from: usize) -> RulesForm
     let ItemAt::At(t, u) = places::next_quoted(s, q, LINE_DEPTH) else {
         return RulesForm::None;
     };
-    if forms::form_closes(s, u + 1) {
+    if forms::form_closes(s, u + 1, LINE_CLOSES) {
         return RulesForm::Policy(p, q, t, u);
     }
     RulesForm::None
@@ -66,7 +67,7 @@ fn policy_form(s: &[u8], from: usize) -> RulesForm
 pub fn rules_form(s: &[u8]) -> RulesForm
     ensures { λ r. ⌜ FormRead (now (s .entry)) (andThen (lineItems (now (s .entry))) rulesLine) r ⌝ }
 {
-    let End::At(i) = forms::open_form(s) else {
+    let End::At(i) = forms::open_form(s, 0) else {
         return RulesForm::None;
     };
     let ItemAt::At(p, q) = places::next_word(s, i, true, LINE_DEPTH) else {

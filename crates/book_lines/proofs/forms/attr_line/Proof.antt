@@ -6,8 +6,8 @@ use borrow.Author.Needs.{needs}
 use Rattle.book_lines.proofs.forms.attr_line.Statement.{statement}
 use Rattle.book_lines.proofs.forms.attr_line.Tie as tie
 
-add-t15 : tie.Need-add-t15
-add-t15 c =
+add-t16 : tie.Need-add-t16
+add-t16 c =
     let at-read-attr = c .before .before .before .before in
     let at-before = at-read-attr .before .before .before in
     let s = at-before .before in
@@ -20,8 +20,8 @@ add-t15 c =
           (c .before .before .p .given .1),
     )
 
-sub-t16 : tie.Need-sub-t16
-sub-t16 c =
+sub-t17 : tie.Need-sub-t17
+sub-t17 c =
     let s = c .before .before .before .before .before .before .before .before in
     let a = s .args in
     omega (arith, attr-stands (a .line .now) (a .from) _ _ _ _ (c .before .before .before .before .read-attr .ensures .1) (c .before .before .p .given .1))
@@ -45,7 +45,7 @@ returns c =
     λ rule.
     let s = at-before .before in
     let a = s .args in
-    rw (attr-step rule (a .text .now) (a .line .now) (a .words .now) (a .counts) (a .base) (a .from) (s .pre) _ (at-read-attr .read-attr .ensures .0)
+    rw (attr-step rule _ (a .text .now) (a .line .now) (a .words .now) (a .counts) (a .base) (a .from) (s .pre) _ (at-read-attr .read-attr .ensures .0)
     (at-read-attr .read-attr .ensures .1) (declares (a .owner)) _ _ _ (at-p .p .given .1)) (c .before .before .add-attr .ensures rule)
 
 returns-2 : tie.Need-returns-2
@@ -54,7 +54,7 @@ returns-2 c =
     λ rule.
     let s = at-before .before in
     let a = s .args in
-    attr-broken rule (a .text .now) (a .line .now) (a .words .now) (a .counts) (a .base) (a .from) (s .pre) _ (c .before .before .read-attr .ensures .0)
+    attr-broken rule _ (a .text .now) (a .line .now) (a .words .now) (a .counts) (a .base) (a .from) (s .pre) _ (c .before .before .read-attr .ensures .0)
     (c .before .before .read-attr .ensures .1) (declares (a .owner)) (c .enum-told .given .1)
 
 pub attr-line-spec : {M : Type 1} → statement M
@@ -63,8 +63,8 @@ attr-line-spec =
     (tie.spec
     (λ c κs. search needs)
     (λ c. search needs)
-    add-t15
-    sub-t16
+    add-t16
+    sub-t17
     add-attr-requires
     (λ c. search needs)
     (λ c. search needs)

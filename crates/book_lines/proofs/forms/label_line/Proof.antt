@@ -6,8 +6,8 @@ use borrow.Author.Needs.{needs}
 use Rattle.book_lines.proofs.forms.label_line.Statement.{statement}
 use Rattle.book_lines.proofs.forms.label_line.Tie as tie
 
-add-t14 : tie.Need-add-t14
-add-t14 c =
+add-t15 : tie.Need-add-t15
+add-t15 c =
     let at-p = c .before .before .before .before in
     let at-next-name = at-p .before .before in
     let at-pre = at-next-name .before .before .before .before in
@@ -19,8 +19,8 @@ add-t14 c =
           (at-next-name .next-name .ensures .placed),
     )
 
-sub-t15 : tie.Need-sub-t15
-sub-t15 c =
+sub-t16 : tie.Need-sub-t16
+sub-t16 c =
     let at-p = c .before .before .before .before in
     let at-next-name = at-p .before .before in
     let at-args = at-next-name .before .before .before .before in
@@ -44,7 +44,7 @@ returns c =
     let at-p = at-form-closes .before .before in
     let at-next-name = at-p .before .before in
     let at-args = at-next-name .before .before .before .before in
-    λ rule. rw (label-step rule (at-args .args .text .now) (at-args .args .line .now) (at-args .args .words .now) (at-args .args .counts)
+    λ rule. rw (label-step rule _ (at-args .args .text .now) (at-args .args .line .now) (at-args .args .words .now) (at-args .args .counts)
     (at-args .args .base) (at-args .args .from) (at-args .pre) _ (at-next-name .next-name .ensures) _ _ (at-p .p .given .1) _
     (at-form-closes .form-closes .ensures) (at-if1 .if1 .taken)) (c .before .before .add-label .ensures rule)
 
@@ -52,14 +52,14 @@ returns-2 : tie.Need-returns-2
 returns-2 c =
     let at-next-name = c .before .before .before .before .before in
     let at-args = at-next-name .before .before .before .before in
-    λ rule. label-open rule (at-args .args .text .now) (at-args .args .line .now) (at-args .args .words .now) (at-args .args .counts) (at-args .args .base)
+    λ rule. label-open rule _ (at-args .args .text .now) (at-args .args .line .now) (at-args .args .words .now) (at-args .args .counts) (at-args .args .base)
     (at-args .args .from) (at-args .pre) _ (at-next-name .next-name .ensures) _ _ (c .before .before .before .p .given .1) _
     (c .before .form-closes .ensures) (c .if1 .left)
 
 returns-3 : tie.Need-returns-3
 returns-3 c =
     let at-args = c .before .before .before .before .before .before in
-    λ rule. label-broken rule (at-args .args .text .now) (at-args .args .line .now) (at-args .args .words .now) (at-args .args .counts)
+    λ rule. label-broken rule _ (at-args .args .text .now) (at-args .args .line .now) (at-args .args .words .now) (at-args .args .counts)
     (at-args .args .base) (at-args .args .from) (at-args .pre) _ (c .before .before .next-name .ensures) (c .enum-told .given .1)
 
 pub label-line-spec : {M : Type 1} → statement M
@@ -69,8 +69,8 @@ label-line-spec =
     (λ c κs. search needs)
     (λ c. search needs)
     (λ c κs. search needs)
-    add-t14
-    sub-t15
+    add-t15
+    sub-t16
     add-label-requires
     (λ c. search needs)
     returns

@@ -13,7 +13,7 @@ returns c =
     let at-p = at-next-kind .before .before in
     let at-next-name = at-p .before .before in
     let at-args = at-next-name .before .before in (
-      λ make. attr-ends (at-args .args .line .now) (at-args .args .from) make _ (at-next-name .next-name .ensures) _ _ (at-p .p .given .1) _
+      λ make. attr-ends _ (at-args .args .line .now) (at-args .args .from) make _ (at-next-name .next-name .ensures) _ _ (at-p .p .given .1) _
           (at-next-kind .next-kind .ensures) _ _ (c .before .before .before .kind .given .1) _ (c .before .form-closes .ensures)
           ∙ rw (c .if1 .taken),
       placed-at (at-args .args .line .now) (at-args .args .from) _ (at-p .p .given .1) (at-next-name .next-name .ensures .placed),
@@ -26,7 +26,7 @@ returns-2 c =
     let at-p = at-next-kind .before .before in
     let at-next-name = at-p .before .before in
     let at-args = at-next-name .before .before in (
-      λ make. attr-ends (at-args .args .line .now) (at-args .args .from) make _ (at-next-name .next-name .ensures) _ _ (at-p .p .given .1) _
+      λ make. attr-ends _ (at-args .args .line .now) (at-args .args .from) make _ (at-next-name .next-name .ensures) _ _ (at-p .p .given .1) _
           (at-next-kind .next-kind .ensures) _ _ (c .before .before .before .kind .given .1) _ (c .before .form-closes .ensures) ∙ rw (c .if1 .left),
       tt,
     )
@@ -37,7 +37,7 @@ returns-3 c =
     let at-p = c .before .before .before .before in
     let at-next-name = at-p .before .before in
     let at-args = at-next-name .before .before in (
-      λ make. attr-kindless (at-args .args .line .now) (at-args .args .from) make _ (at-next-name .next-name .ensures) _ _ (at-p .p .given .1) _
+      λ make. attr-kindless _ (at-args .args .line .now) (at-args .args .from) make _ (at-next-name .next-name .ensures) _ _ (at-p .p .given .1) _
           (c .before .before .next-kind .ensures) (c .enum-told .given .1),
       tt,
     )
@@ -46,7 +46,7 @@ returns-4 : tie.Need-returns-4
 unfolding onAttr
 returns-4 c =
     let at-args = c .before .before .before .before in
-    (λ make. attr-nameless (at-args .args .line .now) (at-args .args .from) make _ (c .before .before .next-name .ensures) (c .enum-told2 .given .1), tt)
+    (λ make. attr-nameless _ (at-args .args .line .now) (at-args .args .from) make _ (c .before .before .next-name .ensures) (c .enum-told2 .given .1), tt)
 
 pub read-attr-spec : {M : Type 1} → statement M
 read-attr-spec =

@@ -27,14 +27,14 @@ returns c =
     let at-head = c .before .before .before .before in
     let at-p = at-head .before .before .before in
     let at-next-word = at-p .before .before in
-    let at-args = at-next-word .before .before .before .before in
-    rw (headed (at-args .args .line .now) (at-args .args .from) _ (at-next-word .next-word .ensures) _ _ (at-p .p .given .1), ← at-head .head .ensures)
+    let a = at-next-word .before .before .before .before .args in
+    rw (headed (a .form) (a .line .now) (a .from) _ (at-next-word .next-word .ensures) _ _ (at-p .p .given .1), ← at-head .head .ensures)
     (c .before .before .read-rest .ensures)
 
 returns-2 : tie.Need-returns-2
 returns-2 c =
     let at-args = c .before .before .before .before .before .before in
-    step-broken _ _ _ (headless (at-args .args .line .now) (at-args .args .from) _ (c .before .before .next-word .ensures) (c .enum-told .given .1))
+    step-broken _ _ _ (headless _ (at-args .args .line .now) (at-args .args .from) _ (c .before .before .next-word .ensures) (c .enum-told .given .1))
 
 pub read-head-spec : {M : Type 1} → statement M
 read-head-spec =

@@ -32,7 +32,7 @@ returns-4 c =
 returns-5 : tie.Need-returns-5
 returns-5 c =
     let at-args = c .before .before .before .before .before in
-    step-broken _ _ _ (form-other (at-args .args .line .now) (at-args .args .from) _ (c .enum-told4 .given .1))
+    step-broken _ _ _ (form-other _ (at-args .args .line .now) (at-args .args .from) _ (c .enum-told4 .given .1))
 
 pub read-rest-spec : {M : Type 1} → statement M
 read-rest-spec =

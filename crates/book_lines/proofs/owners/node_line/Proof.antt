@@ -13,8 +13,8 @@ read-entries-requires c κs =
     let a = s .args in
     (s .pre, placed-at (a .line .now) (a .from) _ (c .before .before .p .given .1) (c .before .before .before .before .next-name .ensures .placed) .inside)
 
-add-t20 : tie.Need-add-t20
-add-t20 c =
+add-t21 : tie.Need-add-t21
+add-t21 c =
     let at-p = c .before .before .before .before .before .before .before .before .before in
     let at-next-name = at-p .before .before in
     let at-before = at-next-name .before .before .before in
@@ -22,8 +22,8 @@ add-t20 c =
     let a = s .args in
     omega (arith, s .pre .inside, s .pre .limit, placed-at (a .line .now) (a .from) _ (at-p .p .given .1) (at-next-name .next-name .ensures .placed))
 
-sub-t21 : tie.Need-sub-t21
-sub-t21 c =
+sub-t22 : tie.Need-sub-t22
+sub-t22 c =
     let at-p = c .before .before .before .before .before .before .before .before .before in
     let at-next-name = at-p .before .before in
     let at-before = at-next-name .before .before .before in
@@ -58,7 +58,7 @@ returns c =
     let a = s .args in
     let got = entries-got (a .text .now) (a .line .now) (a .words .now) _ (a .counts) _ _ _ _ _ (at-read-entries .read-entries .ensures)
     (at-read .read .given .1) in
-    rw (node-step (a .rule) (a .text .now) (a .line .now) (a .words .now) (a .counts) (a .base) (a .from) (s .pre) _ (at-next-name .next-name .ensures) _ _
+    rw (node-step (a .rule) _ (a .text .now) (a .line .now) (a .words .now) (a .counts) (a .base) (a .from) (s .pre) _ (at-next-name .next-name .ensures) _ _
     (at-p .p .given .1) _ _ _ _ (at-read-entries .read-entries .ensures) _ (at-read .read .given .1) got)
     (c .before .before .add-node .ensures (got .got) (got .after))
 
@@ -70,7 +70,7 @@ returns-2 c =
     let at-before = at-next-name .before .before .before in
     let s = at-before .before in
     let a = s .args in
-    node-spoilt (a .rule) (a .text .now) (a .line .now) (a .words .now) (a .counts) (a .base) (a .from) (s .pre) _ (at-next-name .next-name .ensures) _ _
+    node-spoilt (a .rule) _ (a .text .now) (a .line .now) (a .words .now) (a .counts) (a .base) (a .from) (s .pre) _ (at-next-name .next-name .ensures) _ _
     (at-p .p .given .1) _ _ _ _ (at-read-entries .read-entries .ensures) (c .enum-told .given .1)
 
 returns-3 : tie.Need-returns-3
@@ -78,7 +78,7 @@ returns-3 c =
     let at-before = c .before .before .before .before .before in
     let s = at-before .before in
     let a = s .args in
-    node-broken (a .rule) (a .text .now) (a .line .now) (a .words .now) (a .counts) (a .base) (a .from) (s .pre) _ (c .before .before .next-name .ensures)
+    node-broken (a .rule) _ (a .text .now) (a .line .now) (a .words .now) (a .counts) (a .base) (a .from) (s .pre) _ (c .before .before .next-name .ensures)
     (c .enum-told2 .given .1)
 
 pub node-line-spec : {M : Type 1} → statement M
@@ -89,8 +89,8 @@ node-line-spec =
     (λ c. search needs)
     read-entries-requires
     (λ c. search needs)
-    add-t20
-    sub-t21
+    add-t21
+    sub-t22
     add-node-requires
     (λ c. search needs)
     (λ c. search needs)

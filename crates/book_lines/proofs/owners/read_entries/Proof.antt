@@ -12,10 +12,11 @@ use Rattle.book_lines.proofs.owners.read_entries.Statement.{statement}
 use Rattle.book_lines.proofs.owners.read_entries.Tie as tie
 
 abbrev Inv-loop : tie.InvT-loop
-Inv-loop text line base from words₀ counts offset declared at₀ known₀ words at known = Reading text line words₀ words counts offset declared from at known
+Inv-loop text line base from form words₀ counts offset declared at₀ known₀ words at known =
+    Reading form text line words₀ words counts offset declared from at known
 
 abbrev μ-loop : tie.MeasureT-loop
-μ-loop text line base from words₀ counts offset declared at₀ known₀ words at known = length line - at
+μ-loop text line base from form words₀ counts offset declared at₀ known₀ words at known = length line - at
 
 loop-holds : tie.Need-loop-holds Inv-loop μ-loop
 loop-holds c =
@@ -23,8 +24,8 @@ loop-holds c =
     let a = s .args in
     reading-starts (a .text .now) (a .line .now) (a .words .now) (a .counts) (c .tables .result .attributes) (c .tables .result .declared) (a .from) (s .pre .1)
 
-add-t21 : tie.Need-add-t21 Inv-loop μ-loop
-add-t21 c =
+add-t22 : tie.Need-add-t22 Inv-loop μ-loop
+add-t22 c =
     let at-entry = c .before .before .before .before in
     let at-loop = at-entry .before in
     let at-before = at-loop .before .before .before .before in
@@ -38,8 +39,8 @@ add-t21 c =
           (c .before .before .start .given .1),
     )
 
-sub-t22 : tie.Need-sub-t22 Inv-loop μ-loop
-sub-t22 c =
+sub-t23 : tie.Need-sub-t23 Inv-loop μ-loop
+sub-t23 c =
     let at-entry = c .before .before .before .before in
     let at-loop = at-entry .before in
     let at-args = at-loop .before .before .before .before .before in
@@ -121,7 +122,7 @@ returns c =
       told = reading-ends (a .text .now) (a .line .now) (a .words .now) (a .counts)
           (at-tables .tables .result .attributes) (at-tables .tables .result .declared) (a .from) (at-loop .loop .words) (at-loop .loop .at)
           (at-loop .loop .known) (at-loop .loop .inv) _ (at-entry .entry .ensures) (omega (arith, s .pre .0 .inside, s .pre .0 .limit)) _
-          (c .before .before .before .e .given .1) _ (c .before .only-spaces .ensures) (c .if1 .taken);
+          (c .before .before .before .e .given .1) _ (c .before .form-ends .ensures) (c .if1 .taken);
     })
 
 same-length-2 : tie.Need-same-length-2 Inv-loop μ-loop
@@ -140,7 +141,7 @@ returns-2 c =
       told = reading-spoilt (a .text .now) (a .line .now) (a .words .now) (a .counts)
           (at-tables .tables .result .attributes) (at-tables .tables .result .declared) (a .from) (at-loop .loop .words) (at-loop .loop .at)
           (at-loop .loop .known) (at-loop .loop .inv) _ (at-entry .entry .ensures) _ (c .before .before .before .e .given .1) _
-          (c .before .only-spaces .ensures) (c .if1 .left);
+          (c .before .form-ends .ensures) (c .if1 .left);
     })
 
 same-length-3 : tie.Need-same-length-3 Inv-loop μ-loop
@@ -170,8 +171,8 @@ read-entries-spec =
     loop-holds
     (λ c κs. search needs)
     (λ c. search needs)
-    add-t21
-    sub-t22
+    add-t22
+    sub-t23
     shifted-requires
     add-entry-requires
     loop-less

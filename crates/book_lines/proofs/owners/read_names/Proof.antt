@@ -5,22 +5,22 @@ use borrow.Author.Needs.{needs}
 use Rattle.book_lines.proofs.owners.read_names.Statement.{statement}
 use Rattle.book_lines.proofs.owners.read_names.Tie as tie
 
-sub-t15 : tie.Need-sub-t15
-sub-t15 c =
+sub-t16 : tie.Need-sub-t16
+sub-t16 c =
     let at-a = c .before .before .before .before .before .before .before .before .before in
     let at-next-name = at-a .before .before in
     let at-args = at-next-name .before .before in
     omega (arith, placed-at (at-args .args .line .now) (at-args .args .from) _ (at-a .a .given .1) (at-next-name .next-name .ensures .placed))
 
-sub-t17 : tie.Need-sub-t17
-sub-t17 c =
+sub-t18 : tie.Need-sub-t18
+sub-t18 c =
     let at-c = c .before .before .before .before .before in
     let at-next-name2 = at-c .before .before in
     let at-args = at-next-name2 .before .before .before .before .before .before in
     omega (arith, placed-at (at-args .args .line .now) _ _ (at-c .c .given .1) (at-next-name2 .next-name2 .ensures .placed))
 
-sub-t19 : tie.Need-sub-t19
-sub-t19 c =
+sub-t20 : tie.Need-sub-t20
+sub-t20 c =
     let at-args = c .before .before .before .before .before .before .before .before .before .before .before .before .before in
     omega (arith, placed-at (at-args .args .line .now) _ _ (c .before .e .given .1) (c .before .before .before .next-name3 .ensures .placed))
 
@@ -31,7 +31,7 @@ returns c =
     let at-a = at-next-name2 .before .before in
     let at-next-name = at-a .before .before in
     let at-args = at-next-name .before .before in
-    names-all (at-args .args .line .now) (at-args .args .from) _ (at-next-name .next-name .ensures) _ _ (at-a .a .given .1) _
+    names-all _ (at-args .args .line .now) (at-args .args .from) _ (at-next-name .next-name .ensures) _ _ (at-a .a .given .1) _
     (at-next-name2 .next-name2 .ensures) _ _ (at-c .c .given .1) _ (c .before .before .before .next-name3 .ensures) _ _ (c .before .e .given .1)
 
 returns-2 : tie.Need-returns-2
@@ -41,7 +41,7 @@ returns-2 c =
     let at-a = at-next-name2 .before .before in
     let at-next-name = at-a .before .before in
     let at-args = at-next-name .before .before in
-    names-third (at-args .args .line .now) (at-args .args .from) _ (at-next-name .next-name .ensures) _ _ (at-a .a .given .1) _
+    names-third _ (at-args .args .line .now) (at-args .args .from) _ (at-next-name .next-name .ensures) _ _ (at-a .a .given .1) _
     (at-next-name2 .next-name2 .ensures) _ _ (at-c .c .given .1) _ (c .before .before .next-name3 .ensures) (c .enum-told .given .1)
 
 returns-3 : tie.Need-returns-3
@@ -49,13 +49,13 @@ returns-3 c =
     let at-a = c .before .before .before .before in
     let at-next-name = at-a .before .before in
     let at-args = at-next-name .before .before in
-    names-second (at-args .args .line .now) (at-args .args .from) _ (at-next-name .next-name .ensures) _ _ (at-a .a .given .1) _
+    names-second _ (at-args .args .line .now) (at-args .args .from) _ (at-next-name .next-name .ensures) _ _ (at-a .a .given .1) _
     (c .before .before .next-name2 .ensures) (c .enum-told2 .given .1)
 
 returns-4 : tie.Need-returns-4
 returns-4 c =
     let at-args = c .before .before .before .before in
-    names-first (at-args .args .line .now) (at-args .args .from) _ (c .before .before .next-name .ensures) (c .enum-told3 .given .1)
+    names-first _ (at-args .args .line .now) (at-args .args .from) _ (c .before .before .next-name .ensures) (c .enum-told3 .given .1)
 
 pub read-names-spec : {M : Type 1} → statement M
 read-names-spec =
@@ -67,9 +67,9 @@ read-names-spec =
     (λ c. search needs)
     (λ c κs. search needs)
     (λ c. search needs)
-    sub-t15
-    sub-t17
-    sub-t19
+    sub-t16
+    sub-t18
+    sub-t20
     (λ c. search needs)
     (λ c. search needs)
     (λ c. search needs)

@@ -71,7 +71,7 @@ returns c =
     let got = entries-got (a .text .now) (a .line .now) (a .words .now) _ (a .counts) _ _ _ _ _ (at-read-entries .read-entries .ensures)
     (at-read .read .given .1) in
     rw (
-      rel-step rule (a .text .now) (a .line .now) (a .words .now) (a .counts) (a .base) (a .from) (s .pre) _ (at-read-names .read-names .ensures) _ _ _ _
+      rel-step rule _ (a .text .now) (a .line .now) (a .words .now) (a .counts) (a .base) (a .from) (s .pre) _ (at-read-names .read-names .ensures) _ _ _ _
           (at-label .label .given .1) _ _ _ _ (at-read-entries .read-entries .ensures) _ (at-read .read .given .1) got,
       ← at-moved .moved .ensures,
       ←
@@ -88,7 +88,7 @@ returns-2 c =
     λ rule.
     let s = at-before .before in
     let a = s .args in
-    rel-spoilt rule (a .text .now) (a .line .now) (a .words .now) (a .counts) (a .base) (a .from) (s .pre) _ (at-read-names .read-names .ensures) _ _ _ _
+    rel-spoilt rule _ (a .text .now) (a .line .now) (a .words .now) (a .counts) (a .base) (a .from) (s .pre) _ (at-read-names .read-names .ensures) _ _ _ _
     (at-label .label .given .1) _ _ _ _ (at-read-entries .read-entries .ensures) (c .enum-told .given .1)
 
 returns-3 : tie.Need-returns-3
@@ -97,7 +97,7 @@ returns-3 c =
     λ rule.
     let s = at-before .before in
     let a = s .args in
-    rel-broken rule (a .text .now) (a .line .now) (a .words .now) (a .counts) (a .base) (a .from) (s .pre) _ (c .before .before .read-names .ensures)
+    rel-broken rule _ (a .text .now) (a .line .now) (a .words .now) (a .counts) (a .base) (a .from) (s .pre) _ (c .before .before .read-names .ensures)
     (c .enum-told2 .given .1)
 
 pub rel-line-spec : {M : Type 1} → statement M

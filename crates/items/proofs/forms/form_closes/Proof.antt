@@ -1,20 +1,26 @@
 -- `items::forms::form_closes` meets its contract.
-use Rattle.items.specs.Forms.{formCloses, spacesBehind}
+use mathlib.Core.Bool.{false}
 use mathlib.Core.Path.{sym, ap, _∙_}
+use Rattle.text.specs.declared.End.{End}
+use Rattle.items.specs.Rest.{endsAfter}
+use Rattle.items.specs.Pieces.{afterEnd}
 use borrow.Author.Needs.{needs}
 use Rattle.items.proofs.forms.form_closes.Statement.{statement}
 use Rattle.items.proofs.forms.form_closes.Tie as tie
 
 returns : tie.Need-returns
-unfolding formCloses spacesBehind
-returns c = ap (spacesBehind (c .before .before .before .before .args .s .now)) (sym (c .enum-told .given .1) ∙ c .before .before .close-list .ensures)
+unfolding endsAfter afterEnd
+returns c =
+    let a = c .before .before .before .before .args in
+    ap (λ (r : End). afterEnd r (λ e. endsAfter (a .closes) (a .s .now) e) false) (sym (c .enum-told .given .1) ∙ c .before .before .close-list .ensures)
 
 returns-2 : tie.Need-returns-2
-unfolding formCloses spacesBehind
+unfolding endsAfter afterEnd
 returns-2 c =
     let at-close-list = c .before .before .before .before in
-    let at-args = at-close-list .before .before in
-    c .only-spaces .ensures ∙ ap (spacesBehind (at-args .args .s .now)) (sym (c .before .before .e .given .1) ∙ at-close-list .close-list .ensures)
+    let a = at-close-list .before .before .args in
+    c .form-ends .ensures ∙ ap (λ (r : End). afterEnd r (λ e. endsAfter (a .closes) (a .s .now) e) false)
+    (sym (c .before .before .e .given .1) ∙ at-close-list .close-list .ensures)
 
 pub form-closes-spec : {M : Type 1} → statement M
 form-closes-spec =

@@ -37,7 +37,7 @@ returns c =
     let at-claim = c .before .before .before .before in
     let at-loop = at-claim .before .before in
     let at-args = at-loop .before .before in
-    c .only-spaces .ensures ∙ read-closed (at-args .args .s .now) (at-loop .loop .i) (sym (c .before .before .e .given .1) ∙ at-claim .claim .ensures)
+    c .form-ends .ensures ∙ read-closed (at-args .args .s .now) (at-loop .loop .i) (sym (c .before .before .e .given .1) ∙ at-claim .claim .ensures)
     ∙ at-loop .loop .inv
 
 returns-2 : tie.Need-returns-2 Inv-loop μ-loop
