@@ -1,10 +1,10 @@
 -- Lines that declare a name: each fault, and the line added.
-use Prim.Native.Nat.{ℕ, _+_, _-_, _*_, _/_, _%_, _≤_, _<_}
+use Prim.Native.Nat.{ℕ, _+_, _*_, _/_, _%_, _≤_, _<_}
 use mathlib.Core.Path.{_≡_, refl, ap, _∙_}
 use mathlib.Core.List.{List}
 use mathlib.Core.Bool.{false}
 use native.Mathlib.Omega.{arith}
-use lib.ListN.{length, take, drop}
+use lib.ListN.{length}
 use borrow.Author.Tests.{le-leb, lt-leb, lt-ltb, le-ltb}
 use Rattle.model.specs.Bytes.{Bytes}
 use Rattle.model.specs.Choice.{nothing, just}
@@ -15,7 +15,7 @@ use Rattle.model.specs.Values.{Kind}
 use Rattle.model.specs.Book.{Book, attrNames}
 use Rattle.model.specs.BookLines.{BookLine, label}
 use Rattle.model.specs.ReadBook.{nameFault, lineFault, addLine}
-use Rattle.model.specs.Answers.{partOf, nameAt}
+use Rattle.model.specs.Answers.{nameAt}
 use Rattle.model.specs.declared.Part.{Part}
 use Rattle.book_tables.specs.declared.BookCounts.{BookCounts}
 use Rattle.book_tables.specs.declared.NameRule.{NameRule}
@@ -64,31 +64,26 @@ unfolding faultBy lineFault
 declared-fault rule b Node n k = refl
 declared-fault rule b Relationship n k = refl
 
--- a name's word, and its slice
-module _ (text : Bytes) (name : Part) where
-  pub slice-name : take (name .start + name .length - name .start) (drop (name .start) text) ≡ nameAt text name
-  unfolding nameAt partOf
-  slice-name = let e : name .start + name .length - name .start ≡ name .length = omega arith in rw e
+-- a name's word
+module _ (text : Bytes) (name : Part) (asked : NameAsked text name) where
+  abbrev name-word : ℕ
+  name-word = name .start * 32 + name .length
 
-  module _ (asked : NameAsked text name) where
-    abbrev name-word : ℕ
-    name-word = name .start * 32 + name .length
+  word-start : name-word / 32 ≡ name .start
+  word-start = let s = asked .short in omega arith
 
-    word-start : name-word / 32 ≡ name .start
-    word-start = let s = asked .short in omega arith
+  word-length : name-word % 32 ≡ name .length
+  word-length = let s = asked .short in omega arith
 
-    word-length : name-word % 32 ≡ name .length
-    word-length = let s = asked .short in omega arith
+  pub word-name : nameIn text (name .start * 32 + name .length) ≡ nameAt text name
+  unfolding nameIn nameAt
+  word-name = rw (word-start, word-length)
 
-    pub word-name : nameIn text (name .start * 32 + name .length) ≡ nameAt text name
-    unfolding nameIn nameAt
-    word-name = rw (word-start, word-length)
-
-    pub word-new : (ns : List Bytes) → mem (nameAt text name) ns ≡ false → NewName text ns (name .start * 32 + name .length)
-    word-new ns e = record {
-      inside = rw (word-start, word-length) (asked .inside);
-      new = rw word-name e;
-    }
+  pub word-new : (ns : List Bytes) → mem (nameAt text name) ns ≡ false → NewName text ns (name .start * 32 + name .length)
+  word-new ns e = record {
+    inside = rw (word-start, word-length) (asked .inside);
+    new = rw word-name e;
+  }
 
 -- the lines that declare names
 module _ (rule : NameRule) (text : Bytes) (words : List ℕ) (c : BookCounts) (name : Part) (asked : NameAsked text name) (fits : Fits text words c) where

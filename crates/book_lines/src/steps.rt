@@ -34,6 +34,7 @@ use model::limits::MAX_RELATIONSHIPS;
 use model::refusal_numbers::LIMIT_PASSED;
 use model::refusal_numbers::NOT_DECLARED;
 use model::refusal_numbers::SECOND_TIME;
+use text::parts;
 
 // A name's word.
 fn name_word(name: Part) -> u32
@@ -41,16 +42,6 @@ fn name_word(name: Part) -> u32
     ensures { λ r. ⌜ r ≡ name .start * 32 + name .length ⌝ }
 {
     (name.start * NAME_LENGTHS + name.length) as u32
-}
-
-// The name that a part of the text is.
-fn named<'a>(text: &'a [u8], name: Part) -> &'a [u8]
-    requires { ⌜ NameAsked (now text) name ⌝ }
-    ensures { λ r. ⌜ now r ≡ nameAt (now (text .entry)) name ⌝ }
-{
-    let start = name.start;
-    let end = start + name.length;
-    &text[start..end]
 }
 
 // (vattr NAME TYPE), (eattr NAME TYPE)
@@ -68,7 +59,7 @@ pub fn add_attr(
 {
     let tables = owners::tables(counts, owner);
     let count = tables.declared;
-    if names::find_attr(text, words, counts, owner, named(text, name)) < count {
+    if names::find_attr(text, words, counts, owner, parts::part_of(text, name)) < count {
         return LineStep::Fault(SECOND_TIME);
     }
     if MAX_DECLARED <= count {
@@ -84,7 +75,7 @@ pub fn add_label(text: &[u8], words: &mut [u32], counts: BookCounts, name: Part)
         (stepOf rule (bookAt (now (text .entry)) (now (words .entry)) counts) (label (nameAt (now (text .entry)) name)))) ⌝ }
 {
     let count = counts.labels;
-    if names::find_label(text, words, counts, named(text, name)) < count {
+    if names::find_label(text, words, counts, parts::part_of(text, name)) < count {
         return LineStep::Fault(SECOND_TIME);
     }
     if MAX_DECLARED <= count {
@@ -138,7 +129,7 @@ pub fn add_node(
         (stepOf rule (bookAt (now (text .entry)) (now (words .entry)) counts) (node (nameAt (now (text .entry)) name) es))) ⌝ }
 {
     let count = counts.nodes;
-    let there = names::find_alike(text, words, counts, rule, named(text, name)) < count;
+    let there = names::find_alike(text, words, counts, rule, parts::part_of(text, name)) < count;
     let full = is_full(count, MAX_NODES, counts.entries, read.count);
     let fault = owner_fault(there, read.fault, full);
     if fault != 0 {
@@ -166,15 +157,15 @@ pub fn add_relationship(
         (stepOf rule (bookAt (now (text .entry)) (now (words .entry)) counts)
         (rel (nameAt (now (text .entry)) label) (nameAt (now (text .entry)) from) (nameAt (now (text .entry)) to) es))) ⌝ }
 {
-    let l = names::find_label(text, words, counts, named(text, label));
+    let l = names::find_label(text, words, counts, parts::part_of(text, label));
     if counts.labels <= l {
         return LineStep::Fault(NOT_DECLARED);
     }
-    let x = names::find_node(text, words, counts, named(text, from));
+    let x = names::find_node(text, words, counts, parts::part_of(text, from));
     if counts.nodes <= x {
         return LineStep::Fault(NOT_DECLARED);
     }
-    let y = names::find_node(text, words, counts, named(text, to));
+    let y = names::find_node(text, words, counts, parts::part_of(text, to));
     if counts.nodes <= y {
         return LineStep::Fault(NOT_DECLARED);
     }

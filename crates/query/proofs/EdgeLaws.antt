@@ -17,6 +17,8 @@ use Rattle.model.specs.Pattern.{Edge, edgeOf}
 use Rattle.model.specs.Answers.{nameAt, edgeIn}
 use Rattle.model.specs.Places.{edgePart, edgeParts}
 use Rattle.model.specs.PlainData.{noEdge}
+use Rattle.model.specs.Graph.{Each}
+use Rattle.text.specs.Parts.{HasPart}
 use Rattle.model.specs.WholeAnswers.{firstPart, edgeData, edgesData}
 use Rattle.model.specs.declared.Part.{Part}
 use Rattle.model.specs.declared.Edge.{Edge as EdgeData}
@@ -25,7 +27,7 @@ use Rattle.model.proofs.Places.{at-place, getD-in, getD-map, map-to}
 use Rattle.query_pieces.specs.Walk.{mayStand, Ordered}
 use Rattle.query_pieces.specs.Named.{vertexIn, verticesIn, linksFrom}
 use Rattle.query_pieces.specs.Faults.{someWhere, undeclaredAt}
-use Rattle.query_pieces.specs.Steps.{pieceOf, pieceStanding, walkAt, StepAt}
+use Rattle.query_pieces.specs.Steps.{pieceOf, pieceStanding, walkAt, standingsAt, StepAt}
 use Rattle.query_pieces.specs.declared.Place.{Place}
 use Rattle.query_pieces.specs.declared.Link.{Link}
 use Rattle.query_pieces.specs.declared.Step.{Step}
@@ -40,9 +42,9 @@ use Rattle.book_tables.specs.declared.BookCounts.{BookCounts}
 use Rattle.book_tables.proofs.NameLaws.{length-names}
 use Rattle.query.specs.declared.vertices.Vertices.{Vertices}
 use Rattle.query.specs.declared.edges.Edges.{Edges}
-use Rattle.query.specs.Edges.{edgeNamesOf, noEdges, edgeMade}
+use Rattle.query.specs.Edges.{edgeNamesOf, EdgesInside, noEdges, edgeMade}
 use Rattle.query.proofs.ArrayLaws.{Blank, room-for, length-taken, taken-more, blank-more, label-declared}
-use Rattle.query.proofs.StandingLaws.{PartsSoFar, parts-start, parts-on, parts-all}
+use Rattle.query.proofs.StandingLaws.{PartsSoFar, parts-start, parts-on, parts-all, each-at, each-of, each-front, edges-end}
 use Rattle.query.proofs.VertexLaws.{vertexNamesIn, Found, found-counted}
 
 -- an edge by its name and its numbers
@@ -108,6 +110,7 @@ pub record EdgesRead (b : Book) (c : BookCounts) (s : Bytes) (vertices : Vertice
   pub each : (i : ℕ) → i < r .count → EdgeStands c vertices (getD (r .edges) i noEdge)
   pub stored : Stored r
   pub parts : walkAt s textStart .whole ≡ true → edgePartsOf r ≡ edgeParts s
+  pub inside : EdgesInside s r
   pub told : edgesData b (edgePartsOf r) (map (edgeOf (vertexNamesIn s)) (linksFrom [] (textPieces s))) ≡ take (r .count) (r .edges)
 
 -- no edge more, or one
@@ -170,6 +173,18 @@ pub record EdgesSoFar (b : Book) (s : Bytes) (vs : List Bytes) (from : Place) (l
   pub stored : Stored edges
   pub rest : numberedOf s edges ++ edgesFrom b vs last (foundAt s from) ≡ map (linkNumbered b vs) (linksFrom [] (textPieces s))
   pub parts : PartsSoFar edgePart s from (edgePartsOf edges)
+
+-- the variable of every edge found so far is a part of the text
+pub edges-inside : {b : Book} {s : Bytes} {vs : List Bytes} {from : Place} {last : ℕ} {edges : Edges} → EdgesSoFar b s vs from last edges → EdgesInside s edges
+unfolding edgeParts
+edges-inside {s = s} {from = from} {edges = edges} so = record {
+  few = so .stored .few;
+  inside = λ i l. subst (λ (x : EdgeData). HasPart s (x .name)) (getD-take (edges .count) (edges .edges) i noEdge l)
+      (each-at (λ (x : EdgeData). HasPart s (x .name)) noEdge (take (edges .count) (edges .edges))
+      (each-of (HasPart s) (λ (x : EdgeData). x .name) (take (edges .count) (edges .edges))
+      (each-front (HasPart s) (edgePartsOf edges) (joined edgePart (standingsAt s from)) (subst (Each (HasPart s)) (sym (so .parts .rest)) (edges-end s)) .0)) i
+      (omega (arith, length-take-le (edges .count) (edges .edges) (omega (arith, so .stored .few, so .stored .room)))));
+}
 
 pub edges-start : (b : Book) (s : Bytes) (vs : List Bytes) (from : Place) (last : ℕ) (edges : Edges) → from ≡ textStart → edges ≡ noEdges
     → EdgesSoFar b s vs from last edges
@@ -269,7 +284,7 @@ edges-data b s vs (e ∷ es) (l ∷ ls) h =
 module _ (book : Bytes) (words : List ℕ) (c : BookCounts) (s : Bytes) (vertices : Vertices) (found : Found s vertices (vertexNamesIn s))
     (declared : someWhere (undeclaredAt (bookAt book words c) (textPieces s)) [] (textPieces s) ≡ false) (edges : Edges) (stored : Stored edges)
     (all-numbered : numberedOf s edges ≡ map (linkNumbered (bookAt book words c) (vertexNamesIn s)) (linksFrom [] (textPieces s)))
-    (parts : walkAt s textStart .whole ≡ true → edgePartsOf edges ≡ edgeParts s) where
+    (parts : walkAt s textStart .whole ≡ true → edgePartsOf edges ≡ edgeParts s) (there : EdgesInside s edges) where
   abbrev b : Book
   b = bookAt book words c
 
@@ -337,5 +352,6 @@ module _ (book : Bytes) (words : List ℕ) (c : BookCounts) (s : Bytes) (vertice
     each = edge-stands;
     stored = stored;
     parts = parts;
+    inside = there;
     told = edges-data b s vs (take (edges .count) (edges .edges)) links all-numbered;
   }

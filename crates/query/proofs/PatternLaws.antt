@@ -1,7 +1,7 @@
 -- The vertices, edges, conditions and returned names of a text without a fault are its pattern.
 use Prim.Native.Nat.{ℕ, _+_, _≤_, _<_}
 use mathlib.Core.Path.{_≡_, sym, ap, ap₂, subst, _∙_}
-use mathlib.Core.List.{List, [], _∷_, map}
+use mathlib.Core.List.{List, [], map}
 use native.Mathlib.Omega.{arith}
 use lib.ListN.{length, take, drop, getD, length-take, length-drop}
 use lib.Seq.{getD-take, length-take-le}
@@ -15,7 +15,6 @@ use Rattle.model.specs.Graph.{Each}
 use Rattle.model.specs.Places.{valuePart, vertexParts, edgeParts, valueParts}
 use Rattle.model.specs.WholeAnswers.{padded, edgesData, clausesData, queryData}
 use Rattle.model.specs.declared.Part.{Part}
-use Rattle.model.specs.declared.Edge.{Edge as EdgeData}
 use Rattle.model.specs.declared.Value.{Value}
 use Rattle.model.specs.declared.Value.the-variants.{Number, Text, Truth}
 use Rattle.model.specs.declared.Condition.{Condition}
@@ -39,25 +38,19 @@ use Rattle.query.specs.declared.vertices.Vertices.{Vertices}
 use Rattle.query.specs.declared.edges.Edges.{Edges}
 use Rattle.query.specs.declared.clauses.Clauses.{Clauses}
 use Rattle.query.specs.declared.returns.Returns.{Returns}
-use Rattle.query.specs.Vertices.{partsOf}
 use Rattle.query.specs.PatternRead.{PatternAsked, PatternRead, patternMade}
 use Rattle.query.proofs.ArrayLaws.{length-taken, blank-padded}
 use Rattle.query.proofs.VertexLaws.{vertexNamesIn, Found, VerticesRead, found-counted}
 use Rattle.query.proofs.EdgeLaws.{EdgesRead}
 use Rattle.query.proofs.ReturnLaws.{ReturnsRead}
 use Rattle.query.proofs.ClauseLaws.{textEdges, textClauses, textLimits, conditionParts, ClausesRead, TextClausesRead, clauses-data}
-use Rattle.query.proofs.StandingLaws.{Inside, Ends, EndsBefore, part-inside, each-at, each-joined, vertices-end, edges-end, values-end}
+use Rattle.query.proofs.StandingLaws.{Inside, EndsBefore, part-inside, each-at, each-joined, values-end}
 use Rattle.query.proofs.ClearLaws.{Clear, clear-pieces, clear-tree, some-return, Short, ShortValue, ShortClause, vertex-short, edge-short, clause-short}
 
 -- f of a counted element is among f of those counted
 taken-in : {A B : Type 0} (f : A → B) (l : List A) (n i : ℕ) (d : A) → n ≤ length l → i < n → f (getD l i d) ∈ map f (take n l)
 taken-in f l n i d h k = subst (λ x. f x ∈ map f (take n l)) (getD-take n l i d k)
     (map-i f (take n l) (getD (take n l) i d) (getD-in (take n l) i d (omega (arith, length-take-le n l h))))
-
--- what holds of f of each element holds so of each
-each-of : {A B : Type 0} (P : B → Type 0) (f : A → B) (l : List A) → Each P (map f l) → Each (λ x. P (f x)) l
-each-of P f [] h = tt
-each-of P f (x ∷ l) h = (h .0, each-of P f l (h .1))
 
 -- a name, a value, a condition fits its words
 module _ (s : Bytes) (base : ℕ) (fit : base + length s ≤ 65536) where
@@ -160,19 +153,10 @@ module _ (book : Bytes) (words : List ℕ) (c : BookCounts) (s : Bytes) (asked :
 
       -- names and text values stand inside the text
       vertex-inside : (i : ℕ) → i < v .count → Inside s (getD (v .parts) i noPart)
-      vertex-inside i l =
-          let in-taken : i < length (partsOf v) = omega (arith, length-take-le (v .count) (v .parts) (omega (arith, found .within, found .size))) in
-          part-inside s (getD (v .parts) i noPart) (subst (Ends s) (getD-take (v .count) (v .parts) i noPart l)
-          (each-at (Ends s) noPart (partsOf v) (subst (Each (Ends s)) (sym (vertices .parts (clear .whole))) (vertices-end s)) i in-taken))
+      vertex-inside i l = part-inside s (getD (v .parts) i noPart) (vertices .inside .inside i l)
 
       edge-inside : (i : ℕ) → i < e .count → Inside s (getD (e .edges) i noEdge .name)
-      edge-inside i l =
-          let in-taken : i < length (take (e .count) (e .edges)) = omega
-          (arith, length-take-le (e .count) (e .edges) (omega (arith, links .few, links .stored .room))) in
-          let ends = each-of (Ends s) (λ (x : EdgeData). x .name) (take (e .count) (e .edges))
-          (subst (Each (Ends s)) (sym (links .parts (clear .whole))) (edges-end s)) in
-          part-inside s (getD (e .edges) i noEdge .name) (subst (λ (x : EdgeData). Ends s (x .name)) (getD-take (e .count) (e .edges) i noEdge l)
-          (each-at (λ (x : EdgeData). Ends s (x .name)) noEdge (take (e .count) (e .edges)) ends i in-taken))
+      edge-inside i l = part-inside s (getD (e .edges) i noEdge .name) (links .inside .inside i l)
 
       clause-ends : (i : ℕ) → i < k .count → Each (EndsBefore s) (conditionParts (getD (k .clauses) i noClause .condition))
       clause-ends i l =

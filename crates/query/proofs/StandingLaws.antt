@@ -1,5 +1,5 @@
 -- Laws of what stands in a text from a place on: it is of the next piece and of what follows it, and all of it lies within the text.
-use Prim.Native.Nat.{ℕ, zero, suc, _+_, _-_, _<_, _≤_}
+use Prim.Native.Nat.{ℕ, zero, suc, _+_, _-_, _<_}
 use mathlib.Core.Path.{_≡_, refl, sym, ap, subst, _∙_}
 use mathlib.Core.List.{List, [], _∷_, _++_, map, append-assoc, append-nil}
 use mathlib.Core.Bool.{Bool, true, false}
@@ -17,6 +17,7 @@ use Rattle.model.specs.Answers.{nameAt, partOf}
 use Rattle.model.specs.Places.{placed, none, Standing, vertex, edge, value, standings, standingIn, vertexPart, edgePart, valuePart, addPart}
 use Rattle.model.specs.Places.{firstParts, vertexParts, edgeParts, valueParts}
 use Rattle.model.specs.declared.Part.{Part}
+use Rattle.text.specs.Parts.{HasPart}
 use Rattle.model.proofs.Standings.{none-placed, EndsBy, standings-end}
 use Rattle.query_signs.specs.Reads.{signsFrom}
 use Rattle.query_pieces.specs.Walk.{Walk, stopped, ahead, orStopped, walk}
@@ -31,7 +32,7 @@ use Rattle.query_faults.proofs.ScanLaws.{step-whole, step-none}
 
 -- a part ends within its text, and is as long as the name that stands there
 pub record Inside (s : Bytes) (p : Part) : Type 0 where
-  pub ends : p .start + p .length ≤ length s
+  pub ends : HasPart s p
   pub long : p .length ≡ length (nameAt s p)
 
 -- a whole text without pieces more has no signs more
@@ -89,7 +90,7 @@ module _ (f : Standing → List Part) (s : Bytes) (from : Place) where
     parts-all w e k = sym (append-nil parts) ∙ ap (λ l. parts ++ l) (sym (parts-none s from r h f w e (sym (so .whole) ∙ k))) ∙ so .rest
 
 -- a part that ends within its text is inside it
-pub part-inside : (s : Bytes) (p : Part) → p .start + p .length ≤ length s → Inside s p
+pub part-inside : (s : Bytes) (p : Part) → HasPart s p → Inside s p
 unfolding nameAt partOf
 part-inside s p h = record { ends = h; long = let d = length-drop (p .start) s in let t = length-take (p .length) (drop (p .start) s) in omega arith }
 
@@ -99,11 +100,16 @@ each-at P d [] h i k = absurd (omega arith)
 each-at P d (x ∷ l) h zero k = h .0
 each-at P d (x ∷ l) h (suc i) k = each-at P d l (h .1) i (omega arith)
 
+-- what holds of f of each element holds so of each
+pub each-of : {A B : Type 0} (P : B → Type 0) (f : A → B) (l : List A) → Each P (map f l) → Each (λ x. P (f x)) l
+each-of P f [] h = tt
+each-of P f (x ∷ l) h = (h .0, each-of P f l (h .1))
+
 each-append : {A : Type 0} (P : A → Type 0) (xs ys : List A) → Each P xs → Each P ys → Each P (xs ++ ys)
 each-append P [] ys h g = g
 each-append P (x ∷ xs) ys h g = (h .0, each-append P xs ys (h .1) g)
 
-each-front : {A : Type 0} (P : A → Type 0) (xs ys : List A) → Each P (xs ++ ys) → Each P xs × Each P ys
+pub each-front : {A : Type 0} (P : A → Type 0) (xs ys : List A) → Each P (xs ++ ys) → Each P xs × Each P ys
 each-front P [] ys h = (tt, h)
 each-front P (x ∷ xs) ys h = let r = each-front P xs ys (h .1) in ((h .0, r .0), r .1)
 
@@ -127,10 +133,16 @@ each-first P s seen (p ∷ ps) h g = each-first P s (addPart s seen p) ps (go (m
     go true = h
     go false = each-append P seen (p ∷ []) h (g .0, tt)
 
--- all parts of a text end within it; behind a text value stands its apostrophe
-abbrev pub Ends : Bytes → Part → Type 0
-Ends s p = p .start + p .length ≤ length s
+pub each-seen : (P : Part → Type 0) (s : Bytes) (seen ps : List Part) → Each P (firstParts s seen ps) → Each P seen
+unfolding firstParts addPart
+each-seen P s seen [] h = h
+each-seen P s seen (p ∷ ps) h = go (mem (nameAt s p) (map (nameAt s) seen)) (each-seen P s (addPart s seen p) ps h)
+  where
+    go : (t : Bool) → Each P (pick t seen (seen ++ (p ∷ []))) → Each P seen
+    go true h = h
+    go false h = each-front P seen (p ∷ []) h .0
 
+-- all parts of a text end within it; behind a text value stands its apostrophe
 abbrev pub EndsBefore : Bytes → Part → Type 0
 EndsBefore s p = p .start + p .length < length s
 
@@ -140,20 +152,21 @@ module _ (s : Bytes) where
   all-end = let e : 0 + length s ≡ length s = omega arith in
       subst (λ n. Each (EndsBy n) (standings none (placed false false 0 0 s))) e (standings-end false false 0 0 s none)
 
-  pub vertices-end : Each (Ends s) (vertexParts s)
+  pub vertices-end : Each (HasPart s) (vertexParts s)
   unfolding vertexParts vertexPart
-  vertices-end = each-first (Ends s) s [] (joined vertexPart (standingIn s)) tt (each-part (EndsBy (length s)) (Ends s) vertexPart one (standingIn s) all-end)
+  vertices-end = each-first (HasPart s) s [] (joined vertexPart (standingIn s)) tt
+      (each-part (EndsBy (length s)) (HasPart s) vertexPart one (standingIn s) all-end)
     where
-      one : (x : Standing) → EndsBy (length s) x → Each (Ends s) (vertexPart x)
+      one : (x : Standing) → EndsBy (length s) x → Each (HasPart s) (vertexPart x)
       one (vertex p) h = (h, tt)
       one (edge p) h = tt
       one (value p) h = tt
 
-  pub edges-end : Each (Ends s) (edgeParts s)
+  pub edges-end : Each (HasPart s) (edgeParts s)
   unfolding edgeParts edgePart
-  edges-end = each-part (EndsBy (length s)) (Ends s) edgePart one (standingIn s) all-end
+  edges-end = each-part (EndsBy (length s)) (HasPart s) edgePart one (standingIn s) all-end
     where
-      one : (x : Standing) → EndsBy (length s) x → Each (Ends s) (edgePart x)
+      one : (x : Standing) → EndsBy (length s) x → Each (HasPart s) (edgePart x)
       one (vertex p) h = tt
       one (edge p) h = (h, tt)
       one (value p) h = tt

@@ -6,7 +6,7 @@ use mathlib.Core.Bool.{Bool, true, false, _||_}
 use native.Mathlib.Omega.{arith}
 use native.Mathlib.Numerals.{add-one}
 use lib.ListN.{length, take, getD, set, length-append, length-set}
-use lib.Seq.{take-suc-set}
+use lib.Seq.{take-suc-set, getD-take, length-take-le}
 use borrow.Author.Tests.{lt-ltb, le-ltb}
 use Rattle.logic.specs.Tests.{either, below-or-not}
 use Rattle.model.specs.Bytes.{Bytes, same}
@@ -16,6 +16,8 @@ use Rattle.model.specs.Names.{mem, place, addNew, firsts}
 use Rattle.model.specs.Answers.{nameAt}
 use Rattle.model.specs.Places.{vertexPart, addPart, firstParts, vertexParts}
 use Rattle.model.specs.PlainData.{noPart}
+use Rattle.model.specs.Graph.{Each}
+use Rattle.text.specs.Parts.{HasPart}
 use Rattle.model.specs.declared.Part.{Part}
 use Rattle.model.proofs.FirstNames.{firsts-append, firsts-grow}
 use Rattle.query_pieces.specs.Named.{vertexIn, verticesIn}
@@ -30,9 +32,9 @@ use Rattle.book_tables.specs.Listed.{listed}
 use Rattle.book_tables.proofs.ListedLaws.{scan-none, scan-on, scan-place, scan-absent, place-end, place-none}
 use Rattle.book_tables.proofs.NameLaws.{equal-same, mem-place}
 use Rattle.query.specs.declared.vertices.Vertices.{Vertices}
-use Rattle.query.specs.Vertices.{partsOf, namesOf, noVertices, Placed}
+use Rattle.query.specs.Vertices.{partsOf, namesOf, VerticesInside, noVertices, Placed}
 use Rattle.query.proofs.ArrayLaws.{Blank, taken-listed, length-taken, taken-more, blank-more}
-use Rattle.query.proofs.StandingLaws.{text-standing, parts-found, parts-none}
+use Rattle.query.proofs.StandingLaws.{text-standing, parts-found, parts-none, each-at, each-seen, vertices-end as all-inside}
 
 -- the names of the vertices of a text by first appearance
 abbrev pub vertexNamesIn : Bytes → List Bytes
@@ -54,6 +56,7 @@ pub record MoreVertices (s : Bytes) (old : Vertices) (more : List Part) (names :
 pub record VerticesRead (s : Bytes) (v : Vertices) : Type 0 where
   pub found : Found s v (vertexNamesIn s)
   pub parts : walkAt s textStart .whole ≡ true → partsOf v ≡ vertexParts s
+  pub inside : VerticesInside s v
 
 -- a name looked for among the first elements of an array: none of the first k has it
 abbrev pub NoneNamed : {A : Type 0} → (A → Bytes) → A → List A → Bytes → ℕ → Type 0
@@ -214,6 +217,16 @@ vertices-start s from v e f = subst (λ (p : Place). VerticesSoFar s p v) (sym e
       whole = refl;
     }
 
+-- every vertex found so far is a part of the text
+pub vertices-inside : (s : Bytes) (from : Place) (v : Vertices) → VerticesSoFar s from v → VerticesInside s v
+vertices-inside s from v so = record {
+  few = so .stored .within;
+  inside = λ i l. subst (HasPart s) (getD-take (v .count) (v .parts) i noPart l)
+      (each-at (HasPart s) noPart (partsOf v)
+      (each-seen (HasPart s) s (partsOf v) (joined vertexPart (standingsAt s from)) (subst (Each (HasPart s)) (sym (so .parts)) (all-inside s))) i
+      (omega (arith, length-take-le (v .count) (v .parts) (omega (arith, so .stored .within, so .stored .size)))));
+}
+
 firstParts-append : (s : Bytes) (seen a b : List Part) → firstParts s seen (a ++ b) ≡ firstParts s (firstParts s seen a) b
 unfolding firstParts
 firstParts-append s seen [] b = refl
@@ -255,4 +268,5 @@ module _ (s : Bytes) (from : Place) (v : Vertices) (so : VerticesSoFar s from v)
       blank = so .stored .blank;
     };
     parts = λ k. sym (ap (firstParts s (partsOf v)) (parts-none s from r h vertexPart w e (sym (so .whole) ∙ k))) ∙ so .parts;
+    inside = vertices-inside s from v so;
   }

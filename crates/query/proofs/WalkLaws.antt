@@ -26,7 +26,7 @@ use Rattle.book_tables.specs.View.{bookAt}
 use Rattle.book_tables.specs.declared.BookCounts.{BookCounts}
 use Rattle.query_pieces.specs.Walk.{Ordered}
 use Rattle.query_pieces.specs.Named.{vertexIn, edgeIn, returnIn, conditionIn, verticesIn}
-use Rattle.query_pieces.specs.Steps.{pieceOf, pieceStanding, walkAt, spotOf, chainAt, StepAt}
+use Rattle.query_pieces.specs.Steps.{pieceOf, pieceStanding, walkAt, spotOf, chainAt, PieceInside, StepInside, StepAt}
 use Rattle.query_pieces.specs.declared.Place.{Place}
 use Rattle.query_pieces.specs.declared.Link.{Link}
 use Rattle.query_pieces.specs.declared.Demand.{Demand}
@@ -53,7 +53,7 @@ use Rattle.query.specs.PatternRead.{PatternAsked, PatternRead, patternMa
 use Rattle.query.proofs.VertexLaws.{vertexNamesIn, MoreVertices, number-later, number-room, vertices-same, vertex-placed, VerticesSoFar}
 use Rattle.query.proofs.VertexLaws.{vertices-start, vertices-ahead, vertices-room, vertices-on, vertices-end}
 use Rattle.query.proofs.EdgeLaws.{numberAfter, edgesBetween, MoreEdges, edges-same, link-more, EdgesSoFar, edges-start, edges-room, edges-on}
-use Rattle.query.proofs.EdgeLaws.{edges-all, edge-parts-all, edges-are}
+use Rattle.query.proofs.EdgeLaws.{edges-all, edge-parts-all, edges-inside, edges-are}
 use Rattle.query.proofs.ReturnLaws.{numbersOf, MoreReturns, returns-same, return-more, ReturnsSoFar, returns-start, returns-room, returns-on}
 use Rattle.query.proofs.ReturnLaws.{returns-all, returns-are}
 use Rattle.query.proofs.ClauseLaws.{textEdges, textLimits, MoreClauses, count-vattrs, count-eattrs, excluded-read, demand-read, same-exclusion}
@@ -71,6 +71,11 @@ pub record PatternSoFar (book : Bytes) (words : List ℕ) (c : BookCounts) (s : 
   pub clauses : ClausesSoFar (bookAt book words c) (textLimits c s) s (vertexNamesIn s) (textEdges s) from k
   pub returns : ReturnsSoFar s (vertexNamesIn s) from r
   pub scoped : ScopedFrom (bookAt book words c) (vertexNamesIn s) (textEdges s) (namesOf s v) (edgeNamesOf s e) (foundAt s from)
+
+-- the piece that is read lies inside the text
+pub here-inside : {s : Bytes} {from : Place} {p : PieceRead} → StepAt s from p → {x : Step} → p ≡ read.Found x → {q : PieceData} → x .piece ≡ q
+    → PieceInside s q
+here-inside {s} step f g = subst (PieceInside s) g (subst (StepInside s) f (step .inside))
 
 -- a value holds no variable
 no-variable : (v : Value) → (joined vertexPart (valueStanding v) ≡ []) × (joined edgePart (valueStanding v) ≡ [])
@@ -126,7 +131,7 @@ module _ {book : Bytes} {words : List ℕ} {c : BookCounts} {s : Bytes} {from : 
       let found = vertices-end s from v (so .vertices) p step w f in
       pattern-read book words c s (so .asked) v found e k r
       (edges-are book words c s v (found .found) (clear .declared) e (so .edges .stored) (edges-all b s vs from last e (so .edges) p step w f)
-      (edge-parts-all b s vs from last e (so .edges) p step w f))
+      (edge-parts-all b s vs from last e (so .edges) p step w f) (edges-inside (so .edges)))
       (record { read = clauses-all b m s vs es from k (so .clauses) p step w f; parts = value-parts-all b m s vs es from k (so .clauses) p step w f })
       (returns-are b s v (found .found) (clear .declared) r (so .returns .listed) (returns-all s vs from r (so .returns) p step w f))
 

@@ -2,11 +2,12 @@
 use Prim.Native.Nat.{ℕ, _+_, _<_, _≤_}
 use mathlib.Core.Path.{_≡_}
 use mathlib.Core.List.{List, map}
-use lib.ListN.{take, set, replicate}
+use lib.ListN.{take, getD, set, replicate}
 use Rattle.model.specs.Bytes.{Bytes}
 use Rattle.model.specs.Answers.{nameAt}
 use Rattle.model.specs.declared.Part.{Part}
 use Rattle.model.specs.PlainData.{noPart}
+use Rattle.text.specs.Parts.{HasPart}
 use Rattle.query.specs.declared.vertices.Vertices.{Vertices}
 
 -- the parts of the vertices found, and the names that stand there
@@ -15,6 +16,11 @@ partsOf v = take (v .count) (v .parts)
 
 abbrev pub namesOf : Bytes → Vertices → List Bytes
 namesOf s v = map (nameAt s) (partsOf v)
+
+-- the vertices found are few enough, each a part of the text
+pub record VerticesInside (s : Bytes) (v : Vertices) : Type 0 where
+  pub few : v .count ≤ 8
+  pub inside : (i : ℕ) → i < v .count → HasPart s (getD (v .parts) i noPart)
 
 -- no vertex
 abbrev pub noVertices : Vertices

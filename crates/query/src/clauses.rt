@@ -1,6 +1,5 @@
 // The conditions of a text by number: exclusions, and requirements of vertices and of edges.
 ghost use mathlib.Core.Path.{_≡_};
-ghost use Prim.Native.Nat.{_≤_};
 ghost use Rattle.model.specs.Names.{place};
 ghost use Rattle.model.specs.Book.{attrNames};
 ghost use Rattle.model.specs.Answers.{nameAt};
@@ -8,8 +7,10 @@ ghost use Rattle.model.specs.declared.Condition.the-variants.{Excluded};
 ghost use Rattle.book_tables.specs.View.{bookAt};
 ghost use Rattle.book_tables.specs.Fits.{Fits};
 ghost use Rattle.book_tables.specs.Owners.{attrsOf};
-ghost use Rattle.query.specs.Vertices.{namesOf};
-ghost use Rattle.query.specs.Edges.{edgeNamesOf};
+ghost use Rattle.text.specs.Parts.{HasPart};
+ghost use Rattle.query_pieces.specs.Steps.{DemandInside};
+ghost use Rattle.query.specs.Vertices.{namesOf, VerticesInside};
+ghost use Rattle.query.specs.Edges.{edgeNamesOf, EdgesInside};
 ghost use Rattle.query.specs.Clauses.{requirementIn, demandIn, noClauses};
 use crate::edges;
 use crate::edges::Edges;
@@ -24,7 +25,7 @@ use model::Part;
 use model::Requirement;
 use model::limits::MAX_CONDITIONS;
 use query_pieces::Demand;
-use query_signs::expected;
+use text::parts;
 
 // The conditions found so far, in the order of the text.
 pub struct Clauses {
@@ -51,13 +52,11 @@ fn requirement_of(
     s: &[u8],
     d: Demand,
 ) -> Requirement
-    requires { ⌜ Fits (now book) (now words) counts ⌝ }
+    requires { ⌜ Fits (now book) (now words) counts × HasPart (now s) (d .attribute) ⌝ }
     ensures { λ r. ⌜ r ≡ requirementIn (attrNames (attrsOf owner (bookAt (now (book .entry)) (now (words .entry)) counts))) (now (s .entry)) d ⌝ }
 {
     let a = d.attribute;
-    let start = a.start;
-    let length = a.length;
-    let attribute = names::find_attr(book, words, counts, owner, expected::part(s, start, length));
+    let attribute = names::find_attr(book, words, counts, owner, parts::part_of(s, a));
     let relation = d.relation;
     let value = d.value;
     Requirement {
@@ -77,7 +76,7 @@ pub fn requirement(
     links: Edges,
     d: Demand,
 ) -> Condition
-    requires { ⌜ Fits (now book) (now words) counts × (found .count ≤ 8) × (links .count ≤ 16) ⌝ }
+    requires { ⌜ Fits (now book) (now words) counts × VerticesInside (now s) found × EdgesInside (now s) links × DemandInside (now s) d ⌝ }
     ensures { λ r. ⌜ r ≡ demandIn (bookAt (now (book .entry)) (now (words .entry)) counts) (now (s .entry))
         (namesOf (now (s .entry)) found) (edgeNamesOf (now (s .entry)) links) d ⌝ }
 {
@@ -94,7 +93,7 @@ pub fn requirement(
 
 // An exclusion: two vertices that differ.
 pub fn exclusion(s: &[u8], found: Vertices, v: Part, u: Part) -> Condition
-    requires { ⌜ found .count ≤ 8 ⌝ }
+    requires { ⌜ VerticesInside (now s) found × HasPart (now s) v × HasPart (now s) u ⌝ }
     ensures { λ r. ⌜ r ≡ Excluded (place (nameAt (now (s .entry)) v) (namesOf (now (s .entry)) found))
         (place (nameAt (now (s .entry)) u) (namesOf (now (s .entry)) found)) ⌝ }
 {

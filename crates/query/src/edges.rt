@@ -1,11 +1,11 @@
 // The edges of a text in its order, labels by their numbers in the book, ends by their numbers among the vertices.
 ghost use mathlib.Core.Path.{_≡_};
-ghost use Prim.Native.Nat.{_≤_};
 ghost use Rattle.model.specs.Names.{place};
 ghost use Rattle.model.specs.Answers.{nameAt};
 ghost use Rattle.book_tables.specs.View.{bookAt};
 ghost use Rattle.book_tables.specs.Fits.{Fits};
-ghost use Rattle.query.specs.Edges.{edgeNamesOf, noEdges, edgeMade};
+ghost use Rattle.text.specs.Parts.{HasPart};
+ghost use Rattle.query.specs.Edges.{edgeNamesOf, EdgesInside, noEdges, edgeMade};
 use book_tables::BookCounts;
 use book_tables::names;
 use model::Edge;
@@ -13,7 +13,7 @@ use model::Part;
 use model::limits::MAX_EDGES;
 use query_faults::scan;
 use query_pieces::Link;
-use query_signs::expected;
+use text::parts;
 
 // The edges found so far, in the order of the text.
 pub struct Edges {
@@ -41,7 +41,7 @@ pub fn no_edges() -> Edges
 
 // The number of an edge variable among those found; how many there are where it is none of them.
 pub fn edge_number(s: &[u8], links: Edges, name: Part) -> usize
-    requires { ⌜ links .count ≤ 16 ⌝ }
+    requires { ⌜ EdgesInside (now s) links × HasPart (now s) name ⌝ }
     ensures { λ r. ⌜ r ≡ place (nameAt (now (s .entry)) name) (edgeNamesOf (now (s .entry)) links) ⌝ }
 {
     let n = links.count;
@@ -67,13 +67,11 @@ pub fn edge_of(
     from: usize,
     to: usize,
 ) -> Edge
-    requires { ⌜ Fits (now book) (now words) counts ⌝ }
+    requires { ⌜ Fits (now book) (now words) counts × HasPart (now s) (link .label) ⌝ }
     ensures { λ r. ⌜ r ≡ edgeMade (bookAt (now (book .entry)) (now (words .entry)) counts) (now (s .entry)) link from to ⌝ }
 {
     let word = link.label;
-    let start = word.start;
-    let length = word.length;
-    let label = names::find_label(book, words, counts, expected::part(s, start, length));
+    let label = names::find_label(book, words, counts, parts::part_of(s, word));
     let name = link.edge;
     Edge {
         name,

@@ -1,9 +1,10 @@
 // The vertices of a text by first appearance.
 ghost use mathlib.Core.Path.{_≡_};
-ghost use Prim.Native.Nat.{_<_, _≤_};
+ghost use Prim.Native.Nat.{_<_};
 ghost use Rattle.model.specs.Names.{place};
 ghost use Rattle.model.specs.Answers.{nameAt};
-ghost use Rattle.query.specs.Vertices.{namesOf, noVertices, Placed};
+ghost use Rattle.text.specs.Parts.{HasPart};
+ghost use Rattle.query.specs.Vertices.{namesOf, VerticesInside, noVertices, Placed};
 use model::Part;
 use model::limits::MAX_VERTICES;
 use query_faults::scan;
@@ -28,7 +29,7 @@ pub fn no_vertices() -> Vertices
 
 // The number of a vertex among those found; how many there are where it is none of them.
 pub fn vertex_number(s: &[u8], vertices: Vertices, name: Part) -> usize
-    requires { ⌜ vertices .count ≤ 8 ⌝ }
+    requires { ⌜ VerticesInside (now s) vertices × HasPart (now s) name ⌝ }
     ensures { λ r. ⌜ r ≡ place (nameAt (now (s .entry)) name) (namesOf (now (s .entry)) vertices) ⌝ }
 {
     let n = vertices.count;

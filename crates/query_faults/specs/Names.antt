@@ -1,10 +1,12 @@
 -- The names of each kind in the pieces of a text.
 use mathlib.Core.List.{List, [], _∷_}
-use mathlib.Core.Bool.{false}
+use mathlib.Core.Bool.{true, false}
+use lib.Dec.{T}
 use Rattle.model.specs.Bytes.{Bytes}
 use Rattle.model.specs.Lists.{joined}
 use Rattle.model.specs.Grammar.{Piece}
 use Rattle.model.specs.Answers.{nameAt}
+use Rattle.text.specs.Parts.{HasPart}
 use Rattle.query_pieces.specs.Named.{vertexIn, edgeIn, returnIn}
 use Rattle.query_pieces.specs.Steps.{walkAt}
 use Rattle.query_pieces.specs.declared.Place.{Place}
@@ -31,6 +33,11 @@ namesIn w ps = joined (nameIn w) ps
 unfoldable pub asList : Bytes → NameOf → List Bytes
 asList s (Is p) = nameAt s p ∷ []
 asList s None = []
+
+-- it lies inside the text
+abbrev pub OfInside : Bytes → NameOf → Type 0
+OfInside s (Is p) = HasPart s p
+OfInside s None = T true
 
 -- the place at which a text begins
 abbrev pub textStart : Place

@@ -9,7 +9,9 @@ ghost use Rattle.model.specs.QueryText.{differ, demand};
 ghost use Rattle.model.specs.Grammar.{asks, returns};
 ghost use Rattle.book_tables.specs.View.{bookAt};
 ghost use Rattle.book_tables.specs.Fits.{Fits};
+ghost use Rattle.text.specs.Parts.{HasPart};
 ghost use Rattle.names_met.specs.Table.{Holds};
+ghost use Rattle.query_pieces.specs.Steps.{DemandInside};
 ghost use Rattle.query_faults.specs.Names.{Pieces, namesIn, textPieces};
 ghost use Rattle.query_faults.specs.declared.Which.the-variants.{Vertex, Returned};
 ghost use Rattle.query_faults.specs.Known.{Known};
@@ -28,7 +30,7 @@ use query_pieces::Demand;
 
 // Whether one of two names stands as a vertex in none of the i pieces before.
 fn is_unknown_pair(s: &[u8], table: &[u32], n: usize, i: usize, v: Part, u: Part) -> bool
-    requires { ⌜ Holds (now s) (now table) n (namesIn Vertex (take i (textPieces (now s)))) ⌝ }
+    requires { ⌜ Holds (now s) (now table) n (namesIn Vertex (take i (textPieces (now s)))) × HasPart (now s) v × HasPart (now s) u ⌝ }
     ensures { λ r. ⌜ r ≡ not (mem (nameAt (now (s .entry)) v) (namesIn Vertex (take i (textPieces (now (s .entry)))))
         && mem (nameAt (now (s .entry)) u) (namesIn Vertex (take i (textPieces (now (s .entry)))))) ⌝ }
 {
@@ -49,7 +51,7 @@ pub fn differ_seen(
     v: Part,
     u: Part,
 ) -> Survey
-    requires { ⌜ Known (now s) (now vertices) (now edges) met (take i (textPieces (now s))) ⌝ }
+    requires { ⌜ Known (now s) (now vertices) (now edges) met (take i (textPieces (now s))) × HasPart (now s) v × HasPart (now s) u ⌝ }
     ensures { λ r. ⌜ ((b : Book) (rest : Pieces)
         → r ≡ surveyed b (take i (textPieces (now (s .entry)))) t (asks (differ (nameAt (now (s .entry)) v) (nameAt (now (s .entry)) u))) rest) ⌝ }
 {
@@ -79,7 +81,8 @@ pub fn demand_seen(
     t: Survey,
     d: Demand,
 ) -> Survey
-    requires { ⌜ Fits (now book) (now words) counts × Known (now s) (now vertices) (now edges) met (take i (textPieces (now s))) ⌝ }
+    requires { ⌜ Fits (now book) (now words) counts × Known (now s) (now vertices) (now edges) met (take i (textPieces (now s)))
+        × DemandInside (now s) d ⌝ }
     ensures { λ r. ⌜ ((rest : Pieces) → r ≡ surveyed (bookAt (now (book .entry)) (now (words .entry)) counts) (take i (textPieces (now (s .entry)))) t
         (asks (demand (nameAt (now (s .entry)) (d .subject)) (nameAt (now (s .entry)) (d .attribute)) (relationOf (d .relation))
         (valueOf (now (s .entry)) (d .value)))) rest) ⌝ }
@@ -126,7 +129,7 @@ pub fn return_seen(
     v: Part,
 ) -> Survey
     requires { ⌜ Holds (now s) (now vertices) (met .vertices) (namesIn Vertex (take i (textPieces (now s))))
-        × Holds (now s) (now returned) (met .returned) (namesIn Returned (take i (textPieces (now s)))) ⌝ }
+        × Holds (now s) (now returned) (met .returned) (namesIn Returned (take i (textPieces (now s)))) × HasPart (now s) v ⌝ }
     ensures { λ r. ⌜ ((b : Book) (rest : Pieces) → r ≡ surveyed b (take i (textPieces (now (s .entry)))) t (returns (nameAt (now (s .entry)) v)) rest) ⌝ }
 {
     let n = met.vertices;

@@ -6,6 +6,7 @@ ghost use Rattle.model.specs.Book.{attrNames};
 ghost use Rattle.model.specs.Values.{strs};
 ghost use Rattle.model.specs.ReadQuery.{hasRelation, typed};
 ghost use Rattle.model.specs.Answers.{nameAt, relationOf, valueOf};
+ghost use Rattle.text.specs.Parts.{HasPart};
 ghost use Rattle.book_tables.specs.View.{bookAt, kindIn};
 ghost use Rattle.book_tables.specs.Fits.{Fits};
 ghost use Rattle.book_tables.specs.Owners.{attrsOf};
@@ -20,16 +21,14 @@ use model::Part;
 use model::Relation;
 use model::Value;
 use model::limits::MAX_DECLARED;
-use query_signs::expected;
+use text::parts;
 
 // Whether a label is declared.
 pub fn label_known(book: &[u8], words: &[u32], counts: BookCounts, s: &[u8], name: Part) -> bool
-    requires { ⌜ Fits (now book) (now words) counts ⌝ }
+    requires { ⌜ Fits (now book) (now words) counts × HasPart (now s) name ⌝ }
     ensures { λ r. ⌜ r ≡ mem (nameAt (now (s .entry)) name) (bookAt (now (book .entry)) (now (words .entry)) counts .labels) ⌝ }
 {
-    let start = name.start;
-    let length = name.length;
-    let k = names::find_label(book, words, counts, expected::part(s, start, length));
+    let k = names::find_label(book, words, counts, parts::part_of(s, name));
     k < counts.labels
 }
 
@@ -71,17 +70,15 @@ pub fn attr_seen(
     relation: Relation,
     value: Value,
 ) -> AttrSeen
-    requires { ⌜ Fits (now book) (now words) counts ⌝ }
+    requires { ⌜ Fits (now book) (now words) counts × HasPart (now s) name ⌝ }
     ensures known { λ r. ⌜ r .known ≡ mem (nameAt (now (s .entry)) name)
         (attrNames (attrsOf owner (bookAt (now (book .entry)) (now (words .entry)) counts))) ⌝ }
     ensures typed { λ r. ⌜ r .typed ≡ typed (attrsOf owner (bookAt (now (book .entry)) (now (words .entry)) counts)) (nameAt (now (s .entry)) name)
         (relationOf relation) (valueOf (now (s .entry)) value) ⌝ }
 {
-    let start = name.start;
-    let length = name.length;
     let tables = owners::tables(counts, owner);
     let offset = tables.attributes;
-    let k = names::find_attr(book, words, counts, owner, expected::part(s, start, length));
+    let k = names::find_attr(book, words, counts, owner, parts::part_of(s, name));
     if k < tables.declared {
         let typed = is_suited(words[offset + MAX_DECLARED + k], relation, value);
         return AttrSeen { known: true, typed };

@@ -11,7 +11,9 @@ ghost use Rattle.model.specs.Answers.{nameAt};
 ghost use Rattle.model.specs.Grammar.{start, goes, comes};
 ghost use Rattle.book_tables.specs.View.{bookAt};
 ghost use Rattle.book_tables.specs.Fits.{Fits};
+ghost use Rattle.text.specs.Parts.{HasPart};
 ghost use Rattle.names_met.specs.Table.{Holds};
+ghost use Rattle.query_pieces.specs.Steps.{LinkInside};
 ghost use Rattle.query_faults.specs.Names.{Pieces, namesIn, textPieces};
 ghost use Rattle.query_faults.specs.declared.Which.the-variants.{Vertex, Edge};
 ghost use Rattle.query_faults.specs.Known.{Known};
@@ -29,7 +31,7 @@ use query_pieces::Link;
 
 // What is left of the vertices behind one more: one less if it stands in none of the i pieces before.
 fn vertices_left(s: &[u8], table: &[u32], n: usize, i: usize, name: Part, left: u32) -> u32
-    requires { ⌜ Holds (now s) (now table) n (namesIn Vertex (take i (textPieces (now s)))) ⌝ }
+    requires { ⌜ Holds (now s) (now table) n (namesIn Vertex (take i (textPieces (now s)))) × HasPart (now s) name ⌝ }
     ensures { λ r. ⌜ r ≡ pick (not (mem (nameAt (now (s .entry)) name) (namesIn Vertex (take i (textPieces (now (s .entry))))))) (left - 1) left ⌝ }
 {
     if left == 0 {
@@ -52,7 +54,7 @@ fn link_twice(
     v: Part,
     before: bool,
 ) -> bool
-    requires { ⌜ Known (now s) (now vertices) (now edges) met (take i (textPieces (now s))) ⌝ }
+    requires { ⌜ Known (now s) (now vertices) (now edges) met (take i (textPieces (now s))) × HasPart (now s) e × HasPart (now s) v ⌝ }
     ensures { λ r. ⌜ r ≡ pick (mem (nameAt (now (s .entry)) e) (namesIn Edge (take i (textPieces (now (s .entry)))))
         || mem (nameAt (now (s .entry)) e) (namesIn Vertex (take i (textPieces (now (s .entry)))))
         || mem (nameAt (now (s .entry)) v) (namesIn Edge (take i (textPieces (now (s .entry)))) ++ (nameAt (now (s .entry)) e ∷ []))) true before ⌝ }
@@ -84,7 +86,7 @@ pub fn start_seen(
     t: Survey,
     v: Part,
 ) -> Survey
-    requires { ⌜ Known (now s) (now vertices) (now edges) met (take i (textPieces (now s))) ⌝ }
+    requires { ⌜ Known (now s) (now vertices) (now edges) met (take i (textPieces (now s))) × HasPart (now s) v ⌝ }
     ensures { λ r. ⌜ ((b : Book) (rest : Pieces) → r ≡ surveyed b (take i (textPieces (now (s .entry)))) t (start (nameAt (now (s .entry)) v)) rest) ⌝ }
 {
     let n = met.vertices;
@@ -110,7 +112,8 @@ pub fn link_seen(
     t: Survey,
     l: Link,
 ) -> Survey
-    requires { ⌜ Fits (now book) (now words) counts × Known (now s) (now vertices) (now edges) met (take i (textPieces (now s))) ⌝ }
+    requires { ⌜ Fits (now book) (now words) counts × Known (now s) (now vertices) (now edges) met (take i (textPieces (now s)))
+        × LinkInside (now s) l ⌝ }
     ensures { λ r. ⌜ ((rest : Pieces) → (r ≡ surveyed (bookAt (now (book .entry)) (now (words .entry)) counts) (take i (textPieces (now (s .entry)))) t
         (goes (nameAt (now (s .entry)) (l .edge)) (nameAt (now (s .entry)) (l .label)) (nameAt (now (s .entry)) (l .vertex))) rest)
         × (r ≡ surveyed (bookAt (now (book .entry)) (now (words .entry)) counts) (take i (textPieces (now (s .entry)))) t

@@ -4,9 +4,10 @@ ghost use lib.ListN.{take};
 ghost use Rattle.model.specs.Bytes.{Bytes, same};
 ghost use Rattle.model.specs.Names.{mem};
 ghost use Rattle.model.specs.Answers.{nameAt};
-ghost use Rattle.query_pieces.specs.Steps.{pieceOf};
+ghost use Rattle.text.specs.Parts.{HasPart};
+ghost use Rattle.query_pieces.specs.Steps.{pieceOf, PieceInside};
 ghost use Rattle.query_pieces.specs.Named.{vertexIn, edgeIn, returnIn};
-ghost use Rattle.query_faults.specs.Names.{nameIn, namesIn, asList, foundAt, textStart};
+ghost use Rattle.query_faults.specs.Names.{nameIn, namesIn, asList, OfInside, foundAt, textStart};
 use crate::NameOf;
 use crate::Which;
 use model::Part;
@@ -15,8 +16,8 @@ use query_pieces::PieceRead;
 use query_pieces::Place;
 use query_pieces::Spot;
 use query_pieces::reading;
-use query_signs::expected;
 use text::compare;
+use text::parts;
 
 // The place at which a text begins.
 pub fn text_start() -> Place
@@ -31,7 +32,8 @@ pub fn text_start() -> Place
 
 // The vertex of a piece.
 pub fn vertex_of(p: Piece) -> NameOf
-    ensures { λ r. ⌜ ((s : Bytes) → asList s r ≡ vertexIn (pieceOf s p)) ⌝ }
+    ensures reads { λ r. ⌜ ((s : Bytes) → asList s r ≡ vertexIn (pieceOf s p)) ⌝ }
+    ensures inside { λ r. ⌜ ((s : Bytes) → PieceInside s p → OfInside s r) ⌝ }
 {
     match p {
         Piece::Start(v) => NameOf::Is(v),
@@ -51,7 +53,8 @@ pub fn vertex_of(p: Piece) -> NameOf
 
 // The edge variable of a piece.
 pub fn edge_of(p: Piece) -> NameOf
-    ensures { λ r. ⌜ ((s : Bytes) → asList s r ≡ edgeIn (pieceOf s p)) ⌝ }
+    ensures reads { λ r. ⌜ ((s : Bytes) → asList s r ≡ edgeIn (pieceOf s p)) ⌝ }
+    ensures inside { λ r. ⌜ ((s : Bytes) → PieceInside s p → OfInside s r) ⌝ }
 {
     match p {
         Piece::Start(_) => NameOf::None,
@@ -71,7 +74,8 @@ pub fn edge_of(p: Piece) -> NameOf
 
 // The returned name of a piece.
 pub fn return_of(p: Piece) -> NameOf
-    ensures { λ r. ⌜ ((s : Bytes) → asList s r ≡ returnIn (pieceOf s p)) ⌝ }
+    ensures reads { λ r. ⌜ ((s : Bytes) → asList s r ≡ returnIn (pieceOf s p)) ⌝ }
+    ensures inside { λ r. ⌜ ((s : Bytes) → PieceInside s p → OfInside s r) ⌝ }
 {
     match p {
         Piece::Start(_) => NameOf::None,
@@ -85,7 +89,8 @@ pub fn return_of(p: Piece) -> NameOf
 
 // The name of a kind in a piece.
 pub fn name_of(which: Which, p: Piece) -> NameOf
-    ensures { λ r. ⌜ ((s : Bytes) → asList s r ≡ nameIn which (pieceOf s p)) ⌝ }
+    ensures reads { λ r. ⌜ ((s : Bytes) → asList s r ≡ nameIn which (pieceOf s p)) ⌝ }
+    ensures inside { λ r. ⌜ ((s : Bytes) → PieceInside s p → OfInside s r) ⌝ }
 {
     match which {
         Which::Vertex => vertex_of(p),
@@ -96,20 +101,15 @@ pub fn name_of(which: Which, p: Piece) -> NameOf
 
 // Whether two parts of a text are the same bytes.
 pub fn same_part(s: &[u8], a: Part, b: Part) -> bool
+    requires { ⌜ HasPart (now s) a × HasPart (now s) b ⌝ }
     ensures { λ r. ⌜ r ≡ same (nameAt (now (s .entry)) a) (nameAt (now (s .entry)) b) ⌝ }
 {
-    let from = a.start;
-    let size = a.length;
-    let start = b.start;
-    let length = b.length;
-    compare::same_bytes(
-        expected::part(s, from, size),
-        expected::part(s, start, length),
-    )
+    compare::same_bytes(parts::part_of(s, a), parts::part_of(s, b))
 }
 
 // Whether a piece has this name as its name of a kind.
 pub fn has_name(s: &[u8], which: Which, p: Piece, name: Part) -> bool
+    requires { ⌜ PieceInside (now s) p × HasPart (now s) name ⌝ }
     ensures { λ r. ⌜ r ≡ mem (nameAt (now (s .entry)) name) (nameIn which (pieceOf (now (s .entry)) p)) ⌝ }
 {
     match name_of(which, p) {
@@ -120,6 +120,7 @@ pub fn has_name(s: &[u8], which: Which, p: Piece, name: Part) -> bool
 
 // Whether a name stands as one of a kind among the first pieces from a place on.
 pub fn stands(s: &[u8], from: Place, count: usize, which: Which, name: Part) -> bool
+    requires { ⌜ HasPart (now s) name ⌝ }
     ensures { λ r. ⌜ r ≡ mem (nameAt (now (s .entry)) name) (namesIn which (take count (foundAt (now (s .entry)) from))) ⌝ }
 {
     let mut place = from;

@@ -5,22 +5,21 @@ ghost use lib.ListN.{take};
 ghost use Rattle.model.specs.Choice.{pick};
 ghost use Rattle.model.specs.Names.{mem};
 ghost use Rattle.model.specs.Answers.{nameAt};
+ghost use Rattle.text.specs.Parts.{HasPart};
 ghost use Rattle.names_met.specs.Table.{Holds};
 ghost use Rattle.query_faults.specs.Names.{namesIn, textPieces};
 use crate::Which;
 use crate::scan;
 use model::Part;
-use query_signs::expected;
+use text::parts;
 
 // Whether a name stands as one of a kind in the first i pieces of a text: by the table of that kind, or by the pieces where it is full.
 pub fn stands_before(s: &[u8], table: &[u32], n: usize, i: usize, which: Which, name: Part) -> bool
-    requires { ⌜ Holds (now s) (now table) n (namesIn which (take i (textPieces (now s)))) ⌝ }
+    requires { ⌜ Holds (now s) (now table) n (namesIn which (take i (textPieces (now s)))) × HasPart (now s) name ⌝ }
     ensures { λ r. ⌜ r ≡ mem (nameAt (now (s .entry)) name) (namesIn which (take i (textPieces (now (s .entry))))) ⌝ }
 {
     if n < table.len() {
-        let start = name.start;
-        let length = name.length;
-        return names_met::is_listed(s, table, n, expected::part(s, start, length));
+        return names_met::is_listed(s, table, n, parts::part_of(s, name));
     }
     scan::stands(s, scan::text_start(), i, which, name)
 }
@@ -35,7 +34,7 @@ pub fn seen_before(
     name: Part,
     before: bool,
 ) -> bool
-    requires { ⌜ Holds (now s) (now table) n (namesIn which (take i (textPieces (now s)))) ⌝ }
+    requires { ⌜ Holds (now s) (now table) n (namesIn which (take i (textPieces (now s)))) × HasPart (now s) name ⌝ }
     ensures { λ r. ⌜ r ≡ pick (mem (nameAt (now (s .entry)) name) (namesIn which (take i (textPieces (now (s .entry)))))) true before ⌝ }
 {
     if before {

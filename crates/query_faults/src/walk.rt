@@ -4,7 +4,7 @@ ghost use mathlib.Core.List.{[]};
 ghost use lib.ListN.{take};
 ghost use Rattle.model.specs.Answers.{nameAt};
 ghost use Rattle.model.specs.Grammar.{goes, comes};
-ghost use Rattle.query_pieces.specs.Steps.{pieceOf, walkAt};
+ghost use Rattle.query_pieces.specs.Steps.{pieceOf, walkAt, LinkInside, PieceInside};
 ghost use Rattle.book_tables.specs.View.{bookAt};
 ghost use Rattle.book_tables.specs.Fits.{Fits};
 ghost use Rattle.names_met.specs.Table.{Holds};
@@ -37,7 +37,8 @@ fn link_passed(
     before: Passed,
     l: Link,
 ) -> Passed
-    requires { ⌜ Fits (now book) (now words) counts × Known (now s) (now vertices) (now edges) (before .met) (take i (textPieces (now s))) ⌝ }
+    requires { ⌜ Fits (now book) (now words) counts × Known (now s) (now vertices) (now edges) (before .met) (take i (textPieces (now s)))
+        × LinkInside (now s) l ⌝ }
     ensures { λ r. ⌜ ((returned : Table) → Holds (now (s .entry)) returned (before .met .returned) (namesIn Returned (take i (textPieces (now (s .entry)))))
         → Behind (bookAt (now (book .entry)) (now (words .entry)) counts) (now (s .entry)) (take i (textPieces (now (s .entry)))) (before .survey)
         (goes (nameAt (now (s .entry)) (l .edge)) (nameAt (now (s .entry)) (l .label)) (nameAt (now (s .entry)) (l .vertex))) (now (vertices .exit))
@@ -66,7 +67,7 @@ fn piece_passed(
     p: Piece,
 ) -> Passed
     requires { ⌜ Fits (now book) (now words) counts × Known (now s) (now vertices) (now edges) (before .met) (take i (textPieces (now s)))
-        × Holds (now s) (now returned) (before .met .returned) (namesIn Returned (take i (textPieces (now s)))) ⌝ }
+        × Holds (now s) (now returned) (before .met .returned) (namesIn Returned (take i (textPieces (now s)))) × PieceInside (now s) p ⌝ }
     ensures { λ r. ⌜ Behind (bookAt (now (book .entry)) (now (words .entry)) counts) (now (s .entry)) (take i (textPieces (now (s .entry))))
         (before .survey) (pieceOf (now (s .entry)) p) (now (vertices .exit)) (now (edges .exit)) (now (returned .exit)) r ⌝ }
 {

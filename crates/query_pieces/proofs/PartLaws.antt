@@ -27,11 +27,13 @@ use Rattle.query_signs.specs.Reads.{signsFrom, standingsFrom}
 use Rattle.query_signs.specs.Expected.{behindMark, MarkBehind, MarkStands, MarkNext, behindName, NameBehind, NameStands, NameNext, behindRelation}
 use Rattle.query_signs.specs.Expected.{RelationBehind, RelationStands, RelationNext, behindValue, ValueBehind, ValueStands, ValueNext, valueStanding}
 use Rattle.query_signs.proofs.ExpectLaws.{expect-then, next-then}
-use Rattle.query_pieces.specs.Walk.{Walk}
+use Rattle.query_pieces.specs.Walk.{Walk, stopped}
 use native.Mathlib.Omega.{arith}
+use Rattle.query_pieces.specs.declared.Place.{Place}
 use Rattle.query_pieces.specs.declared.PieceRead.{PieceRead}
 use Rattle.query_pieces.specs.declared.PieceRead.the-variants as read
 use Rattle.query_pieces.specs.Steps.{otherThen, valueThen, restThen, vertexThen, onVertex, VertexBehind, VertexStands, VertexNext, StepBehind, StepStands}
+use Rattle.query_pieces.specs.Steps.{walkAt, stepOf, StepIs, StepAt}
 
 module _ (chain close : Bool) (s : Bytes) (from code : ℕ) (r : End) (h : MarkNext chain close s from code r) where
   pub mark-read : (q : ℕ) → r ≡ end.At q → (f : List Sign → Maybe Walk)
@@ -151,6 +153,20 @@ module _ (close : Bool) (s : Bytes) (from : ℕ) (r : NameRead) (h : VertexNext 
 
   pub vertex-stands : (p : Part) (q : ℕ) → r ≡ name.Found p q → (o : Bracket) → standingsFrom o true close s from ≡ vertex p ∷ standingsFrom none true false s q
   vertex-stands p q e o = subst (VertexStands o close s from) e (h .stands o)
+
+-- no vertex, and no step
+pub vertex-missed : {close : Bool} {s : Bytes} {from : ℕ} → ((f : Bytes → List Sign → Maybe Walk) → vertexThen (signsFrom true close s from) f ≡ nothing)
+    → VertexNext close s from name.None
+unfolding onVertex
+vertex-missed e = record { reads = e; moves = tt; inside = tt; stands = λ o. tt }
+
+pub step-stopped : {w : Walk} {l : List Standing} {s : Bytes} {from : ℕ} {b : Bool} → w ≡ stopped b → StepIs w l s from (read.None b)
+unfolding stepOf
+step-stopped e = record { reads = e; moves = tt; inside = tt; stands = tt }
+
+pub place-stopped : {s : Bytes} {p : Place} {b : Bool} → walkAt s p ≡ stopped b → StepAt s p (read.None b)
+unfolding stepOf
+place-stopped e = record { reads = e; moves = tt; inside = tt; stands = tt }
 
 -- what is behind a place is behind each place before it
 pub step-farther : (a b : ℕ) (r : PieceRead) → a < b → StepBehind b r → StepBehind a r

@@ -145,7 +145,7 @@ module _ (s : Bytes) (t : SignData) (q : ℕ) where
 
 -- a step of an equal walk
 pub step-same : {k l : List Standing} (v w : Walk) (s : Bytes) (from : ℕ) (r : PieceRead) → (v ≡ w) × (k ≡ l) → StepIs w l s from r → StepIs v k s from r
-step-same v w s from r e h = record { reads = e .0 ∙ h .reads; moves = h .moves; stands = step-stands s r (e .1) (h .stands) }
+step-same v w s from r e h = record { reads = e .0 ∙ h .reads; moves = h .moves; inside = h .inside; stands = step-stands s r (e .1) (h .stands) }
 
 -- the first sign of a list that has one
 first-some : (ts : List Sign) (x : First) → first ts ≡ just x → ts ≡ x .sign ∷ x .rest

@@ -4,6 +4,7 @@ use mathlib.Core.Path.{_≡_}
 use mathlib.Core.List.{List, [], _∷_, _++_}
 use mathlib.Core.Bool.{Bool, true, false}
 use lib.Dec.{T, eqb}
+use lib.ListN.{length}
 use Rattle.model.specs.Bytes.{Bytes, bytesOf}
 use Rattle.model.specs.Choice.{pick, Maybe, nothing, just, andThen}
 use Rattle.model.specs.Words.{Got}
@@ -13,7 +14,9 @@ use Rattle.model.specs.Grammar.{Piece, start, goes, comes, asks, returns, Spot,
 use Rattle.model.specs.Answers.{nameAt, relationOf, valueOf}
 use Rattle.model.specs.Places.{Bracket, none, bracketOf, Standing, vertex, edge}
 use Rattle.query_signs.specs.Reads.{signOf, signsFrom, standingsFrom, standingOf}
-use Rattle.query_signs.specs.Expected.{valueStanding}
+use Rattle.model.specs.PlainData.{ValueWithin}
+use Rattle.text.specs.Parts.{HasPart}
+use Rattle.query_signs.specs.Expected.{NameInside, valueStanding}
 use Rattle.query_signs.specs.declared.Sign.{Sign as SignData}
 use Rattle.query_signs.specs.declared.NameRead.{NameRead}
 use Rattle.query_signs.specs.declared.NameRead.the-variants as name
@@ -21,6 +24,7 @@ use Rattle.query_pieces.specs.declared.Spot.{Spot as SpotData}
 use Rattle.query_pieces.specs.declared.Spot.the-variants as spot
 use Rattle.query_pieces.specs.declared.Place.{Place}
 use Rattle.query_pieces.specs.declared.Link.{Link}
+use Rattle.query_pieces.specs.declared.Demand.{Demand}
 use Rattle.query_pieces.specs.declared.Piece.{Piece as PieceData}
 use Rattle.query_pieces.specs.declared.Piece.the-variants as piece
 use Rattle.query_pieces.specs.declared.PieceRead.{PieceRead}
@@ -75,6 +79,29 @@ abbrev pub StepBehind : ℕ → PieceRead → Type 0
 StepBehind from (read.None w) = T true
 StepBehind from (read.Found x) = from < x .next .at
 
+-- every part of a link, of a requirement, of a piece lies inside the text
+pub record LinkInside (s : Bytes) (l : Link) : Type 0 where
+  pub edge : HasPart s (l .edge)
+  pub label : HasPart s (l .label)
+  pub vertex : HasPart s (l .vertex)
+
+pub record DemandInside (s : Bytes) (d : Demand) : Type 0 where
+  pub subject : HasPart s (d .subject)
+  pub attribute : HasPart s (d .attribute)
+  pub value : ValueWithin (length s) (d .value)
+
+abbrev pub PieceInside : Bytes → PieceData → Type 0
+PieceInside s (piece.Start v) = HasPart s v
+PieceInside s (piece.Goes l) = LinkInside s l
+PieceInside s (piece.Comes l) = LinkInside s l
+PieceInside s (piece.Differ v u) = HasPart s v × HasPart s u
+PieceInside s (piece.Asks d) = DemandInside s d
+PieceInside s (piece.Returns v) = HasPart s v
+
+abbrev pub StepInside : Bytes → PieceRead → Type 0
+StepInside s (read.None w) = T true
+StepInside s (read.Found x) = PieceInside s (x .piece)
+
 -- what stands is of a piece and of what follows it
 abbrev pub StepStands : List Standing → Bytes → PieceRead → Type 0
 StepStands l s (read.None w) = T true
@@ -84,10 +111,11 @@ StepStands l s (read.Found x) = l ≡ pieceStanding (x .piece) ++ standingsAt s 
 unfoldable pub piecesBy : Maybe (Got Piece) → List Sign → Walk
 piecesBy m ts = orStopped (andThen m (λ g. just (ahead (g .got) (walk (spotAfter (g .got)) (g .size - 1) ts))))
 
--- a walk is r and what follows it, behind a place; so is what stands there
+-- a walk is r and what follows it, behind a place; so is what stands there; r lies inside the text
 pub record StepIs (w : Walk) (l : List Standing) (s : Bytes) (from : ℕ) (r : PieceRead) : Type 0 where
   pub reads : w ≡ stepOf s r
   pub moves : StepBehind from r
+  pub inside : StepInside s r
   pub stands : StepStands l s r
 
 -- the signs behind the first sign, which ends at a place
@@ -106,6 +134,7 @@ standingsBy p s t q = let x = signOf s t in standingOf none t ++ standingsFrom (
 pub record StepAt (s : Bytes) (p : Place) (r : PieceRead) : Type 0 where
   pub reads : walkAt s p ≡ stepOf s r
   pub moves : StepBehind (p .at) r
+  pub inside : StepInside s r
   pub stands : StepStands (standingsAt s p) s r
 
 -- (v), and then the rest
@@ -127,6 +156,7 @@ VertexStands o close s from (name.Found p q) = standingsFrom o true close s from
 pub record VertexNext (close : Bool) (s : Bytes) (from : ℕ) (r : NameRead) : Type 0 where
   pub reads : (f : Bytes → List Sign → Maybe Walk) → vertexThen (signsFrom true close s from) f ≡ onVertex s r f
   pub moves : VertexBehind from r
+  pub inside : NameInside s r
   pub stands : (o : Bracket) → VertexStands o close s from r
 
 -- [e:id], an arrow's end, (v), and then the rest
@@ -150,6 +180,7 @@ chained arrow e l v ts = just (ahead (linkPiece arrow e l v) (walk inChain 0 ts)
 -- p is that piece, of a link
 pub record LinkIs (arrow : ℕ) (l : Link) (p : PieceData) : Type 0 where
   pub reads : (s : Bytes) → linkPiece arrow (nameAt s (l .edge)) (nameAt s (l .label)) (nameAt s (l .vertex)) ≡ pieceOf s p
+  pub inside : (s : Bytes) → LinkInside s l → PieceInside s p
   pub stands : pieceStanding p ≡ edge (l .edge) ∷ vertex (l .vertex) ∷ []
 
 -- v <> u, and then the rest; or x.attr REL value, from behind the variable x

@@ -8,6 +8,7 @@ ghost use Rattle.model.specs.Answers.{nameAt};
 ghost use Rattle.query_signs.specs.Marks.{markBytes};
 ghost use Rattle.model.specs.Places.{none};
 ghost use Rattle.query_signs.specs.Reads.{signsFrom, standingsFrom};
+ghost use Rattle.text.specs.Parts.{HasPart};
 ghost use Rattle.query_pieces.specs.Walk.{orStopped};
 ghost use Rattle.query_pieces.specs.Steps.{VertexNext, LinkIs, StepIs, piecesBy, linkThen, chained, otherThen, valueThen, asked};
 use crate::Demand;
@@ -129,6 +130,7 @@ pub fn comes(s: &[u8], from: usize) -> PieceRead
 
 // v <> u, from behind the sign.
 fn differ(s: &[u8], v: Part, from: usize) -> PieceRead
+    requires { ⌜ HasPart (now s) v ⌝ }
     ensures { λ r. ⌜ StepIs (orStopped (otherThen (nameAt (now (s .entry)) v) (signsFrom false false (now (s .entry)) from) asked))
         (standingsFrom none false false (now (s .entry)) from) (now (s .entry)) from r ⌝ }
 {
@@ -147,6 +149,7 @@ fn differ(s: &[u8], v: Part, from: usize) -> PieceRead
 
 // x.attr REL value, from behind x.
 fn demand(s: &[u8], subject: Part, from: usize) -> PieceRead
+    requires { ⌜ HasPart (now s) subject ⌝ }
     ensures { λ r. ⌜ StepIs (orStopped (expect (bytesOf ".") (signsFrom false true (now (s .entry)) from)
         (λ ts. valueThen (nameAt (now (s .entry)) subject) ts asked))) (standingsFrom none false true (now (s .entry)) from) (now (s .entry)) from r ⌝ }
 {

@@ -1,7 +1,7 @@
 // The piece at each spot, by its first sign.
 ghost use mathlib.Core.Path.{_≡_};
 ghost use Rattle.model.specs.Signs.{isWord};
-ghost use Rattle.query_signs.specs.Reads.{signOf};
+ghost use Rattle.query_signs.specs.Reads.{signOf, SignInside};
 ghost use Rattle.query_pieces.specs.declared.Spot.the-variants.{AtStart, InChain, InWhere, InReturn};
 ghost use Rattle.query_pieces.specs.Walk.{endsWell};
 ghost use Rattle.query_pieces.specs.Steps.{StepIs, walkBy, standingsBy, spotOf, chainAt};
@@ -12,17 +12,15 @@ use query_signs::Sign;
 use query_signs::expected;
 use query_signs::marks;
 use text::compare;
+use text::parts::part_of;
 
 // Whether a sign is this word.
 fn is_word(s: &[u8], t: Sign, word: &[u8]) -> bool
+    requires { ⌜ SignInside (now s) t ⌝ }
     ensures { λ r. ⌜ r ≡ isWord (now (word .entry)) (signOf (now (s .entry)) t) ⌝ }
 {
     match t {
-        Sign::Word(p) => {
-            let start = p.start;
-            let length = p.length;
-            compare::same_bytes(expected::part(s, start, length), word)
-        }
+        Sign::Word(p) => { compare::same_bytes(part_of(s, p), word) }
         Sign::Whole(_) => false,
         Sign::Text(_) => false,
         Sign::Mark(_) => false,
@@ -55,6 +53,7 @@ pub fn in_chain(spot: Spot) -> bool
 
 // The piece at the beginning, whose first sign ends at q.
 fn first_piece(s: &[u8], t: Sign, q: usize) -> PieceRead
+    requires { ⌜ SignInside (now s) t ⌝ }
     ensures { λ r. ⌜ StepIs (walkBy AtStart (now (s .entry)) t q) (standingsBy AtStart (now (s .entry)) t q) (now (s .entry)) q r ⌝ }
 {
     if is_word(s, t, b"Match") {
@@ -65,6 +64,7 @@ fn first_piece(s: &[u8], t: Sign, q: usize) -> PieceRead
 
 // The piece behind a chain, whose first sign ends at q.
 fn chain_piece(s: &[u8], t: Sign, q: usize) -> PieceRead
+    requires { ⌜ SignInside (now s) t ⌝ }
     ensures { λ r. ⌜ StepIs (walkBy InChain (now (s .entry)) t q) (standingsBy InChain (now (s .entry)) t q) (now (s .entry)) q r ⌝ }
 {
     let code = expected::mark_code(t);
@@ -88,6 +88,7 @@ fn chain_piece(s: &[u8], t: Sign, q: usize) -> PieceRead
 
 // The piece behind a condition, whose first sign ends at q.
 fn where_piece(s: &[u8], t: Sign, q: usize) -> PieceRead
+    requires { ⌜ SignInside (now s) t ⌝ }
     ensures { λ r. ⌜ StepIs (walkBy InWhere (now (s .entry)) t q) (standingsBy InWhere (now (s .entry)) t q) (now (s .entry)) q r ⌝ }
 {
     if is_word(s, t, b"AND") {
@@ -114,6 +115,7 @@ fn return_piece(s: &[u8], t: Sign, q: usize) -> PieceRead
 
 // The piece at a spot, whose first sign ends at q.
 pub fn piece_by(s: &[u8], spot: Spot, t: Sign, q: usize) -> PieceRead
+    requires { ⌜ SignInside (now s) t ⌝ }
     ensures { λ r. ⌜ StepIs (walkBy spot (now (s .entry)) t q) (standingsBy spot (now (s .entry)) t q) (now (s .entry)) q r ⌝ }
 {
     match spot {

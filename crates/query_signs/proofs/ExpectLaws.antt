@@ -35,7 +35,7 @@ use Rattle.query_signs.specs.declared.RelationRead.the-variants as relat
 use Rattle.query_signs.specs.declared.ValueRead.{ValueRead}
 use Rattle.query_signs.specs.declared.ValueRead.the-variants as value
 use Rattle.query_signs.specs.Marks.{markBytes}
-use Rattle.query_signs.specs.Reads.{signOf, signsFrom, first, firstOf, NextSign, Behind, standingsFrom, standingOf, SignStands}
+use Rattle.query_signs.specs.Reads.{signOf, signsFrom, first, firstOf, NextSign, Behind, ReadInside, standingsFrom, standingOf, SignStands}
 use Rattle.query_signs.specs.Expected.{Then, codeOf, behindMark, MarkNext, behindName, NameNext, relationOr, behindRelation, RelationNext}
 use Rattle.query_signs.specs.Expected.{truthOr, behindValue, valueStanding, ValueNext}
 use Rattle.query_signs.proofs.MarkLaws.{same-marks}
@@ -156,7 +156,7 @@ module _ (chain close : Bool) (s : Bytes) (from : ℕ) where
 
   pub name-end : first (signsFrom chain close s from) ≡ nothing → NameNext chain close s from name.None
   unfolding behindName andThen signName
-  name-end h = record { reads = next-first signName (signsFrom chain close s from) named refl ∙ rw h; moves = tt; stands = λ o. tt }
+  name-end h = record { reads = next-first signName (signsFrom chain close s from) named refl ∙ rw h; moves = tt; inside = tt; stands = λ o. tt }
 
   module _ (p : Part) (q : ℕ) (h : NextSign chain close s from (read.Found (sign.Word p) q)) where
     pub name-met : mem (nameAt s p) neverNames ≡ false → NameNext chain close s from (name.Found p q)
@@ -164,12 +164,18 @@ module _ (chain close : Bool) (s : Bytes) (from : ℕ) where
     name-met k = record {
       reads = next-first signName (signsFrom chain close s from) named refl ∙ rw (h .reads, k, chain-name chain (nameAt s p) k);
       moves = h .moves;
+      inside = h .inside;
       stands = λ o. h .stands o ∙ rw (chain-name chain (nameAt s p) k);
     }
 
     pub name-never : mem (nameAt s p) neverNames ≡ true → NameNext chain close s from name.None
     unfolding signName signOf nameOf firstOf behindName andThen
-    name-never k = record { reads = next-first signName (signsFrom chain close s from) named refl ∙ rw (h .reads, k); moves = tt; stands = λ o. tt }
+    name-never k = record {
+      reads = next-first signName (signsFrom chain close s from) named refl ∙ rw (h .reads, k);
+      moves = tt;
+      inside = tt;
+      stands = λ o. tt;
+    }
 
 -- a relation that is expected
 abbrev related : Relation → List Sign → Maybe (Then Relation)
@@ -248,7 +254,7 @@ valued v ts = just (record { got = v; rest = ts })
 module _ (close : Bool) (s : Bytes) (from : ℕ) where
   pub value-end : (r : SignRead) → NextSign false close s from r → r ≡ read.None → ValueNext close s from value.None
   unfolding firstOf behindValue andThen signValue
-  value-end r h e = record { reads = next-first signValue (signsFrom false close s from) valued refl ∙ rw (h .reads, e); moves = tt; stands = tt }
+  value-end r h e = record { reads = next-first signValue (signsFrom false close s from) valued refl ∙ rw (h .reads, e); moves = tt; inside = tt; stands = tt }
 
   module _ (r : SignRead) (h : NextSign false close s from r) (q : ℕ) where
     value-stands : (t : SignData) → r ≡ read.Found t q → chainBehind false (signOf s t) ≡ false → bracketOf (signOf s t) ≡ none
@@ -257,7 +263,7 @@ module _ (close : Bool) (s : Bytes) (from : ℕ) where
 
     pub value-mark : (c : ℕ) → r ≡ read.Found (sign.Mark c) q → ValueNext close s from value.None
     unfolding firstOf behindValue andThen signValue signOf
-    value-mark c e = record { reads = next-first signValue (signsFrom false close s from) valued refl ∙ rw (h .reads, e); moves = tt; stands = tt }
+    value-mark c e = record { reads = next-first signValue (signsFrom false close s from) valued refl ∙ rw (h .reads, e); moves = tt; inside = tt; stands = tt }
 
     pub value-whole : (n : ℕ) → r ≡ read.Found (sign.Whole n) q → ValueNext close s from (value.Found (given.Number n) q true)
     unfolding firstOf behindValue andThen signValue signOf valueOf chainBehind isWord isMark wordy bracketOf standingOf valueStanding
@@ -265,6 +271,7 @@ module _ (close : Bool) (s : Bytes) (from : ℕ) where
       reads = next-first signValue (signsFrom false close s from) valued refl
           ∙ rw (h .reads, e);
       moves = subst (Behind from) e (h .moves);
+      inside = tt;
       stands = value-stands (sign.Whole n) e refl refl;
     }
 
@@ -274,6 +281,7 @@ module _ (close : Bool) (s : Bytes) (from : ℕ) where
       reads = next-first signValue (signsFrom false close s from) valued refl
           ∙ rw (h .reads, e);
       moves = subst (Behind from) e (h .moves);
+      inside = subst (ReadInside s) e (h .inside);
       stands = value-stands (sign.Text p) e refl refl;
     }
 
@@ -290,17 +298,20 @@ module _ (close : Bool) (s : Bytes) (from : ℕ) where
           reads = next-first signValue (signsFrom false close s from) valued refl
               ∙ rw (h .reads, e, k, truth-chain (nameAt s p) (bytesOf "true") k (unfold chainBehind isWord same in refl));
           moves = subst (Behind from) e (h .moves);
+          inside = tt;
           stands = value-stands (sign.Word p) e (truth-chain (nameAt s p) (bytesOf "true") k (unfold chainBehind isWord same in refl)) refl;
         }
         go false k true l = record {
           reads = next-first signValue (signsFrom false close s from) valued refl
               ∙ rw (h .reads, e, k, l, truth-chain (nameAt s p) (bytesOf "false") l (unfold chainBehind isWord same in refl));
           moves = subst (Behind from) e (h .moves);
+          inside = tt;
           stands = value-stands (sign.Word p) e (truth-chain (nameAt s p) (bytesOf "false") l (unfold chainBehind isWord same in refl)) refl;
         }
         go false k false l = record {
           reads = next-first signValue (signsFrom false close s from) valued refl
               ∙ rw (h .reads, e, k, l);
           moves = tt;
+          inside = tt;
           stands = tt;
         }

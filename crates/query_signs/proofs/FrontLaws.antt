@@ -154,7 +154,7 @@ module _ (chain close : Bool) (s : Bytes) (from at : ℕ) (p : at ≡ past isBla
           (λ a. refl) (λ n. nameless (marks chain) _)
 
       some : at < length s → NameNext chain close s from name.None
-      some l = record { reads = rw (sign-at chain close s from at p l, or-close signName nothing refl _ _ unnamed); moves = tt; stands = λ o. tt }
+      some l = record { reads = rw (sign-at chain close s from at p l, or-close signName nothing refl _ _ unnamed); moves = tt; inside = tt; stands = λ o. tt }
 
   -- a word, if it is not too long and does not stand right behind another
   module _ (h : isLetter (peekAt s at) ≡ true) where

@@ -1,10 +1,10 @@
 -- Laws of signs at their places: blanks before a sign, the part of a sign, and what stands behind it.
-use Prim.Native.Nat.{ℕ, suc, _+_, _-_, _<_}
+use Prim.Native.Nat.{ℕ, suc, _+_, _-_, _<_, _≤_}
 use mathlib.Core.Path.{_≡_, refl, sym, ap, _∙_}
 use mathlib.Core.List.{[], _∷_, _++_}
 use mathlib.Core.Bool.{Bool, true, false, _&&_, _||_}
 use native.Mathlib.Omega.{arith}
-use lib.ListN.{length, drop}
+use lib.ListN.{length, drop, length-take, length-drop}
 use lib.Seq.{drop-drop}
 use lib.Dec.{eqb, leb}
 use Rattle.model.specs.Bytes.{Bytes}
@@ -17,6 +17,7 @@ use Rattle.model.specs.Places.{Placed, placed, Bracket, bracketOf, variableAt, 
 use Rattle.model.specs.declared.Part.{Part}
 use Rattle.model.proofs.Standings.{placed-skip}
 use Rattle.text.specs.Places.{peekAt, past, endOf, wordTo, textTo}
+use Rattle.text.specs.Parts.{HasPart}
 use Rattle.text.specs.declared.End.the-variants as end
 use Rattle.text.proofs.PlaceLaws.{drop-peek, past-on}
 use Rattle.text.proofs.WordLaws.{word-read}
@@ -24,7 +25,7 @@ use Rattle.text.proofs.QuoteLaws.{text-read}
 use Rattle.query_signs.specs.declared.Sign.{Sign as SignData}
 use Rattle.query_signs.specs.declared.Sign.the-variants as sign
 use Rattle.query_signs.specs.declared.SignRead.the-variants as read
-use Rattle.query_signs.specs.Reads.{isBlank, isWordy, signOf, gotOf, standingsFrom, standingOf, PartAt, NextSign}
+use Rattle.query_signs.specs.Reads.{isBlank, isWordy, signOf, gotOf, standingsFrom, standingOf, PartAt, SignInside, NextSign}
 use Rattle.query_signs.proofs.SignLaws.{and-false, and-true, nil-length, no-blank, wordy-sign, sign-behind, sign-first}
 
 -- a word is as long as its sign; a text value lacks its apostrophes
@@ -62,6 +63,23 @@ module _ (s : Bytes) (at q : ℕ) where
       let l = text-long (drop (at + 1) s) (record { got = partOf s (at + 1) (q - at - 2); size = q - at }) w in
       let n : q - at - 2 ≡ length (partOf s (at + 1) (q - at - 2)) = omega arith in
       ap (λ n. record { start = at + 1; length = n }) n
+
+-- a part that is as long as what stands at its place lies inside the text
+part-ends : (s : Bytes) (p : Part) (at : ℕ) → at ≤ length s → p ≡ record { start = at; length = length (nameAt s p) } → HasPart s p
+unfolding nameAt partOf
+part-ends s p at l e = omega (
+  arith,
+  ap (λ (x : Part). x .start) e,
+  ap (λ (x : Part). x .length) e,
+  length-take (p .length) (drop (p .start) s),
+  length-drop (p .start) s,
+)
+
+sign-inside : (s : Bytes) (at : ℕ) (t : SignData) → at < length s → PartAt s at t → SignInside s t
+sign-inside s at (sign.Word p) l e = part-ends s p at (omega arith) e
+sign-inside s at (sign.Whole n) l e = tt
+sign-inside s at (sign.Text p) l e = part-ends s p (at + 1) (omega arith) e
+sign-inside s at (sign.Mark c) l e = tt
 
 -- blanks before a sign move its place
 placed-blanks : (chain close : Bool) (i : ℕ) (t : Bytes)
@@ -120,5 +138,6 @@ module _ (chain close : Bool) (s : Bytes) (from at : ℕ) (p : at ≡ past isBla
     next-found k = record {
       reads = sign-first chain close s from at p l t q e h;
       moves = omega (arith, sign-behind chain close s from at p l t q e, p, past-on isBlank s from);
+      inside = sign-inside s at t l k;
       stands = sign-stands k;
     }

@@ -5,8 +5,8 @@ use mathlib.Core.Logic.{⊎-elim}
 use mathlib.Core.List.{List, [], _∷_}
 use mathlib.Core.Bool.{Bool, true, false, _&&_, _||_}
 use native.Mathlib.Omega.{arith}
-use lib.ListN.{length, drop, take, length-drop}
-use lib.Seq.{drop-drop, take-all, take-nil}
+use lib.ListN.{length, drop}
+use lib.Seq.{drop-drop}
 use lib.Dec.{eqb, leb, ltb}
 use borrow.Author.Tests.{eq-eqb, ne-eqb}
 use Rattle.model.specs.Bytes.{Bytes}
@@ -284,15 +284,6 @@ module _ (s : Bytes) (at : ℕ) where
         → g ≡ markAt (marks chain) (drop at s) → g ≡ signAt chain (peekAt s at) (drop (at + 1) s)
     unfolding signAt
     sign-mark g h k m e = e ∙ rw (h, k, ne-eqb (peekAt s at) 39 m, drop-peek s at l)
-
--- parts at the end of a text
-pub part-long : (s : Bytes) (i n : ℕ) → length s - i < n → take (length s - i) (drop i s) ≡ take n (drop i s)
-part-long s i n h =
-    take-all (length s - i) (drop i s) (simp length-drop (omega arith))
-    ∙ sym (take-all n (drop i s) (simp length-drop (omega arith)))
-
-pub part-none : (s : Bytes) (i n : ℕ) → length s < i → [] ≡ take n (drop i s)
-part-none s i n h = let g : length s ≤ i = omega arith in rw (drop-end s i g) (sym (take-nil n))
 
 pub mark-small : (m : ℕ) → markSize m ≤ 2
 unfolding markSize

@@ -4,6 +4,7 @@ use mathlib.Core.Path.{_≡_}
 use mathlib.Core.List.{List, [], _∷_, _++_}
 use mathlib.Core.Bool.{Bool, true, false}
 use lib.Dec.{T, eqb}
+use lib.ListN.{length}
 use Rattle.model.specs.Bytes.{Bytes, bytesOf, same}
 use Rattle.model.specs.Choice.{pick, Maybe, nothing, just}
 use Rattle.model.specs.Values.{Value}
@@ -12,10 +13,12 @@ use Rattle.model.specs.QueryText.{Relation}
 use Rattle.model.specs.Grammar.{signRelation}
 use Rattle.model.specs.Answers.{nameAt, relationOf, valueOf}
 use Rattle.model.specs.Places.{Bracket, none, bracketOf, Standing, value as valueAt, variableAt}
+use Rattle.model.specs.PlainData.{ValueWithin}
 use Rattle.model.specs.declared.Part.{Part}
 use Rattle.model.specs.declared.Relation.the-variants.{Equal, Differs, Less, AtMost, Greater, AtLeast}
 use Rattle.model.specs.declared.Value.{Value as ValueData}
 use Rattle.model.specs.declared.Value.the-variants.{Number, Text, Truth}
+use Rattle.text.specs.Parts.{HasPart}
 use Rattle.text.specs.declared.End.{End}
 use Rattle.text.specs.declared.End.the-variants as end
 use Rattle.query_signs.specs.declared.Sign.{Sign as SignData}
@@ -70,6 +73,11 @@ abbrev pub NameBehind : ℕ → NameRead → Type 0
 NameBehind from name.None = T true
 NameBehind from (name.Found p q) = from < q
 
+-- a name lies inside the text
+abbrev pub NameInside : Bytes → NameRead → Type 0
+NameInside s name.None = T true
+NameInside s (name.Found p q) = HasPart s p
+
 -- a name stands before what stands behind it
 abbrev pub NameStands : Bracket → Bool → Bool → Bytes → ℕ → NameRead → Type 0
 NameStands o chain close s from name.None = T true
@@ -79,6 +87,7 @@ NameStands o chain close s from (name.Found p q) = standingsFrom o chain close s
 pub record NameNext (chain close : Bool) (s : Bytes) (from : ℕ) (r : NameRead) : Type 0 where
   pub reads : next signName (signsFrom chain close s from) (λ v ts. just (record { got = v; rest = ts })) ≡ behindName chain s r
   pub moves : NameBehind from r
+  pub inside : NameInside s r
   pub stands : (o : Bracket) → NameStands o chain close s from r
 
 -- the relation that a code is, and the place behind it
@@ -126,6 +135,11 @@ abbrev pub ValueBehind : ℕ → ValueRead → Type 0
 ValueBehind from value.None = T true
 ValueBehind from (value.Found v q close) = from < q
 
+-- a text value lies inside the text
+abbrev pub ValueInside : Bytes → ValueRead → Type 0
+ValueInside s value.None = T true
+ValueInside s (value.Found v q close) = ValueWithin (length s) v
+
 -- a text value, for a value that is one
 unfoldable pub valueStanding : ValueData → List Standing
 valueStanding (Number n) = []
@@ -141,4 +155,5 @@ ValueStands close s from (value.Found v q c) = standingsFrom none false close s 
 pub record ValueNext (close : Bool) (s : Bytes) (from : ℕ) (r : ValueRead) : Type 0 where
   pub reads : next signValue (signsFrom false close s from) (λ v ts. just (record { got = v; rest = ts })) ≡ behindValue s r
   pub moves : ValueBehind from r
+  pub inside : ValueInside s r
   pub stands : ValueStands close s from r

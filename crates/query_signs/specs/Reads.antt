@@ -11,6 +11,7 @@ use Rattle.model.specs.Words.{Got}
 use Rattle.model.specs.Signs.{Sign, word, whole, text, mark, broken, chainBehind, wordy, signs}
 use Rattle.model.specs.Answers.{nameAt}
 use Rattle.model.specs.Places.{placed, Bracket, bracketOf, Standing, value as valueAt, variableAt, standings}
+use Rattle.text.specs.Parts.{HasPart}
 use Rattle.text.specs.declared.End.{End}
 use Rattle.text.specs.declared.End.the-variants as end
 use Rattle.query_signs.specs.declared.Sign.{Sign as SignData}
@@ -51,6 +52,17 @@ PartAt s at (sign.Mark c) = T true
 abbrev pub ReadPartAt : Bytes → ℕ → SignRead → Type 0
 ReadPartAt s at read.None = T true
 ReadPartAt s at (read.Found t q) = PartAt s at t
+
+-- the part of a word or a text value lies inside the text
+abbrev pub SignInside : Bytes → SignData → Type 0
+SignInside s (sign.Word p) = HasPart s p
+SignInside s (sign.Whole n) = T true
+SignInside s (sign.Text p) = HasPart s p
+SignInside s (sign.Mark c) = T true
+
+abbrev pub ReadInside : Bytes → SignRead → Type 0
+ReadInside s read.None = T true
+ReadInside s (read.Found t q) = SignInside s t
 
 -- r is the sign g, read at a place
 pub record SignGot (s : Bytes) (at : ℕ) (g : Got Sign) (r : SignRead) : Type 0 where
@@ -112,4 +124,5 @@ firstOf chain s (read.Found t q) = let x = signOf s t in just (record { sign = x
 pub record NextSign (chain close : Bool) (s : Bytes) (from : ℕ) (r : SignRead) : Type 0 where
   pub reads : first (signsFrom chain close s from) ≡ firstOf chain s r
   pub moves : Behind from r
+  pub inside : ReadInside s r
   pub stands : (o : Bracket) → SignStands o chain close s from r

@@ -1,7 +1,7 @@
 // A mark, a name, a relation or a value that is expected next.
 ghost use mathlib.Core.Path.{_≡_};
 ghost use Prim.Native.Nat.{_<_};
-ghost use Rattle.model.specs.Answers.{partOf};
+ghost use Rattle.text.specs.Parts.{HasPart};
 ghost use Rattle.query_signs.specs.Expected.{codeOf, MarkNext, NameNext, RelationNext, ValueNext, relationOr, truthOr};
 use crate::NameRead;
 use crate::RelationRead;
@@ -17,22 +17,8 @@ use model::Value;
 use text::End;
 use text::bytes;
 use text::compare;
+use text::parts;
 use text::words;
-
-// The length bytes from a place on, as that very part of the text; fewer at its end.
-pub fn part(s: &[u8], start: usize, length: usize) -> &[u8]
-    ensures { λ r. ⌜ now r ≡ partOf (now (s .entry)) start length ⌝ }
-{
-    if start <= s.len() {
-        if length <= s.len() - start {
-            &s[start..start + length]
-        } else {
-            &s[start..]
-        }
-    } else {
-        &s[..0]
-    }
-}
 
 // The code of a mark; NONE for any other sign.
 pub fn mark_code(t: Sign) -> usize
@@ -127,11 +113,10 @@ pub fn relation_next(s: &[u8], from: usize, close: bool) -> RelationRead
 
 // True or false, and the place behind it.
 fn truth_or(s: &[u8], p: Part, q: usize) -> ValueRead
+    requires { ⌜ HasPart (now s) p ⌝ }
     ensures { λ r. ⌜ r ≡ truthOr (now (s .entry)) p q ⌝ }
 {
-    let start = p.start;
-    let length = p.length;
-    let word = part(s, start, length);
+    let word = parts::part_of(s, p);
     if compare::same_bytes(word, b"true") {
         return ValueRead::Found(Value::Truth(true), q, true);
     }

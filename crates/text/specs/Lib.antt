@@ -1,4 +1,5 @@
 -- What the readers of a text give, by places.
 pub mod Places
+pub mod Parts
 pub mod Compare
 pub mod Lines

@@ -3,6 +3,7 @@ pub mod bytes;
 pub mod compare;
 pub mod lines;
 pub mod numbers;
+pub mod parts;
 pub mod quotes;
 pub mod words;
 

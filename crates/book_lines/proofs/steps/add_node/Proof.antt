@@ -7,13 +7,13 @@ use Rattle.book_lines.proofs.steps.add_node.Tie as tie
 
 returns : tie.Need-returns
 returns c =
-    let at-named = c .before .before .before .before in
-    let at-before = at-named .before .before .before in
+    let at-part-of = c .before .before .before .before in
+    let at-before = at-part-of .before .before .before in
     λ es after.
     let s = at-before .before in
     let a = s .args in
     node-refused (a .text .now) (a .words .now) (a .counts) (s .pre .1) (a .read) es (a .rule) (a .name) (s .pre .0) after _
-    (rw (at-named .named .ensures) at (c .before .before .before .find-alike .ensures)) _
+    (rw (at-part-of .part-of .ensures) at (c .before .before .before .find-alike .ensures)) _
     (rw (c .before .before .is-full .ensures) at (c .before .owner-fault .ensures)) (c .if1 .taken)
 
 store-owner-requires : tie.Need-store-owner-requires
@@ -34,8 +34,8 @@ returns-2 c =
     let at-owner-fault = at-if1 .before in
     let at-is-full = at-owner-fault .before in
     let at-find-alike = at-is-full .before in
-    let at-named = at-find-alike .before in
-    let at-before = at-named .before .before .before in
+    let at-part-of = at-find-alike .before in
+    let at-before = at-part-of .before .before .before in
     λ es after.
     let s = at-before .before in
     let a = s .args in
@@ -47,7 +47,7 @@ returns-2 c =
       at-name-word .name-word .ensures,
     )
     (node-fine (a .text .now) (a .words .now) (a .counts) (s .pre .1) (a .read) es (a .rule) (a .name) (s .pre .0) after _
-    (rw (at-named .named .ensures) at (at-find-alike .find-alike .ensures)) (sym fault ∙ at-if1 .if1 .left))
+    (rw (at-part-of .part-of .ensures) at (at-find-alike .find-alike .ensures)) (sym fault ∙ at-if1 .if1 .left))
 
 pub add-node-spec : {M : Type 1} → statement M
 add-node-spec =

@@ -13,7 +13,7 @@ returns c =
     let s = at-before .before in
     let a = s .args in
     label-missing rule (a .text .now) (a .words .now) (a .counts) (s .pre .3) (a .read) es _ _ _ _
-    (rw (c .before .before .before .named .ensures) at (c .before .before .find-label .ensures)) (c .if1 .taken)
+    (rw (c .before .before .before .part-of .ensures) at (c .before .before .find-label .ensures)) (c .if1 .taken)
 
 returns-2 : tie.Need-returns-2
 returns-2 c =
@@ -22,7 +22,7 @@ returns-2 c =
     let s = at-before .before in
     let a = s .args in
     from-missing rule (a .text .now) (a .words .now) (a .counts) (s .pre .3) (a .read) es _ _ _ _
-    (rw (c .before .before .before .named2 .ensures) at (c .before .before .find-node .ensures)) (c .if2 .taken)
+    (rw (c .before .before .before .part-of2 .ensures) at (c .before .before .find-node .ensures)) (c .if2 .taken)
 
 returns-3 : tie.Need-returns-3
 returns-3 c =
@@ -31,7 +31,7 @@ returns-3 c =
     let s = at-before .before in
     let a = s .args in
     to-missing rule (a .text .now) (a .words .now) (a .counts) (s .pre .3) (a .read) es _ _ _ _
-    (rw (c .before .before .before .named3 .ensures) at (c .before .before .find-node2 .ensures)) (c .if3 .taken)
+    (rw (c .before .before .before .part-of3 .ensures) at (c .before .before .find-node2 .ensures)) (c .if3 .taken)
 
 is-related-requires : tie.Need-is-related-requires
 is-related-requires c κs =
@@ -49,20 +49,20 @@ returns-4 : tie.Need-returns-4
 returns-4 c =
     let at-if3 = c .before .before .before .before .before in
     let at-find-node2 = at-if3 .before .before in
-    let at-named3 = at-find-node2 .before in
-    let at-if2 = at-named3 .before .before in
+    let at-part-of3 = at-find-node2 .before in
+    let at-if2 = at-part-of3 .before .before in
     let at-find-node = at-if2 .before .before in
-    let at-named2 = at-find-node .before in
-    let at-if1 = at-named2 .before .before in
+    let at-part-of2 = at-find-node .before in
+    let at-if1 = at-part-of2 .before .before in
     let at-find-label = at-if1 .before .before in
-    let at-named = at-find-label .before in
-    let at-before = at-named .before .before .before in
+    let at-part-of = at-find-label .before in
+    let at-before = at-part-of .before .before .before in
     λ rule es after.
     let s = at-before .before in
     let a = s .args in
-    let l = rw (at-named .named .ensures) at (at-find-label .find-label .ensures) in
-    let x = rw (at-named2 .named2 .ensures) at (at-find-node .find-node .ensures) in
-    let y = rw (at-named3 .named3 .ensures) at (at-find-node2 .find-node2 .ensures) in
+    let l = rw (at-part-of .part-of .ensures) at (at-find-label .find-label .ensures) in
+    let x = rw (at-part-of2 .part-of2 .ensures) at (at-find-node .find-node .ensures) in
+    let y = rw (at-part-of3 .part-of3 .ensures) at (at-find-node2 .find-node2 .ensures) in
     rel-refused rule (a .text .now) (a .words .now) (a .counts) (s .pre .3) (a .read) es _ _ _ _ _ _ l x y (at-if1 .if1 .left) (at-if2 .if2 .left)
     (at-if3 .if3 .left) after _ (c .before .before .before .is-related .ensures) _
     (rw (c .before .before .is-full .ensures) at (c .before .owner-fault .ensures)) (c .if4 .taken)
@@ -118,20 +118,20 @@ returns-5 c =
     let at-is-related = at-is-full .before in
     let at-if3 = at-is-related .before .before in
     let at-find-node2 = at-if3 .before .before in
-    let at-named3 = at-find-node2 .before in
-    let at-if2 = at-named3 .before .before in
+    let at-part-of3 = at-find-node2 .before in
+    let at-if2 = at-part-of3 .before .before in
     let at-find-node = at-if2 .before .before in
-    let at-named2 = at-find-node .before in
-    let at-if1 = at-named2 .before .before in
+    let at-part-of2 = at-find-node .before in
+    let at-if1 = at-part-of2 .before .before in
     let at-find-label = at-if1 .before .before in
-    let at-named = at-find-label .before in
-    let at-before = at-named .before .before .before in
+    let at-part-of = at-find-label .before in
+    let at-before = at-part-of .before .before .before in
     λ rule es after.
     let s = at-before .before in
     let a = s .args in
-    let l = rw (at-named .named .ensures) at (at-find-label .find-label .ensures) in
-    let x = rw (at-named2 .named2 .ensures) at (at-find-node .find-node .ensures) in
-    let y = rw (at-named3 .named3 .ensures) at (at-find-node2 .find-node2 .ensures) in
+    let l = rw (at-part-of .part-of .ensures) at (at-find-label .find-label .ensures) in
+    let x = rw (at-part-of2 .part-of2 .ensures) at (at-find-node .find-node .ensures) in
+    let y = rw (at-part-of3 .part-of3 .ensures) at (at-find-node2 .find-node2 .ensures) in
     let fault = rw (at-is-full .is-full .ensures) at (at-owner-fault .owner-fault .ensures) in
     rw (c .before .before .store-owner .ensures .0, c .before .before .store-owner .ensures .1)
     (rel-fine rule (a .text .now) (a .words .now) (a .counts) (s .pre .3) (a .read) es _ _ _ _ _ _ l x y (at-if1 .if1 .left) (at-if2 .if2 .left)

@@ -17,7 +17,7 @@ returns c =
     let at-pre = c .before .before .before .before .before .before .before .before in
     let a = at-pre .args in
     let size : length (a .found .parts) ≡ 8 = sym (length-map (a .found .parts) _) ∙ at-pre .good .1 .1 .1 .1 .0 .1 .1 .0 .1 .0 .1 in
-    let few = names-counted (a .s .now) (a .found) size (at-pre .pre .1) in
+    let few = names-counted (a .s .now) (a .found) size (at-pre .pre .1 .few) in
     let there = place-known (nameAt (a .s .now) (a .d .subject)) (namesOf (a .s .now) (a .found))
     (omega (arith, few, c .before .if1 .taken, c .before .before .before .vertex-number .ensures)) in
     rw there (ap₂ OfVertex (c .before .before .before .vertex-number .ensures) (c .requirement-of .ensures))
@@ -29,7 +29,7 @@ returns-2 c =
     let at-pre = at-vertex-number .before .before .before .before .before in
     let a = at-pre .args in
     let size : length (a .found .parts) ≡ 8 = sym (length-map (a .found .parts) _) ∙ at-pre .good .1 .1 .1 .1 .0 .1 .1 .0 .1 .0 .1 in
-    let few = names-counted (a .s .now) (a .found) size (at-pre .pre .1) in
+    let few = names-counted (a .s .now) (a .found) size (at-pre .pre .1 .few) in
     let absent = place-new (nameAt (a .s .now) (a .d .subject)) (namesOf (a .s .now) (a .found))
     (omega (arith, few, c .before .before .if1 .left, at-vertex-number .vertex-number .ensures)) in
     rw absent (ap₂ OfEdge (c .before .edge-number .ensures) (c .requirement-of2 .ensures))

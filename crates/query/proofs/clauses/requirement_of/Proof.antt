@@ -8,7 +8,7 @@ returns : tie.Need-returns
 unfolding nameAt
 returns c =
     let a = c .before .before .before .before .before .before .args in
-    let attribute = rw (c .before .part .ensures) at (c .find-attr .ensures) in
+    let attribute = rw (c .before .part-of .ensures) at (c .find-attr .ensures) in
     λ i. record { attribute = attribute i; relation = a .d .relation; value = a .d .value }
 
 pub requirement-of-spec : {M : Type 1} → statement M

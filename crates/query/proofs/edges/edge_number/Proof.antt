@@ -23,7 +23,12 @@ loop-holds c =
     (omega arith, number-start (λ (e : Edge). nameAt (a .s .now) (e .name)) noEdge (a .t2 .edges) (nameAt (a .s .now) (a .name)))
 
 element-copy-out-e : tie.Need-element-copy-out-e Inv-loop μ-loop
-element-copy-out-e c = omega (arith, c .before .before .before .pre)
+element-copy-out-e c = omega (arith, c .before .before .before .pre .0 .few)
+
+same-part-requires : tie.Need-same-part-requires Inv-loop μ-loop
+same-part-requires c κs =
+    let at-loop = c .before .before .before in
+    (at-loop .before .before .pre .1, at-loop .before .before .pre .0 .inside (at-loop .loop .k) (c .before .before .loop-test .taken))
 
 returns : tie.Need-returns Inv-loop μ-loop
 returns c =
@@ -34,7 +39,7 @@ returns c =
     let size : length (a .t2 .edges) ≡ 16 = sym (length-map (a .t2 .edges) _) ∙ at-pre .good .1 .0 .1 .1 .0 .1 .0 .1 in
     let l = at-loop .loop in
     number-found (λ (e : Edge). nameAt (a .s .now) (e .name)) noEdge (a .t2 .edges) (nameAt (a .s .now) (a .name)) (a .t2 .count)
-    (omega (arith, size, at-pre .pre)) (l .k) (at-loop-test .loop-test .taken) (l .inv .1) (sym (c .before .same-part .ensures) ∙ c .if1 .taken)
+    (omega (arith, size, at-pre .pre .0 .few)) (l .k) (at-loop-test .loop-test .taken) (l .inv .1) (sym (c .before .same-part .ensures) ∙ c .if1 .taken)
 
 loop-again : tie.Need-loop-again Inv-loop μ-loop
 loop-again c =
@@ -54,7 +59,7 @@ returns-2 c =
     let size : length (a .t2 .edges) ≡ 16 = sym (length-map (a .t2 .edges) _) ∙ at-pre .good .1 .0 .1 .1 .0 .1 .0 .1 in
     let l = c .before .loop in
     number-none (λ (e : Edge). nameAt (a .s .now) (e .name)) noEdge (a .t2 .edges) (nameAt (a .s .now) (a .name)) (a .t2 .count)
-    (omega (arith, size, at-pre .pre)) (l .k) (l .inv .0) (c .loop-test .left) (l .inv .1)
+    (omega (arith, size, at-pre .pre .0 .few)) (l .k) (l .inv .0) (c .loop-test .left) (l .inv .1)
 
 pub edge-number-spec : {M : Type 1} → statement M
 edge-number-spec =
@@ -65,7 +70,7 @@ edge-number-spec =
     loop-holds
     (λ c. search needs)
     element-copy-out-e
-    (λ c κs. search needs)
+    same-part-requires
     returns
     (λ c. search needs)
     (λ c. search needs)

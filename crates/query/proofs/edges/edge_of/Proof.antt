@@ -13,7 +13,7 @@ returns c =
     let at-args = c .before .before .before .before .before .before .before in
     let a = at-args .args in
     let label = c .before .find-label .ensures
-    ∙ ap (λ w. place w (bookAt (a .book .now) (a .words .now) (a .counts) .labels)) (c .before .before .part .ensures) in
+    ∙ ap (λ w. place w (bookAt (a .book .now) (a .words .now) (a .counts) .labels)) (c .before .before .part-of .ensures) in
     λ i. record { name = a .link .edge; label = label i; from = a .from; to = a .to }
 
 pub edge-of-spec : {M : Type 1} → statement M

@@ -6,8 +6,11 @@ use Rattle.book_tables.specs.View.{bookAt}
 use Rattle.query_faults.specs.Names.{foundAt}
 use Rattle.query.specs.PatternRead.{PatternRead}
 use Rattle.query.proofs.ArrayLaws.{fewer-pieces}
+use Rattle.query.proofs.VertexLaws.{vertices-inside}
+use Rattle.query.proofs.EdgeLaws.{edges-inside}
 use Rattle.query.proofs.WalkLaws.{
   PatternSoFar,
+  here-inside,
   pattern-start,
   pattern-end,
   start-own,
@@ -50,7 +53,11 @@ returns c =
     subst (PatternRead (bookAt (a .book .now) (a .words .now) (a .counts)) (a .counts) (a .s .now)) (sym (c .made .ensures)) end
 
 vertex-number-requires : tie.Need-vertex-number-requires Inv-loop μ-loop
-vertex-number-requires c κs = c .before .before .before .before .before .before .before .before .loop .inv .vertices .stored .within
+vertex-number-requires c κs =
+    let t = c .before .before .before in
+    let so = t .before .before .before .before .before .loop .inv in
+    let here = here-inside (t .before .before .before .before .next-piece .ensures) (t .before .before .x .given .1) (c .before .p .given .1) in
+    (vertices-inside _ _ _ (so .vertices), here)
 
 with-vertex-requires : tie.Need-with-vertex-requires Inv-loop μ-loop
 with-vertex-requires c κs =
@@ -71,7 +78,11 @@ loop-again c =
     (t .before .before .x .given .1) (c .before .before .before .p .given .1) (c .before .vertex-number .ensures) (c .with-vertex .ensures)
 
 vertex-number-requires-2 : tie.Need-vertex-number-requires-2 Inv-loop μ-loop
-vertex-number-requires-2 c κs = c .before .before .before .before .before .before .before .before .before .loop .inv .vertices .stored .within
+vertex-number-requires-2 c κs =
+    let t = c .before .before .before .before in
+    let so = t .before .before .before .before .before .loop .inv in
+    let here = here-inside (t .before .before .before .before .next-piece .ensures) (t .before .before .x .given .1) (c .before .before .p2 .given .1) in
+    (vertices-inside _ _ _ (so .vertices), here .vertex)
 
 with-vertex-requires-2 : tie.Need-with-vertex-requires-2 Inv-loop μ-loop
 with-vertex-requires-2 c κs =
@@ -81,7 +92,12 @@ with-vertex-requires-2 c κs =
     (t .before .before .x .given .1) (c .before .before .before .p2 .given .1) (c .vertex-number2 .ensures)
 
 edge-of-requires : tie.Need-edge-of-requires Inv-loop μ-loop
-edge-of-requires c κs = c .before .before .before .before .before .before .before .before .before .before .before .loop .inv .asked .fits
+edge-of-requires c κs =
+    let t = c .before .before .before .before .before .before in
+    let so = t .before .before .before .before .before .loop .inv in
+    let here = here-inside (t .before .before .before .before .next-piece .ensures) (t .before .before .x .given .1)
+    (c .before .before .before .before .p2 .given .1) in
+    (so .asked .fits, here .label)
 
 mul-t41 : tie.Need-mul-t41 Inv-loop μ-loop
 mul-t41 c = omega (arith, c .before .before .before .before .before .before .before .before .before .before .before .before .loop .inv .edges .stored .few)
@@ -112,7 +128,11 @@ loop-again-2 c =
     (c .edge-of .ensures)
 
 vertex-number-requires-3 : tie.Need-vertex-number-requires-3 Inv-loop μ-loop
-vertex-number-requires-3 c κs = c .before .before .before .before .before .before .before .before .before .loop .inv .vertices .stored .within
+vertex-number-requires-3 c κs =
+    let t = c .before .before .before .before in
+    let so = t .before .before .before .before .before .loop .inv in
+    let here = here-inside (t .before .before .before .before .next-piece .ensures) (t .before .before .x .given .1) (c .before .before .p3 .given .1) in
+    (vertices-inside _ _ _ (so .vertices), here .vertex)
 
 with-vertex-requires-3 : tie.Need-with-vertex-requires-3 Inv-loop μ-loop
 with-vertex-requires-3 c κs =
@@ -122,7 +142,12 @@ with-vertex-requires-3 c κs =
     (t .before .before .x .given .1) (c .before .before .before .p3 .given .1) (c .vertex-number3 .ensures)
 
 edge-of-requires-2 : tie.Need-edge-of-requires-2 Inv-loop μ-loop
-edge-of-requires-2 c κs = c .before .before .before .before .before .before .before .before .before .before .before .loop .inv .asked .fits
+edge-of-requires-2 c κs =
+    let t = c .before .before .before .before .before .before in
+    let so = t .before .before .before .before .before .loop .inv in
+    let here = here-inside (t .before .before .before .before .next-piece .ensures) (t .before .before .x .given .1)
+    (c .before .before .before .before .p3 .given .1) in
+    (so .asked .fits, here .label)
 
 mul-t45 : tie.Need-mul-t45 Inv-loop μ-loop
 mul-t45 c = omega (arith, c .before .before .before .before .before .before .before .before .before .before .before .before .loop .inv .edges .stored .few)
@@ -153,7 +178,11 @@ loop-again-3 c =
     (c .edge-of2 .ensures)
 
 exclusion-requires : tie.Need-exclusion-requires Inv-loop μ-loop
-exclusion-requires c κs = c .before .before .before .before .before .before .before .before .loop .inv .vertices .stored .within
+exclusion-requires c κs =
+    let t = c .before .before .before in
+    let so = t .before .before .before .before .before .loop .inv in
+    let here = here-inside (t .before .before .before .before .next-piece .ensures) (t .before .before .x .given .1) (c .before .p4 .given .1) in
+    (vertices-inside _ _ _ (so .vertices), here .0, here .1)
 
 element-set-from-conditions : tie.Need-element-set-from-conditions Inv-loop μ-loop
 element-set-from-conditions c =
@@ -174,8 +203,10 @@ loop-again-4 c =
 
 requirement-requires : tie.Need-requirement-requires Inv-loop μ-loop
 requirement-requires c κs =
-    let at-loop = c .before .before .before .before .before .before .before .before in
-    let so = at-loop .loop .inv in (so .asked .fits, so .vertices .stored .within, so .edges .stored .few)
+    let t = c .before .before .before in
+    let so = t .before .before .before .before .before .loop .inv in
+    let here = here-inside (t .before .before .before .before .next-piece .ensures) (t .before .before .x .given .1) (c .before .p5 .given .1) in
+    (so .asked .fits, vertices-inside _ _ _ (so .vertices), edges-inside (so .edges), here)
 
 element-set-from-conditions-2 : tie.Need-element-set-from-conditions-2 Inv-loop μ-loop
 element-set-from-conditions-2 c =
@@ -195,7 +226,11 @@ loop-again-5 c =
     (t .before .before .x .given .1) (c .before .before .p5 .given .1) (c .requirement .ensures)
 
 vertex-number-requires-4 : tie.Need-vertex-number-requires-4 Inv-loop μ-loop
-vertex-number-requires-4 c κs = c .before .before .before .before .before .before .before .before .loop .inv .vertices .stored .within
+vertex-number-requires-4 c κs =
+    let t = c .before .before .before in
+    let so = t .before .before .before .before .before .loop .inv in
+    let here = here-inside (t .before .before .before .before .next-piece .ensures) (t .before .before .x .given .1) (c .before .p6 .given .1) in
+    (vertices-inside _ _ _ (so .vertices), here)
 
 element-write-returned : tie.Need-element-write-returned Inv-loop μ-loop
 element-write-returned c =

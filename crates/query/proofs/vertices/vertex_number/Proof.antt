@@ -22,7 +22,12 @@ loop-holds c =
     (omega arith, number-start (nameAt (a .s .now)) noPart (a .t2 .parts) (nameAt (a .s .now) (a .name)))
 
 element-copy-out-v : tie.Need-element-copy-out-v Inv-loop μ-loop
-element-copy-out-v c = omega (arith, c .before .before .before .pre)
+element-copy-out-v c = omega (arith, c .before .before .before .pre .0 .few)
+
+same-part-requires : tie.Need-same-part-requires Inv-loop μ-loop
+same-part-requires c κs =
+    let at-loop = c .before .before in
+    (at-loop .before .before .pre .1, at-loop .before .before .pre .0 .inside (at-loop .loop .k) (c .before .loop-test .taken))
 
 returns : tie.Need-returns Inv-loop μ-loop
 returns c =
@@ -31,7 +36,7 @@ returns c =
     let a = at-pre .args in
     let size : length (a .t2 .parts) ≡ 8 = sym (length-map (a .t2 .parts) _) ∙ at-pre .good .1 .0 .1 .1 .0 .1 .0 .1 in
     let l = at-loop .loop in
-    number-found (nameAt (a .s .now)) noPart (a .t2 .parts) (nameAt (a .s .now) (a .name)) (a .t2 .count) (omega (arith, size, at-pre .pre)) (l .k)
+    number-found (nameAt (a .s .now)) noPart (a .t2 .parts) (nameAt (a .s .now) (a .name)) (a .t2 .count) (omega (arith, size, at-pre .pre .0 .few)) (l .k)
     (c .before .before .before .loop-test .taken) (l .inv .1) (sym (c .before .same-part .ensures) ∙ c .if1 .taken)
 
 loop-again : tie.Need-loop-again Inv-loop μ-loop
@@ -51,7 +56,7 @@ returns-2 c =
     let a = at-pre .args in
     let size : length (a .t2 .parts) ≡ 8 = sym (length-map (a .t2 .parts) _) ∙ at-pre .good .1 .0 .1 .1 .0 .1 .0 .1 in
     let l = c .before .loop in
-    number-none (nameAt (a .s .now)) noPart (a .t2 .parts) (nameAt (a .s .now) (a .name)) (a .t2 .count) (omega (arith, size, at-pre .pre)) (l .k)
+    number-none (nameAt (a .s .now)) noPart (a .t2 .parts) (nameAt (a .s .now) (a .name)) (a .t2 .count) (omega (arith, size, at-pre .pre .0 .few)) (l .k)
     (l .inv .0) (c .loop-test .left) (l .inv .1)
 
 pub vertex-number-spec : {M : Type 1} → statement M
@@ -63,7 +68,7 @@ vertex-number-spec =
     loop-holds
     (λ c. search needs)
     element-copy-out-v
-    (λ c κs. search needs)
+    same-part-requires
     returns
     (λ c. search needs)
     (λ c. search needs)

@@ -13,7 +13,7 @@ returns c =
     let at-args = c .before .before .before .before .before .before in
     label-place (at-args .args .book .now) (at-args .args .words .now) (at-args .args .counts) (nameAt (at-args .args .s .now) (at-args .args .name))
     (c .before .find-label .result) (c .before .find-label .ensures
-    ∙ ap (λ w. place w (bookAt (at-args .args .book .now) (at-args .args .words .now) (at-args .args .counts) .labels)) (c .before .before .part .ensures))
+    ∙ ap (λ w. place w (bookAt (at-args .args .book .now) (at-args .args .words .now) (at-args .args .counts) .labels)) (c .before .before .part-of .ensures))
 
 pub label-known-spec : {M : Type 1} → statement M
 label-known-spec = tie.close (tie.spec (λ c κs. search needs) (λ c κs. search needs) returns)

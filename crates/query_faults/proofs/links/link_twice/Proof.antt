@@ -21,19 +21,19 @@ returns c =
     (c .if1 .taken)
 
 stands-before-requires : tie.Need-stands-before-requires
-stands-before-requires c κs = c .before .before .before .before .pre .edge-names
+stands-before-requires c κs = let at-pre = c .before .before .before .before in (at-pre .pre .0 .edge-names, at-pre .pre .1)
 
 returns-2 : tie.Need-returns-2
 returns-2 c = rw (← c .before .stands-before .ensures, c .if2 .taken)
 
 stands-before-requires-2 : tie.Need-stands-before-requires-2
-stands-before-requires-2 c κs = c .before .before .before .before .before .before .pre .vertex-names
+stands-before-requires-2 c κs = let at-pre = c .before .before .before .before .before .before in (at-pre .pre .0 .vertex-names, at-pre .pre .1)
 
 returns-3 : tie.Need-returns-3
 returns-3 c = rw (← c .before .before .before .stands-before .ensures, c .before .before .if2 .left, ← c .before .stands-before2 .ensures, c .if3 .taken)
 
 stands-before-requires-3 : tie.Need-stands-before-requires-3
-stands-before-requires-3 c κs = c .before .before .before .before .before .before .before .before .pre .edge-names
+stands-before-requires-3 c κs = let at-pre = c .before .before .before .before .before .before .before .before in (at-pre .pre .0 .edge-names, at-pre .pre .2)
 
 returns-4 : tie.Need-returns-4
 returns-4 c =

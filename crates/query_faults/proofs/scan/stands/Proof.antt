@@ -1,12 +1,12 @@
 use Rattle.query_faults.proofs.ScanLaws.{step-list, step-none, stands-on, stands-here, stands-none, stands-end}
 use Rattle.query_faults.specs.Names.{namesIn, foundAt}
-use Rattle.query_pieces.specs.Steps.{pieceOf}
+use Rattle.query_pieces.specs.Steps.{pieceOf, StepInside}
 use Rattle.model.specs.Answers.{nameAt}
 use Rattle.model.specs.Names.{mem}
 use lib.ListN.{take}
 use native.Mathlib.Omega.{arith}
 use Prim.Native.Nat.{_-_, _≤_}
-use mathlib.Core.Path.{_≡_, sym, ap, _∙_}
+use mathlib.Core.Path.{_≡_, sym, ap, subst, _∙_}
 use borrow.Author.Needs.{needs}
 use Rattle.query_faults.proofs.scan.stands.Statement.{statement}
 use Rattle.query_faults.proofs.scan.stands.Tie as tie
@@ -33,6 +33,13 @@ returns c =
     (foundAt (at-args .args .s .now) (at-loop .loop .place))
     (step-none (at-args .args .s .now) (at-loop .loop .place) (c .before .before .next-piece .result) (c .before .before .next-piece .ensures)
     (c .enum-told .given .0 .0) (c .enum-told .given .1))) ∙ at-loop .loop .inv .1
+
+has-name-requires : tie.Need-has-name-requires Inv-loop μ-loop
+has-name-requires c κs =
+    let at-x = c .before in
+    let at-next-piece = at-x .before .before in
+    let at-pre = at-next-piece .before .before .before .before in
+    (subst (StepInside (at-pre .args .s .now)) (at-x .x .given .1) (at-next-piece .next-piece .ensures .inside), at-pre .pre)
 
 returns-2 : tie.Need-returns-2 Inv-loop μ-loop
 returns-2 c =
@@ -79,7 +86,7 @@ stands-spec =
     (λ c. search needs)
     (λ c. search needs)
     returns
-    (λ c κs. search needs)
+    has-name-requires
     returns-2
     (λ c. search needs)
     (λ c. search needs)

@@ -10,13 +10,13 @@ use Rattle.query_faults.proofs.table.stands_before.Statement.{statement
 use Rattle.query_faults.proofs.table.stands_before.Tie as tie
 
 is-listed-requires : tie.Need-is-listed-requires
-is-listed-requires c κs = c .before .before .before .before .pre .lists (c .before .if1 .taken) .has
+is-listed-requires c κs = c .before .before .before .before .pre .0 .lists (c .before .if1 .taken) .has
 
 returns : tie.Need-returns
 unfolding nameAt
 returns c =
     let at-pre = c .before .before .before .before .before in
-    c .is-listed .ensures ∙ ap₂ mem (c .before .part .ensures) (at-pre .pre .lists (c .before .before .if1 .taken) .are)
+    c .is-listed .ensures ∙ ap₂ mem (c .before .part-of .ensures) (at-pre .pre .0 .lists (c .before .before .if1 .taken) .are)
 
 returns-2 : tie.Need-returns-2
 returns-2 c =

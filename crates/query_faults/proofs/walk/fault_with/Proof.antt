@@ -1,7 +1,8 @@
 -- `query_faults::walk::fault_with` meets its contract. Assumes nothing.
-use mathlib.Core.Path.{_≡_, refl, ap, _∙_}
+use mathlib.Core.Path.{_≡_, refl, ap, subst, _∙_}
 use native.Mathlib.Omega.{arith}
 use lib.ListN.{length}
+use Rattle.query_pieces.specs.Steps.{StepInside}
 use Rattle.query_faults.specs.Names.{foundAt}
 use Rattle.book_tables.specs.View.{bookAt}
 use Rattle.query_faults.specs.Survey.{verdict}
@@ -24,11 +25,13 @@ loop-holds c =
 
 piece-passed-requires : tie.Need-piece-passed-requires Inv-loop μ-loop
 piece-passed-requires c κs =
-    let at-loop = c .before .before .before .before .before .before .before .before in
+    let at-x = c .before .before .before .before .before in
+    let at-loop = at-x .before .before .before in
     let at-pre = at-loop .before .before .before .before .before .before .before .before .before in (
       at-pre .pre .0,
       record { vertex-names = at-loop .loop .inv .0 .vertex-names; edge-names = at-loop .loop .inv .0 .edge-names },
       at-loop .loop .inv .0 .return-names,
+      subst (StepInside (at-pre .args .s .now)) (at-x .x .given .1) (at-x .before .before .next-piece .ensures .inside),
     )
 
 same-length : tie.Need-same-length Inv-loop μ-loop

@@ -1,9 +1,52 @@
 -- `query_faults::walk::piece_passed` meets its contract. Assumes nothing.
-use Rattle.query_pieces.specs.Steps.{pieceOf}
+use mathlib.Core.Path.{subst}
+use Rattle.query_pieces.specs.Steps.{pieceOf, PieceInside}
 use Rattle.query_faults.proofs.SeenLaws.{behind-start, behind-asks, behind-return, behind-is}
 use borrow.Author.Needs.{needs}
 use Rattle.query_faults.proofs.walk.piece_passed.Statement.{statement}
 use Rattle.query_faults.proofs.walk.piece_passed.Tie as tie
+
+start-seen-requires : tie.Need-start-seen-requires
+start-seen-requires c κs =
+    let at-p = c .before .before .before in
+    let at-pre = at-p .before .before .before .before .before .before .before .before .before .before in
+    let inside = subst (PieceInside (at-pre .args .s .now)) (at-p .p .given .1) (at-pre .pre .3) in
+    (at-pre .pre .1, inside)
+
+link-passed-requires : tie.Need-link-passed-requires
+link-passed-requires c κs =
+    let at-p = c .before .before .before in
+    let at-pre = at-p .before .before .before .before .before .before .before .before .before .before in
+    let inside = subst (PieceInside (at-pre .args .s .now)) (at-p .p2 .given .1) (at-pre .pre .3) in
+    (at-pre .pre .0, at-pre .pre .1, inside)
+
+link-passed-requires-2 : tie.Need-link-passed-requires-2
+link-passed-requires-2 c κs =
+    let at-p = c .before .before .before in
+    let at-pre = at-p .before .before .before .before .before .before .before .before .before .before in
+    let inside = subst (PieceInside (at-pre .args .s .now)) (at-p .p3 .given .1) (at-pre .pre .3) in
+    (at-pre .pre .0, at-pre .pre .1, inside)
+
+differ-seen-requires : tie.Need-differ-seen-requires
+differ-seen-requires c κs =
+    let at-p = c .before .before .before in
+    let at-pre = at-p .before .before .before .before .before .before .before .before .before .before in
+    let inside = subst (PieceInside (at-pre .args .s .now)) (at-p .p4 .given .1) (at-pre .pre .3) in
+    (at-pre .pre .1, inside .0, inside .1)
+
+demand-seen-requires : tie.Need-demand-seen-requires
+demand-seen-requires c κs =
+    let at-p = c .before .before .before in
+    let at-pre = at-p .before .before .before .before .before .before .before .before .before .before in
+    let inside = subst (PieceInside (at-pre .args .s .now)) (at-p .p5 .given .1) (at-pre .pre .3) in
+    (at-pre .pre .0, at-pre .pre .1, inside)
+
+return-seen-requires : tie.Need-return-seen-requires
+return-seen-requires c κs =
+    let at-p = c .before .before .before in
+    let at-pre = at-p .before .before .before .before .before .before .before .before .before .before in
+    let inside = subst (PieceInside (at-pre .args .s .now)) (at-p .p6 .given .1) (at-pre .pre .3) in
+    (at-pre .pre .1 .vertex-names, at-pre .pre .2, inside)
 
 returns : tie.Need-returns
 unfolding pieceOf
@@ -62,18 +105,18 @@ piece-passed-spec =
     tie.close
     (tie.spec
     (λ c. search needs)
-    (λ c κs. search needs)
-    (λ c κs. search needs)
-    (λ c. search needs)
+    start-seen-requires
     (λ c κs. search needs)
     (λ c. search needs)
-    (λ c κs. search needs)
+    link-passed-requires
     (λ c. search needs)
-    (λ c κs. search needs)
+    link-passed-requires-2
     (λ c. search needs)
-    (λ c κs. search needs)
+    differ-seen-requires
     (λ c. search needs)
-    (λ c κs. search needs)
+    demand-seen-requires
+    (λ c. search needs)
+    return-seen-requires
     (λ c κs. search needs)
     (λ c. search needs)
     (λ c. search needs)

@@ -1,25 +1,22 @@
 use Rattle.model.specs.Places.{none, variableAt}
 use Rattle.query_pieces.specs.Steps.{otherThen}
-use Rattle.query_pieces.proofs.PartLaws.{name-read, name-unread, name-moves, name-stands}
+use Rattle.query_pieces.proofs.PartLaws.{name-read, name-unread, name-moves, name-stands, step-stopped}
 use Rattle.query_pieces.specs.Steps.{stepOf, walkAt, pieceOf, spotOf, chainAt, pieceStanding}
 use Rattle.query_pieces.specs.Walk.{orStopped}
+use Rattle.query_signs.specs.Expected.{NameInside}
 use native.Mathlib.Omega.{arith}
 use mathlib.Core.Bool.{false}
-use mathlib.Core.Path.{ap}
+use mathlib.Core.Path.{ap, subst}
 use borrow.Author.Needs.{needs}
 use Rattle.query_pieces.proofs.parts.differ.Statement.{statement}
 use Rattle.query_pieces.proofs.parts.differ.Tie as tie
 
 returns : tie.Need-returns
-unfolding stepOf walkAt pieceOf spotOf chainAt orStopped otherThen
+unfolding orStopped otherThen
 returns c =
     let at-args = c .before .before .before .before in
-    record {
-      reads = ap orStopped (name-unread false false (at-args .args .s .now) (at-args .args .from) (c .before .before .name-next .result)
-          (c .before .before .name-next .ensures) (c .enum-told .given .1) _);
-      moves = tt;
-      stands = tt;
-    }
+    step-stopped (ap orStopped (name-unread false false (at-args .args .s .now) (at-args .args .from) (c .before .before .name-next .result)
+    (c .before .before .name-next .ensures) (c .enum-told .given .1) _))
 
 returns-2 : tie.Need-returns-2
 unfolding stepOf walkAt pieceOf spotOf chainAt orStopped otherThen pieceStanding variableAt
@@ -34,6 +31,7 @@ returns-2 c =
         name-moves false false (at-args .args .s .now) (at-args .args .from) (at-name-next .name-next .result) (at-name-next .name-next .ensures)
             (c .before .u .given .0 .0) (c .before .u .given .0 .1 .0) (c .before .u .given .1),
       );
+      inside = (at-args .pre, subst (NameInside (at-args .args .s .now)) (c .before .u .given .1) (at-name-next .name-next .ensures .inside));
       stands = name-stands false false (at-args .args .s .now)
           (at-args .args .from) (at-name-next .name-next .result) (at-name-next .name-next .ensures) (c .before .u .given .0 .0)
           (c .before .u .given .0 .1 .0) (c .before .u .given .1) none;

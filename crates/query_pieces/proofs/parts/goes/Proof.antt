@@ -17,6 +17,7 @@ returns c = record {
       (signsFrom true false (c .before .before .args .s .now) (c .before .before .args .from))
       ∙ c .link .ensures .reads;
   moves = c .link .ensures .moves;
+  inside = c .link .ensures .inside;
   stands = c .link .ensures .stands;
 }
 

@@ -1,8 +1,7 @@
 use Rattle.query_pieces.proofs.SpotLaws.{place-ends, place-broken, place-piece, place-moves, place-stands}
-use Rattle.query_pieces.proofs.PartLaws.{step-farther, step-stands}
-use Rattle.query_pieces.specs.Steps.{stepOf}
+use Rattle.query_pieces.proofs.PartLaws.{step-farther, step-stands, place-stopped}
 use Rattle.query_pieces.specs.Walk.{stopped}
-use Rattle.query_signs.specs.Reads.{NextSign}
+use Rattle.query_signs.specs.Reads.{ReadInside, NextSign}
 use mathlib.Core.Bool.{Bool}
 use mathlib.Core.Path.{sym, ap, subst, _∙_}
 use borrow.Author.Needs.{needs}
@@ -10,32 +9,27 @@ use Rattle.query_pieces.proofs.reading.next_piece.Statement.{statement}
 use Rattle.query_pieces.proofs.reading.next_piece.Tie as tie
 
 returns : tie.Need-returns
-unfolding stepOf
 returns c =
     let at-args = c .before .before .before .before in
-    record {
-      reads = place-ends (at-args .args .s .now) (at-args .args .place) (c .before .before .blanks-end .result)
-          (c .before .before .blanks-end .ensures) (c .before .if1 .taken) ∙ ap stopped (sym (c .ends-well .ensures));
-      moves = tt;
-      stands = tt;
-    }
+    place-stopped (place-ends (at-args .args .s .now) (at-args .args .place) (c .before .before .blanks-end .result)
+    (c .before .before .blanks-end .ensures) (c .before .if1 .taken) ∙ ap stopped (sym (c .ends-well .ensures)))
 
 returns-2 : tie.Need-returns-2
-unfolding stepOf
 returns-2 c =
     let at-next-sign = c .before .before in
     let at-if1 = at-next-sign .before .before in
     let at-blanks-end = at-if1 .before in
     let at-args = at-blanks-end .before .before in
-    record {
-      reads = place-broken (at-args .args .s .now) (at-args .args .place) (at-blanks-end .blanks-end .result) (at-blanks-end .blanks-end .ensures)
-          (at-if1 .if1 .left) (at-next-sign .next-sign .result)
-          (subst (λ (x : Bool). NextSign x (at-args .args .place .close) (at-args .args .s .now) (at-args .args .place .at)
-          (at-next-sign .next-sign .result)) (c .before .before .before .in-chain .ensures) (at-next-sign .next-sign .ensures))
-          (c .enum-told .given .1);
-      moves = tt;
-      stands = tt;
-    }
+    place-stopped (place-broken (at-args .args .s .now) (at-args .args .place) (at-blanks-end .blanks-end .result) (at-blanks-end .blanks-end .ensures)
+    (at-if1 .if1 .left) (at-next-sign .next-sign .result)
+    (subst (λ (x : Bool). NextSign x (at-args .args .place .close) (at-args .args .s .now) (at-args .args .place .at)
+    (at-next-sign .next-sign .result)) (c .before .before .before .in-chain .ensures) (at-next-sign .next-sign .ensures))
+    (c .enum-told .given .1))
+
+piece-by-requires : tie.Need-piece-by-requires
+piece-by-requires c κs =
+    let at-next-sign = c .before .before .before in
+    subst (ReadInside (at-next-sign .before .before .before .before .before .args .s .now)) (c .before .t .given .1) (at-next-sign .next-sign .ensures .inside)
 
 returns-3 : tie.Need-returns-3
 returns-3 c =
@@ -54,6 +48,7 @@ returns-3 c =
           (place-moves (at-args .args .s .now) (at-args .args .place) (at-blanks-end .blanks-end .result) (at-blanks-end .blanks-end .ensures)
           (at-if1 .if1 .left) (at-next-sign .next-sign .result) h (at-t .t .given .0 .0) (at-t .t .given .0 .1 .0) (at-t .t .given .1))
           (c .piece-by .ensures .moves);
+      inside = c .piece-by .ensures .inside;
       stands = step-stands (at-args .args .s .now) (c .piece-by .result)
           (place-stands (at-args .args .s .now) (at-args .args .place) (at-blanks-end .blanks-end .result) (at-blanks-end .blanks-end .ensures)
           (at-if1 .if1 .left) (at-next-sign .next-sign .result) h (at-t .t .given .0 .0) (at-t .t .given .0 .1 .0) (at-t .t .given .1))
@@ -72,5 +67,5 @@ next-piece-spec =
     (λ c. search needs)
     (λ c. search needs)
     returns-2
-    (λ c κs. search needs)
+    piece-by-requires
     returns-3)

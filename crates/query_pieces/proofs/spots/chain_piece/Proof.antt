@@ -1,5 +1,5 @@
+use Rattle.query_pieces.proofs.PartLaws.{step-stopped}
 use Rattle.query_pieces.proofs.SpotLaws.{step-same, chain-goes, chain-comes, chain-where, chain-match, chain-return, chain-none}
-use Rattle.query_pieces.specs.Steps.{stepOf}
 use mathlib.Core.Path.{sym, _∙_}
 use borrow.Author.Needs.{needs}
 use Rattle.query_pieces.proofs.spots.chain_piece.Statement.{statement}
@@ -41,7 +41,6 @@ returns-5 c =
     (c .returned .ensures)
 
 returns-6 : tie.Need-returns-6
-unfolding stepOf
 returns-6 c =
     let at-is-word2 = c .before .before .before .before in
     let at-if3 = at-is-word2 .before .before in
@@ -50,14 +49,10 @@ returns-6 c =
     let at-if1 = at-if2 .before in
     let at-mark-code = at-if1 .before in
     let at-args = at-mark-code .before .before in
-    record {
-      reads = chain-none (at-args .args .s .now) (at-args .args .t) (at-args .args .q)
-          (λ z. at-if1 .if1 .left (at-mark-code .mark-code .ensures ∙ z)) (λ z. at-if2 .if2 .left (at-mark-code .mark-code .ensures ∙ z))
-          (sym (at-is-word .is-word .ensures) ∙ at-if3 .if3 .left) (sym (at-is-word2 .is-word2 .ensures) ∙ c .before .before .before .if4 .left)
-          (sym (c .before .is-word3 .ensures) ∙ c .if5 .left);
-      moves = tt;
-      stands = tt;
-    }
+    step-stopped (chain-none (at-args .args .s .now) (at-args .args .t) (at-args .args .q)
+    (λ z. at-if1 .if1 .left (at-mark-code .mark-code .ensures ∙ z)) (λ z. at-if2 .if2 .left (at-mark-code .mark-code .ensures ∙ z))
+    (sym (at-is-word .is-word .ensures) ∙ at-if3 .if3 .left) (sym (at-is-word2 .is-word2 .ensures) ∙ c .before .before .before .if4 .left)
+    (sym (c .before .is-word3 .ensures) ∙ c .if5 .left))
 
 pub chain-piece-spec : {M : Type 1} → statement M
 chain-piece-spec =

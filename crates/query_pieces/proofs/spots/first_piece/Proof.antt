@@ -1,5 +1,5 @@
+use Rattle.query_pieces.proofs.PartLaws.{step-stopped}
 use Rattle.query_pieces.proofs.SpotLaws.{step-same, first-match, first-none}
-use Rattle.query_pieces.specs.Steps.{stepOf}
 use mathlib.Core.Path.{sym, _∙_}
 use borrow.Author.Needs.{needs}
 use Rattle.query_pieces.proofs.spots.first_piece.Statement.{statement}
@@ -13,15 +13,9 @@ returns c =
     (c .start .ensures)
 
 returns-2 : tie.Need-returns-2
-unfolding stepOf
 returns-2 c =
     let at-args = c .before .before .before .before in
-    record {
-      reads = first-none (at-args .args .s .now) (at-args .args .t) (at-args .args .q) (sym (c .before .is-word .ensures) ∙ c .if1 .left);
-      moves =
-          tt;
-      stands = tt;
-    }
+    step-stopped (first-none (at-args .args .s .now) (at-args .args .t) (at-args .args .q) (sym (c .before .is-word .ensures) ∙ c .if1 .left))
 
 pub first-piece-spec : {M : Type 1} → statement M
 first-piece-spec =

@@ -1,17 +1,22 @@
-use Rattle.query_signs.specs.Reads.{signOf}
+use Rattle.query_signs.specs.Reads.{signOf, SignInside}
 use Rattle.model.specs.Answers.{nameAt}
 use Rattle.model.specs.Signs.{isWord}
 use Rattle.model.specs.Bytes.{same}
-use mathlib.Core.Path.{sym, ap, _∙_}
+use mathlib.Core.Path.{sym, ap, subst, _∙_}
 use borrow.Author.Needs.{needs}
 use Rattle.query_pieces.proofs.spots.is_word.Statement.{statement}
 use Rattle.query_pieces.proofs.spots.is_word.Tie as tie
+
+part-of-requires : tie.Need-part-of-requires
+part-of-requires c κs =
+    let at-pre = c .before .before .before .before .before in
+    subst (SignInside (at-pre .args .s .now)) (c .before .t .given .1) (at-pre .pre)
 
 returns : tie.Need-returns
 unfolding isWord signOf nameAt
 returns c =
     let at-args = c .before .before .before .before .before .before .before in
-    c .same-bytes .ensures ∙ ap (λ w. same w (at-args .args .word .now)) (c .before .part .ensures)
+    c .same-bytes .ensures ∙ ap (λ w. same w (at-args .args .word .now)) (c .before .part-of .ensures)
     ∙ sym (ap (λ x. isWord (at-args .args .word .now) (signOf (at-args .args .s .now) x)) (c .before .before .before .t .given .1))
 
 returns-2 : tie.Need-returns-2
@@ -37,7 +42,7 @@ is-word-spec =
     tie.close
     (tie.spec
     (λ c. search needs)
-    (λ c κs. search needs)
+    part-of-requires
     (λ c κs. search needs)
     (λ c. search needs)
     (λ c. search needs)

@@ -1,5 +1,5 @@
+use Rattle.query_pieces.proofs.PartLaws.{step-stopped}
 use Rattle.query_pieces.proofs.SpotLaws.{step-same, return-comma, return-none}
-use Rattle.query_pieces.specs.Steps.{stepOf}
 use mathlib.Core.Path.{sym, _∙_}
 use borrow.Author.Needs.{needs}
 use Rattle.query_pieces.proofs.spots.return_piece.Statement.{statement}
@@ -13,14 +13,9 @@ returns c =
     (c .returned .ensures)
 
 returns-2 : tie.Need-returns-2
-unfolding stepOf
 returns-2 c =
     let at-args = c .before .before .before in
-    record {
-      reads = return-none (at-args .args .s .now) (at-args .args .t) (at-args .args .q) (λ z. c .if1 .left (c .before .mark-code .ensures ∙ z));
-      moves = tt;
-      stands = tt;
-    }
+    step-stopped (return-none (at-args .args .s .now) (at-args .args .t) (at-args .args .q) (λ z. c .if1 .left (c .before .mark-code .ensures ∙ z)))
 
 pub return-piece-spec : {M : Type 1} → statement M
 return-piece-spec = tie.close (tie.spec (λ c κs. search needs) (λ c κs. search needs) returns returns-2)

@@ -1,5 +1,5 @@
+use Rattle.query_pieces.proofs.PartLaws.{step-stopped}
 use Rattle.query_pieces.proofs.SpotLaws.{step-same, where-and, where-match, where-return, where-none}
-use Rattle.query_pieces.specs.Steps.{stepOf}
 use mathlib.Core.Path.{sym, _∙_}
 use borrow.Author.Needs.{needs}
 use Rattle.query_pieces.proofs.spots.where_piece.Statement.{statement}
@@ -27,18 +27,13 @@ returns-3 c =
     (c .returned .ensures)
 
 returns-4 : tie.Need-returns-4
-unfolding stepOf
 returns-4 c =
     let at-is-word2 = c .before .before .before .before in
     let at-if1 = at-is-word2 .before .before in
     let at-is-word = at-if1 .before in
     let at-args = at-is-word .before .before .before in
-    record {
-      reads = where-none (at-args .args .s .now) (at-args .args .t) (at-args .args .q) (sym (at-is-word .is-word .ensures) ∙ at-if1 .if1 .left)
-          (sym (at-is-word2 .is-word2 .ensures) ∙ c .before .before .before .if2 .left) (sym (c .before .is-word3 .ensures) ∙ c .if3 .left);
-      moves = tt;
-      stands = tt;
-    }
+    step-stopped (where-none (at-args .args .s .now) (at-args .args .t) (at-args .args .q) (sym (at-is-word .is-word .ensures) ∙ at-if1 .if1 .left)
+    (sym (at-is-word2 .is-word2 .ensures) ∙ c .before .before .before .if2 .left) (sym (c .before .is-word3 .ensures) ∙ c .if3 .left))
 
 pub where-piece-spec : {M : Type 1} → statement M
 where-piece-spec =

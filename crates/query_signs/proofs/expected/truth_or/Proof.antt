@@ -8,17 +8,17 @@ use Rattle.query_signs.proofs.expected.truth_or.Tie as tie
 
 returns : tie.Need-returns
 unfolding truthOr nameAt
-returns c = rw (ap (λ w. same w (bytesOf "true")) (sym (c .before .before .before .part .ensures)) ∙ sym (c .before .same-bytes .ensures) ∙ c .if1 .taken)
+returns c = rw (ap (λ w. same w (bytesOf "true")) (sym (c .before .before .before .part-of .ensures)) ∙ sym (c .before .same-bytes .ensures) ∙ c .if1 .taken)
 
 returns-2 : tie.Need-returns-2
 unfolding truthOr nameAt
 returns-2 c =
     let at-same-bytes = c .before .before .before .before in
-    let at-part = at-same-bytes .before .before in
+    let at-part-of = at-same-bytes .before .before in
     rw (
-      ap (λ w. same w (bytesOf "true")) (sym (at-part .part .ensures)) ∙ sym (at-same-bytes .same-bytes .ensures)
+      ap (λ w. same w (bytesOf "true")) (sym (at-part-of .part-of .ensures)) ∙ sym (at-same-bytes .same-bytes .ensures)
           ∙ c .before .before .before .if1 .left,
-      ap (λ w. same w (bytesOf "false")) (sym (at-part .part .ensures)) ∙ sym (c .before .same-bytes2 .ensures)
+      ap (λ w. same w (bytesOf "false")) (sym (at-part-of .part-of .ensures)) ∙ sym (c .before .same-bytes2 .ensures)
           ∙ c .if2 .taken,
     )
 
@@ -26,11 +26,11 @@ returns-3 : tie.Need-returns-3
 unfolding truthOr nameAt
 returns-3 c =
     let at-same-bytes = c .before .before .before .before in
-    let at-part = at-same-bytes .before .before in
+    let at-part-of = at-same-bytes .before .before in
     rw (
-      ap (λ w. same w (bytesOf "true")) (sym (at-part .part .ensures)) ∙ sym (at-same-bytes .same-bytes .ensures)
+      ap (λ w. same w (bytesOf "true")) (sym (at-part-of .part-of .ensures)) ∙ sym (at-same-bytes .same-bytes .ensures)
           ∙ c .before .before .before .if1 .left,
-      ap (λ w. same w (bytesOf "false")) (sym (at-part .part .ensures)) ∙ sym (c .before .same-bytes2 .ensures)
+      ap (λ w. same w (bytesOf "false")) (sym (at-part-of .part-of .ensures)) ∙ sym (c .before .same-bytes2 .ensures)
           ∙ c .if2 .left,
     )
 

@@ -1,4 +1,5 @@
 use Rattle.query_signs.proofs.ExpectLaws.{value-end, value-mark, value-whole, value-text, value-word}
+use Rattle.query_signs.specs.Reads.{ReadInside}
 use Rattle.query_signs.specs.Expected.{ValueNext}
 use Rattle.query_signs.specs.declared.Sign.{Sign}
 use Rattle.query_signs.specs.declared.SignRead.the-variants.{Found}
@@ -12,6 +13,12 @@ returns c =
     let at-args = c .before .before .before .before in
     value-end (at-args .args .close) (at-args .args .s .now) (at-args .args .from) (c .before .before .next-sign .result)
     (c .before .before .next-sign .ensures) (c .enum-told .given .1)
+
+truth-or-requires : tie.Need-truth-or-requires
+truth-or-requires c κs =
+    let at-t = c .before .before .before .before in
+    subst (ReadInside (at-t .before .before .before .before .args .s .now))
+    (at-t .t .given .1 ∙ ap (λ (t : Sign). Found t (at-t .t .given .0 .1 .0)) (c .before .t2 .given .1)) (at-t .before .before .next-sign .ensures .inside)
 
 returns-2 : tie.Need-returns-2
 returns-2 c =
@@ -59,7 +66,7 @@ value-next-spec =
     (λ c. search needs)
     returns
     (λ c. search needs)
-    (λ c κs. search needs)
+    truth-or-requires
     (λ c. search needs)
     (λ c. search needs)
     (λ c. search needs)

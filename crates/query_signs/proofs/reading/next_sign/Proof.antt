@@ -15,6 +15,7 @@ returns c =
       reads = none-left (at-args .args .chain) (at-args .args .close) (at-args .args .s .now) (at-args .args .from) (c .before .blanks-end .result)
           (c .before .blanks-end .ensures) (c .if1 .taken);
       moves = tt;
+      inside = tt;
       stands = λ o. tt;
     }
 
@@ -28,6 +29,7 @@ returns-2 c =
           (at-blanks-end .blanks-end .result) (at-blanks-end .blanks-end .ensures) (c .before .before .before .if1 .left)
           (ap (gotOf (at-args .args .s .now) (at-blanks-end .blanks-end .result)) (sym (c .enum-told .given .1)) ∙ c .before .before .sign-at .ensures .got);
       moves = tt;
+      inside = tt;
       stands = λ o. tt;
     }
 
@@ -45,6 +47,7 @@ returns-3 c =
           (ap (gotOf (at-args .args .s .now) (at-blanks-end .blanks-end .result)) (sym (at-t .t .given .1)) ∙ at-sign-at .sign-at .ensures .got)
           (sym (c .before .adjoins .ensures) ∙ c .if2 .taken);
       moves = tt;
+      inside = tt;
       stands = λ o. tt;
     }
 
