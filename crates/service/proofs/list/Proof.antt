@@ -1,6 +1,7 @@
 -- `list` meets its contract: the rows of the texts that are ready, or the refusal; then the memory is filled.
+use native.Mathlib.Omega.{arith}
 use Rattle.prepare.proofs.ThroughLaws.{cleared-all}
-use Rattle.service.proofs.ListLaws.{asked-ready, list-refused, list-ready}
+use Rattle.service.proofs.ListLaws.{asked-ready, whole-memory, list-refused, list-ready}
 use borrow.Author.Needs.{needs}
 use Rattle.service.proofs.list.Statement.{statement}
 use Rattle.service.proofs.list.Tie as tie
@@ -15,14 +16,19 @@ returns c =
 from-texts-requires : tie.Need-from-texts-requires
 from-texts-requires c κs =
     let at-prepare = c .before .before .before .before .before .before .before .before in
-    asked-ready _ _ _ _ _ _ _ _ (at-prepare .prepare .ensures) (c .before .before .before .enum-told .given .1)
+    let accepted = c .before .before .before .enum-told .given .1 in
+    let enough = whole-memory _ _ _ _ _ _ _ _ (at-prepare .prepare .ensures) accepted in
+    (asked-ready _ _ _ _ _ _ _ _ (at-prepare .prepare .ensures) accepted, omega (arith, enough))
 
 returns-2 : tie.Need-returns-2
 returns-2 c =
-    let a = c .before .before .before .before .before .before .before .before .before .before .before .before .before .before .before .before .before .before .before .before .before .before .before .before .args in
-    list-ready _ _ _ _ (a .rows .now) (a .work .now) _ _ _ _ _
-    (c .before .before .before .before .before .before .before .before .before .before .before .before .before .before .before .prepare .ensures)
-    (cleared-all (c .before .before .before .before .before .before .before .before .before .before .before .before .before .before .before .before .before .before .before .before .before .before .before .before .args .work .now) _ _ (c .before .before .clear2 .ensures) (search needs)) (c .before .before .before .before .before .before .before .before .before .before .enum-told .given .1) _ (c .before .before .before .before .before .before .from-texts .ensures)
+    let at-clear = c .before .before in
+    let at-from-texts = at-clear .before .before .before .before .before .before in
+    let at-told = at-from-texts .before .before .before .before in
+    let at-prepare = at-told .before .before .before .before .before in
+    let a = at-prepare .before .before .before .before .before .before .before .before .before .args in
+    list-ready _ _ _ _ (a .rows .now) (a .work .now) _ _ _ _ _ (at-prepare .prepare .ensures)
+    (cleared-all (a .work .now) _ _ (at-clear .clear2 .ensures) (search needs)) (at-told .enum-told .given .1) _ (at-from-texts .from-texts .ensures)
 
 pub list-spec : {M : Type 1} → statement M
 list-spec =
