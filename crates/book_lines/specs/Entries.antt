@@ -42,7 +42,7 @@ EntriesTold within text line words c offset declared from (answer.Read known) = 
 EntriesTold within text line words c offset declared from answer.None = (k : List Entry → Maybe BookLine) → entriesForm within line from k ≡ nothing
 
 -- what reading the entries gives
-pub record EntriesDone (within : Form) (text line : Bytes) (words words′ : List ℕ) (c : BookCounts) (offset declared from : ℕ) (r : EntriesAnswer) : Type 0
-  where
-    pub agrees : Agree c words words′
-    pub told : EntriesTold within text line words′ c offset declared from r
+pub record EntriesDone (within : Form) (text line : Bytes) (words words′ : List ℕ) (c : BookCounts) (offset declared from : ℕ)
+    (r : EntriesAnswer) : Type 0 where
+  pub agrees : Agree c words words′
+  pub told : EntriesTold within text line words′ c offset declared from r

@@ -100,8 +100,8 @@ picked false (just a) = refl
 
 module _ {A B : Type 0} (form : Form) (free : Bool) (i : ℕ) (s : Bytes) where
   form-first : (reading : Item → Maybe A) (k : A → ListOf Item → Maybe B)
-      → formAt form free i s (λ is. first reading is k) ≡ restAt (formDepth form) free i s
-      (λ e is. first reading is (λ a is. pick (formEnds form s e) (k a is) nothing))
+      → formAt form free i s (λ is. first reading is k)
+      ≡ restAt (formDepth form) free i s (λ e is. first reading is (λ a is. pick (formEnds form s e) (k a is) nothing))
   unfolding formAt
   form-first reading k = rest-same (formDepth form) free i s _ _ (λ e is. first-pick reading (formEnds form s e) is k)
 
@@ -112,7 +112,7 @@ module _ {A B : Type 0} (form : Form) (free : Bool) (i : ℕ) (s : Bytes) where
   form-each reading k = rest-same (formDepth form) free i s _ _ (λ e is. then-pick (formEnds form s e) (each reading is) k)
 
 module _ {B : Type 0} (form : Form) (free : Bool) (i : ℕ) (s : Bytes) where
-  -- a word or a name is read alike, however many lists may be opened in it
+  -- a word and a name are read alike at every depth d
   pub form-word : (d : ℕ) (k : Bytes → ListOf Item → Maybe B)
       → formAt form free i s (λ is. first asWord is k) ≡ onPiece (wordNext d free s i) (λ p q. formAt form false q s (k (partOf s p (q - p))))
   unfolding formAt
@@ -122,8 +122,8 @@ module _ {B : Type 0} (form : Form) (free : Bool) (i : ℕ) (s : Bytes) where
       ∙ ap (λ (r : ItemAt). onPiece r (λ p q. formAt form false q s (k (partOf s p (q - p))))) (word-depth (formDepth form) d free s i)
 
   pub form-quoted : (k : Bytes → ListOf Item → Maybe B)
-      → formAt form free i s (λ is. first asQuoted is k) ≡ onPiece (quotedNext (formDepth form) free s i)
-      (λ p q. formAt form false (q + 1) s (k (partOf s p (q - p))))
+      → formAt form free i s (λ is. first asQuoted is k)
+      ≡ onPiece (quotedNext (formDepth form) free s i) (λ p q. formAt form false (q + 1) s (k (partOf s p (q - p))))
   unfolding formAt
   form-quoted k = form-first form free i s asQuoted k ∙ first-quoted (formDepth form) free s i (λ e w is. pick (formEnds form s e) (k w is) nothing)
 

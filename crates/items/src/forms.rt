@@ -1,4 +1,4 @@
-// A form: where it opens, its pieces that are lists of a known form, and that nothing follows it but spaces and the brackets that close the lists it stands in.
+// A form: where it opens, its pieces that are lists of a known form, and that nothing follows it but the ends of the lists that it stands in.
 ghost use mathlib.Core.Path.{_≡_};
 ghost use Rattle.items.specs.Rest.{endsAfter};
 ghost use Rattle.items.specs.Forms.{claimRest, claimNext, formOpens, formCloses};
