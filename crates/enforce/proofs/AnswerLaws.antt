@@ -111,6 +111,7 @@ module _ (book : Bytes) (words : List ℕ) (k : BookCounts) (query rules : Bytes
             returns = held .kept .returns;
             labels = labels-below k query rules new c declared;
             attributes = attributes-below k query rules new c declared;
+            values = finished .values;
             counted = exclusions-counted;
             ranged = subst Ranged (sym stays) (weave-ranged all-texts (texts-sound book words k query rules rulesWords rc category clear));
           }

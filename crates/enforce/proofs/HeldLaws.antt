@@ -75,9 +75,11 @@ module _ (book : Bytes) (words : List ℕ) (k : BookCounts) (query rules : Bytes
     first = record { category = category; number = 0; base = 0 }
 
     pub query-ready : wovenWords ≤ length old → TextReady book words k query query rules rulesWords first old c
+    unfolding textOf
     query-ready room = record {
       asked = pattern-asked book words k query (treeOf query) (clear .fits) (clear .query-read);
       short = omega (arith, query-short book words k query rules rulesWords rc category clear);
+      stands = omega arith;
       room = clear .rules-fit .room;
       low = omega (arith, clear .rules-fit .few, clear .counted);
       few-actors = clear .rules-fit .each category (clear .counted) .few-actors;
@@ -161,6 +163,8 @@ module _ (book : Bytes) (words : List ℕ) (k : BookCounts) (query rules : Bytes
       policy-ready = record {
         asked = subst (PatternAsked book words k) (sym part-is) (policy-asked book words k query rules rulesWords rc category clear i there);
         short = omega (arith, ap length part-is, long, inside, rules-short book words k query rules rulesWords rc category clear);
+        stands = rw (many, text-rules query rules (length (below m)) (some-text query rules rulesWords rc category m))
+            (omega (arith, ap length part-is, long, inside));
         room = clear .rules-fit .room;
         low = omega (arith, clear .rules-fit .few, low);
         few-actors = clear .rules-fit .each m low .few-actors;

@@ -17,7 +17,7 @@ use Rattle.rules_tables.specs.Layout.{actorCountAt}
 use Rattle.rules_tables.specs.View.{treeOf, rulesAt}
 use Rattle.rules_tables.specs.Fits.{Fits as RulesFit}
 use Rattle.woven_tables.specs.declared.WovenCounts.{WovenCounts}
-use Rattle.woven_tables.specs.Tables.{wovenAt, wovenWords}
+use Rattle.woven_tables.specs.Tables.{textOf, wovenAt, wovenWords}
 use Rattle.weave.specs.Adding.{Kept}
 use Rattle.weave.specs.Identities.{IdentitiesReady}
 use Rattle.enforce.specs.declared.TextPlace.{TextPlace}
@@ -45,6 +45,7 @@ pub record TextReady (book : Bytes) (words : List ℕ) (k : BookCounts) (text qu
     (c : WovenCounts) : Type 0 where
   pub asked : PatternAsked book words k text
   pub short : t .base + length text ≤ 65536
+  pub stands : t .base + length text ≤ length (textOf query rules (t .number))
   pub room : wovenWords ≤ length rulesWords
   pub low : t .category < 16
   pub few-actors : wordAt rulesWords (actorCountAt (t .category)) ≤ 8

@@ -51,6 +51,7 @@ none-kept q r words h = record {
   returns =
       omega arith;
   counted = λ b. refl;
+  values = λ i l z. omega arith;
 }
 
 -- the kth text, whose pattern was read from it

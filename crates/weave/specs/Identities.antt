@@ -19,6 +19,7 @@ use Rattle.woven_tables.specs.declared.WovenCounts.{WovenCounts}
 use Rattle.woven_tables.specs.Tables.{wovenAt, identityAt, vertexOfWord}
 use Rattle.model.specs.PlainData.{noPart}
 use Rattle.woven_tables.specs.Steps.{KeptOutside}
+use Rattle.woven_tables.specs.Reading.{ClausesInside}
 use Rattle.weave.specs.Adding.{Kept}
 
 -- the node that identities give to a woven vertex
@@ -83,5 +84,6 @@ pub record FinishReady (query rules : Bytes) (words : List ℕ) (c : WovenCounts
 -- the woven pattern stands as it was, with identities; 13 exactly if some vertex is not tied to one
 pub record Finished (query rules : Bytes) (ids : List Identity) (old new : List ℕ) (c : WovenCounts) (out : Bool) : Type 0 where
   pub same-pattern : (b : Book) → wovenAt b query rules new c ≡ wovenAt b query rules old c
+  pub values : ClausesInside query rules new (c .exclusions + c .requirements)
   pub given : (b : Book) (v : ℕ) → v < c .vertices → identityAt new v ≡ identityOf ids (getD (wovenAt b query rules new c .vertices) v noVertex)
   pub fault : (b : Book) → wovenFault (wovenAt b query rules new c) ids ≡ pick out nothing (just 13)

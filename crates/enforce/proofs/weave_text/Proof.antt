@@ -25,6 +25,9 @@ add-pattern-requires c κs =
       few-texts = given .few-texts;
       few-actors = simp (length-take, length-drop) (omega (arith, given .few-actors, given .room, given .low));
       fits = c .before .pattern-of .ensures .words _ (given .short);
+      size = _;
+      stands = given .stands;
+      parts = c .before .pattern-of .ensures .parts;
     }
 
 returns : tie.Need-returns

@@ -85,6 +85,7 @@ returns-5 c =
     (at-if1 .if1 .left) (at-add-vertices .add-vertices .ensures)
     (at-add-rest .add-rest .last .1 .1 .1 .1 .0) (at-add-rest .add-rest .result) (at-count-exclusions .count-exclusions .result)
     (at-add-rest .add-rest .ensures) (at-count-exclusions .count-exclusions .ensures) (at-pre .pre .kept)
+    (at-pre .pre .size) (at-pre .pre .stands) (at-pre .pre .parts)
     (omega (arith, at-pre .pre .kept .room, at-add-vertices .add-vertices .kept .1 .1 .1 .1 .1 .1 .1 .1 .0, at-add-rest .add-rest .kept .1 .1 .1 .1 .0))
     (at-if2 .if2 .left) (at-if3 .if3 .left) (at-if4 .if4 .left)
 
