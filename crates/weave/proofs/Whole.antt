@@ -51,6 +51,7 @@ none-kept q r words h = record {
   returns =
       omega arith;
   counted = λ b. refl;
+  names = λ i l. omega arith;
   values = λ i l z. omega arith;
 }
 

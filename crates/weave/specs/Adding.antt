@@ -14,14 +14,15 @@ use Rattle.model.specs.declared.Pattern.{Pattern}
 use Rattle.woven_tables.specs.declared.WovenCounts.{WovenCounts}
 use Rattle.weave.specs.declared.PatternAdded.{PatternAdded}
 use Rattle.weave.specs.declared.PatternAdded.the-variants.{Woven, Passed}
-use Rattle.woven_tables.specs.Tables.{textOf, edgesAt, clausesAt, returnsAt, wovenAt, wovenWords}
+use Rattle.woven_tables.specs.Tables.{textOf, ActorsInside, VerticesInside, edgesAt, clausesAt, returnsAt, wovenAt, wovenWords}
 use Rattle.weave.specs.OneMore.{oneMore}
 use Rattle.model.specs.PlainData.{PatternFits, PartsWithin}
 use Rattle.woven_tables.specs.Steps.{renumberedEdge}
 use Rattle.woven_tables.specs.Reading.{ClausesInside}
 use Rattle.woven_tables.specs.ClauseSteps.{renumberedClause, namedClause}
 
--- the counts are those of a woven pattern in the words, and within the limits; the text values of its clauses end inside their texts
+-- the counts are those of a woven pattern in the words, and within the limits; the names of its vertices and the text values of its clauses lie inside their
+-- texts
 pub record Kept (query rules : Bytes) (words : List ℕ) (c : WovenCounts) : Type 0 where
   pub room : wovenWords ≤ length words
   pub vertices : c .vertices ≤ 24
@@ -30,6 +31,7 @@ pub record Kept (query rules : Bytes) (words : List ℕ) (c : WovenCounts) : Typ
   pub requirements : c .requirements ≤ 48
   pub returns : c .returns ≤ 4
   pub counted : (b : Book) → length (keep isExcluded (clausesAt b query rules words (c .exclusions + c .requirements))) ≡ c .exclusions
+  pub names : VerticesInside query rules words (c .vertices)
   pub values : ClausesInside query rules words (c .exclusions + c .requirements)
 
 -- the counts of the woven pattern of no text
@@ -41,6 +43,7 @@ pub record TextReady (query rules : Bytes) (words : List ℕ) (c : WovenCounts) 
   pub kept : Kept query rules words c
   pub few-texts : k < 32
   pub few-actors : count ≤ length actors
+  pub known-actors : ActorsInside rules actors count
   pub fits : PatternFits base p
   pub size : ℕ
   pub stands : base + size ≤ length (textOf query rules k)

@@ -8,6 +8,16 @@ use borrow.Author.Needs.{needs}
 use Rattle.weave.proofs.add_pattern.Statement.{statement}
 use Rattle.weave.proofs.add_pattern.Tie as tie
 
+add-vertices-requires : tie.Need-add-vertices-requires
+add-vertices-requires c κs =
+    let given = c .before .before .before .before .before .before .before .pre in (
+      record { few-texts = given .few-texts; few = given .fits .few-vertices; fit = given .fits .vertices },
+      given .few-actors,
+      given .kept .vertices,
+      given .kept .room,
+      record { actors = given .known-actors; woven = given .kept .names; own = λ i l. omega (arith, given .stands, given .parts .vertices i l) },
+    )
+
 returns : tie.Need-returns
 returns c =
     let at-add-vertices = c .before .before .before .before in
@@ -93,7 +103,7 @@ pub add-pattern-spec : {M : Type 1} → statement M
 add-pattern-spec =
     tie.close
     (tie.spec
-    (λ c κs. search needs)
+    add-vertices-requires
     (λ c. search needs)
     returns
     (λ c κs. search needs)
