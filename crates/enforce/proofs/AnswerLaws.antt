@@ -62,8 +62,9 @@ module _ (book : Bytes) (words : List ℕ) (k : BookCounts) (query rules : Bytes
       (length (t .returns)) woven out) (tree-is query tree is) says))
 
   module _ (old new : List ℕ) (c : WovenCounts) (held : Held b k query rules rulesWords rc category (rc .categories) old c) where
-    pub finish-ready : (identities : List IdentityData) (count : ℕ) → IdentitiesReady identities count → FinishReady query rules old c identities count
-    finish-ready identities count ready = record {
+    pub finish-ready : (request : Bytes) (identities : List IdentityData) (count : ℕ) → IdentitiesReady request identities count
+        → FinishReady query rules request old c identities count
+    finish-ready request identities count ready = record {
       kept = held .kept;
       low = woven-low b query rules all-texts old new c (held .held) (texts-sound book words k query rules rulesWords rc category clear);
       identified = ready;
@@ -111,6 +112,7 @@ module _ (book : Bytes) (words : List ℕ) (k : BookCounts) (query rules : Bytes
             returns = held .kept .returns;
             labels = labels-below k query rules new c declared;
             attributes = attributes-below k query rules new c declared;
+            values = finished .values;
             counted = exclusions-counted;
             ranged = subst Ranged (sym stays) (weave-ranged all-texts (texts-sound book words k query rules rulesWords rc category clear));
           }

@@ -1,10 +1,10 @@
 -- The words hold the woven pattern of the texts so far: of the query alone, and with one category more. Assumes nothing.
-use Prim.Native.Nat.{ℕ, _+_, _-_, _≤_, _<_}
+use Prim.Native.Nat.{ℕ, _+_, _-_, _/_, _%_, _≤_, _<_}
 use mathlib.Core.Path.{_≡_, sym, ap, subst, _∙_}
 use mathlib.Core.List.{List, [], _∷_, _++_, map, append-assoc}
 use mathlib.Core.Bool.{true}
 use native.Mathlib.Omega.{arith}
-use lib.ListN.{length, take, drop, length-append, length-drop}
+use lib.ListN.{length, getD, take, drop, length-append, length-drop}
 use lib.Seq.{getD-drop, length-take-le, take-all}
 use Rattle.bits.specs.Word.{bit}
 use Rattle.model.specs.Bytes.{Bytes}
@@ -16,13 +16,14 @@ use Rattle.model.specs.Answers.{partOf, patternIn}
 use Rattle.model.specs.declared.Pattern.{Pattern}
 use Rattle.book_tables.specs.declared.BookCounts.{BookCounts}
 use Rattle.book_tables.specs.View.{bookAt, wordAt, nameIn, nameOf as nameNumbered, namesAt}
+use Rattle.book_tables.specs.Fits.{NamesFit}
 use Rattle.book_tables.proofs.ListedLaws.{listed-same}
 use Rattle.rules_tables.specs.declared.RulesCounts.{RulesCounts}
 use Rattle.rules_tables.specs.Layout.{actorCountAt, actorsFrom, policyAt}
 use Rattle.rules_tables.specs.View.{actorsAt, lowerSet, treeOf, policyText, rulesAt}
 use Rattle.rules_tables.specs.Enforced.{policyPlace, enforcedBelow}
 use Rattle.woven_tables.specs.declared.WovenCounts.{WovenCounts}
-use Rattle.woven_tables.specs.Tables.{textOf, wovenAt, actorsAt as actorsIn, wovenWords}
+use Rattle.woven_tables.specs.Tables.{textOf, ActorsInside, wovenAt, actorsAt as actorsIn, wovenWords}
 use Rattle.model.specs.PlainData.{PartsWithin}
 use Rattle.weave.specs.declared.PatternAdded.{PatternAdded}
 use Rattle.weave.specs.declared.PatternAdded.the-variants.{Woven, Passed}
@@ -52,6 +53,13 @@ own-actors rules words category =
     (take-all (length words - actorsFrom category) (drop (actorsFrom category) words) (simp length-drop (omega arith)))
     ∙ listed-same _ _ (wordAt words (actorCountAt category)) (λ i h. ap (nameIn rules) (getD-drop (actorsFrom category) words i 0))
 
+pub actors-inside : (rules : Bytes) (words : List ℕ) (category : ℕ)
+    → NamesFit rules words (actorsFrom category) (wordAt words (actorCountAt category))
+    → ActorsInside rules (take (length words - actorsFrom category) (drop (actorsFrom category) words)) (wordAt words (actorCountAt category))
+actors-inside rules words category fit i l =
+    let all = take-all (length words - actorsFrom category) (drop (actorsFrom category) words) (simp length-drop (omega arith)) in
+    subst (λ w. w / 32 + w % 32 ≤ length rules) (sym (ap (λ z. getD z i 0) all ∙ getD-drop (actorsFrom category) words i 0)) (fit .inside i l)
+
 -- the part of the rules that is a policy's text
 pub policy-part : (rules : Bytes) (words : List ℕ) (i : ℕ)
     → take (wordAt words (policyAt i + 1) + wordAt words (policyAt i + 2) - wordAt words (policyAt i + 1)) (drop (wordAt words (policyAt i + 1)) rules)
@@ -75,12 +83,15 @@ module _ (book : Bytes) (words : List ℕ) (k : BookCounts) (query rules : Bytes
     first = record { category = category; number = 0; base = 0 }
 
     pub query-ready : wovenWords ≤ length old → TextReady book words k query query rules rulesWords first old c
+    unfolding textOf
     query-ready room = record {
       asked = pattern-asked book words k query (treeOf query) (clear .fits) (clear .query-read);
       short = omega (arith, query-short book words k query rules rulesWords rc category clear);
+      stands = omega arith;
       room = clear .rules-fit .room;
       low = omega (arith, clear .rules-fit .few, clear .counted);
       few-actors = clear .rules-fit .each category (clear .counted) .few-actors;
+      actors = clear .rules-fit .each category (clear .counted) .actors;
       kept = subst (Kept query rules old) (sym none) (none-kept query rules old room);
       few-texts = omega arith;
     }
@@ -161,9 +172,12 @@ module _ (book : Bytes) (words : List ℕ) (k : BookCounts) (query rules : Bytes
       policy-ready = record {
         asked = subst (PatternAsked book words k) (sym part-is) (policy-asked book words k query rules rulesWords rc category clear i there);
         short = omega (arith, ap length part-is, long, inside, rules-short book words k query rules rulesWords rc category clear);
+        stands = rw (many, text-rules query rules (length (below m)) (some-text query rules rulesWords rc category m))
+            (omega (arith, ap length part-is, long, inside));
         room = clear .rules-fit .room;
         low = omega (arith, clear .rules-fit .few, low);
         few-actors = clear .rules-fit .each m low .few-actors;
+        actors = clear .rules-fit .each m low .actors;
         kept = held .kept;
         few-texts = omega (arith, many, few-texts query rules rulesWords rc category m, low, clear .rules-fit .few);
       }

@@ -11,13 +11,13 @@ use Rattle.model.specs.ReadRules.{readRules}
 use Rattle.model.specs.Weave.{weave}
 use Rattle.book_tables.specs.declared.BookCounts.{BookCounts}
 use Rattle.book_tables.specs.View.{bookAt, wordAt}
-use Rattle.book_tables.specs.Fits.{Fits}
+use Rattle.book_tables.specs.Fits.{NamesFit, Fits}
 use Rattle.rules_tables.specs.declared.RulesCounts.{RulesCounts}
-use Rattle.rules_tables.specs.Layout.{actorCountAt}
+use Rattle.rules_tables.specs.Layout.{actorCountAt, actorsFrom}
 use Rattle.rules_tables.specs.View.{treeOf, rulesAt}
 use Rattle.rules_tables.specs.Fits.{Fits as RulesFit}
 use Rattle.woven_tables.specs.declared.WovenCounts.{WovenCounts}
-use Rattle.woven_tables.specs.Tables.{wovenAt, wovenWords}
+use Rattle.woven_tables.specs.Tables.{textOf, wovenAt, wovenWords}
 use Rattle.weave.specs.Adding.{Kept}
 use Rattle.weave.specs.Identities.{IdentitiesReady}
 use Rattle.enforce.specs.declared.TextPlace.{TextPlace}
@@ -36,18 +36,20 @@ pub record TextsClear (book : Bytes) (words : List ℕ) (k : BookCounts) (query 
   pub counted : category < rc .categories
 
 -- what weaving all texts for a request that is ready asks
-pub record AskedReady (book : Bytes) (words : List ℕ) (query rules : Bytes) (rulesWords : List ℕ) (r : Ready) : Type 0 where
+pub record AskedReady (book : Bytes) (words : List ℕ) (query rules : Bytes) (rulesWords : List ℕ) (request : Bytes) (r : Ready) : Type 0 where
   pub texts : TextsClear book words (r .book) query rules rulesWords (r .rules) (r .request .category)
-  pub identified : IdentitiesReady (r .request .identities) (r .request .count)
+  pub identified : IdentitiesReady request (r .request .identities) (r .request .count)
 
 -- what weaving one text asks
 pub record TextReady (book : Bytes) (words : List ℕ) (k : BookCounts) (text query rules : Bytes) (rulesWords : List ℕ) (t : TextPlace) (woven : List ℕ)
     (c : WovenCounts) : Type 0 where
   pub asked : PatternAsked book words k text
   pub short : t .base + length text ≤ 65536
+  pub stands : t .base + length text ≤ length (textOf query rules (t .number))
   pub room : wovenWords ≤ length rulesWords
   pub low : t .category < 16
   pub few-actors : wordAt rulesWords (actorCountAt (t .category)) ≤ 8
+  pub actors : NamesFit rules rulesWords (actorsFrom (t .category)) (wordAt rulesWords (actorCountAt (t .category)))
   pub kept : Kept query rules woven c
   pub few-texts : t .number < 32
 

@@ -44,7 +44,8 @@ pub fn weave_request(
     ready: Ready,
     woven: &mut [u32],
 ) -> AskedWoven
-    requires { ⌜ AskedReady (now book) (now words) (now query) (now rules) (now «rules_words») ready × (wovenWords ≤ length (now woven)) ⌝ }
+    requires { ⌜ AskedReady (now book) (now words) (now query) (now rules) (now «rules_words») (now request) ready
+        × (wovenWords ≤ length (now woven)) ⌝ }
     ensures { λ r. ⌜ AskedAnswer (now (book .entry)) (now (words .entry)) (now (query .entry)) (now (rules .entry)) (now («rules_words» .entry))
         (now (request .entry)) ready (now (woven .exit)) r ⌝ }
 {

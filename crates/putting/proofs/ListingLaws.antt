@@ -1,32 +1,20 @@
--- Laws of the texts that are put: parts of a text, and listings that grow at their end. Assumes nothing.
-use Prim.Native.Nat.{ℕ, suc, _+_, _-_, _<_}
+-- Laws of the texts that are put: listings that grow at their end. Assumes nothing.
+use Prim.Native.Nat.{ℕ, suc, _+_, _<_}
 use mathlib.Core.Bool.{Bool, true, false}
 use mathlib.Core.Path.{_≡_, refl, sym, ap, _∙_}
 use mathlib.Core.List.{List, [], _∷_, _++_, map, append-assoc, append-nil}
 use native.Mathlib.Numerals.{add-one}
 use native.Mathlib.Omega.{arith}
 use lib.Dec.{eqb}
-use lib.ListN.{length, take, drop, getD, length-drop, length-map, drop-of-length-le}
-use lib.Seq.{take-all, take-nil, take-suc, length-take-le}
+use lib.ListN.{length, take, getD, length-map}
+use lib.Seq.{take-suc, length-take-le}
 use borrow.Author.Tests.{eq-eqb, ne-eqb}
 use Rattle.model.specs.Bytes.{Bytes}
 use Rattle.model.specs.Choice.{pick}
-use Rattle.model.specs.Answers.{partOf}
 use Rattle.model.specs.Writing.{eachBehind}
 use Rattle.putting.specs.Putting.{Puts}
 use Rattle.putting.proofs.PuttingLaws.{puts-nothing, puts-then, puts-same}
 use Rattle.putting.specs.Listing.{before, listing}
-
--- A part that runs past the end of its text ends there, and one that starts past it has no bytes.
-pub part-long : (text : Bytes) (start size : ℕ) → length text - start < size → take (length text - start) (drop start text) ≡ partOf text start size
-unfolding partOf
-part-long text start size h =
-    let n : length (drop start text) ≡ length text - start = length-drop start text in
-    take-all (length text - start) (drop start text) (omega arith) ∙ sym (take-all size (drop start text) (omega arith))
-
-pub part-none : (text : Bytes) (start size : ℕ) → length text < start → take 0 text ≡ partOf text start size
-unfolding partOf
-part-none text start size h = sym (ap (take size) (drop-of-length-le text {i = start} (omega arith)) ∙ take-nil size)
 
 -- One text before the first and before the others.
 pub before-all : (sep : Bytes) (i : ℕ) → before sep sep i ≡ sep

@@ -1,11 +1,13 @@
 -- A buffer that takes bytes one behind another: those past its end are counted, and not kept.
-use Prim.Native.Nat.{ℕ, _+_}
+use Prim.Native.Nat.{ℕ, _+_, _/_, _%_, _<_}
 use mathlib.Core.Path.{_≡_}
-use mathlib.Core.List.{[], _∷_}
-use lib.ListN.{set}
+use mathlib.Core.List.{List, [], _∷_}
+use lib.ListN.{length, set}
 use lib.Dec.{ltb}
 use Rattle.model.specs.Bytes.{Bytes}
 use Rattle.model.specs.Choice.{pick}
+use Rattle.book_tables.specs.View.{wordAt}
+use Rattle.book_tables.specs.Fits.{Inside}
 
 -- a buffer's bytes, and the place of the next one
 pub record Buffer : Type 0 where
@@ -32,3 +34,8 @@ withText b (x ∷ t) = withText (withByte b x) t
 -- a text is put at a place of a buffer: what the buffer then holds, and the place behind the text
 pub record Puts (out : Bytes) (at : ℕ) (t : Bytes) (out′ : Bytes) (at′ : ℕ) : Type 0 where
   pub is : record { bytes = out′; place = at′ } ≡ withText (record { bytes = out; place = at }) t
+
+-- a name of the book by its number in the table at an offset: its word is there, and says a part of the book
+pub record Declared (book : Bytes) (words : List ℕ) (offset number : ℕ) : Type 0 where
+  pub room : offset + number < length words
+  pub inside : Inside book (wordAt words (offset + number) / 32) (wordAt words (offset + number) % 32)

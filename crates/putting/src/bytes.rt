@@ -1,13 +1,14 @@
 // Putting bytes into a buffer, one behind another: those past its end are counted, and not kept.
 ghost use mathlib.Core.Path.{_≡_};
 ghost use mathlib.Core.List.{[], _∷_};
-ghost use Prim.Native.Nat.{_+_, _<_};
-ghost use lib.ListN.{length};
-ghost use Rattle.model.specs.Answers.{partOf};
+ghost use Rattle.model.specs.Answers.{nameAt};
+ghost use Rattle.text.specs.Parts.{HasPart};
 ghost use Rattle.book_tables.specs.View.{nameOf};
-ghost use Rattle.putting.specs.Putting.{further, Puts};
+ghost use Rattle.putting.specs.Putting.{further, Puts, Declared};
 ghost use Rattle.putting.specs.Listing.{before};
 use book_tables::names::NAME_LENGTHS;
+use model::Part;
+use text::parts;
 
 // Places are counted as far as numbers go.
 const LAST_PLACE: usize = 18446744073709551615;
@@ -54,10 +55,11 @@ pub fn put_before(i: usize, first: &[u8], next: &[u8], out: &mut [u8], at: usize
 }
 
 // Puts a part of a text.
-pub fn put_part(text: &[u8], start: usize, length: usize, out: &mut [u8], at: usize) -> usize
-    ensures { λ r. ⌜ Puts (now (out .entry)) at (partOf (now (text .entry)) start length) (now (out .exit)) r ⌝ }
+pub fn put_part(text: &[u8], part: Part, out: &mut [u8], at: usize) -> usize
+    requires { ⌜ HasPart (now text) part ⌝ }
+    ensures { λ r. ⌜ Puts (now (out .entry)) at (nameAt (now (text .entry)) part) (now (out .exit)) r ⌝ }
 {
-    put_bytes(part(text, start, length), out, at)
+    put_bytes(parts::part_of(text, part), out, at)
 }
 
 // Puts the name of a number in the book's table at an offset.
@@ -69,24 +71,13 @@ pub fn put_declared(
     out: &mut [u8],
     at: usize,
 ) -> usize
-    requires { ⌜ offset + number < length (now words) ⌝ }
+    requires { ⌜ Declared (now book) (now words) offset number ⌝ }
     ensures { λ r. ⌜ Puts (now (out .entry)) at (nameOf (now (book .entry)) (now (words .entry)) offset number) (now (out .exit)) r ⌝ }
 {
     let word = words[offset + number] as usize;
-    put_part(book, word / NAME_LENGTHS, word % NAME_LENGTHS, out, at)
-}
-
-// The part of a text from start on, of a length; fewer bytes at the text's end.
-fn part(text: &[u8], start: usize, length: usize) -> &[u8]
-    ensures { λ r. ⌜ now r ≡ partOf (now (text .entry)) start length ⌝ }
-{
-    if start <= text.len() {
-        if length <= text.len() - start {
-            &text[start..start + length]
-        } else {
-            &text[start..]
-        }
-    } else {
-        &text[..0]
-    }
+    let name = Part {
+        start: word / NAME_LENGTHS,
+        length: word % NAME_LENGTHS,
+    };
+    put_part(book, name, out, at)
 }

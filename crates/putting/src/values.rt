@@ -2,8 +2,10 @@
 ghost use Rattle.model.specs.Values.{bool, str};
 ghost use Rattle.model.specs.Answers.{partOf};
 ghost use Rattle.model.specs.Writing.{digits, wholeText, valueText};
+ghost use Rattle.book_tables.specs.Fits.{Inside};
 ghost use Rattle.putting.specs.Putting.{Puts};
 use crate::bytes;
+use model::Part;
 
 // A whole number z is kept as z + 2^63.
 const ZERO_KEPT: u64 = 9223372036854775808;
@@ -40,10 +42,12 @@ pub fn put_whole(n: u64, out: &mut [u8], at: usize) -> usize
 
 // Puts a text value, a part of a text, between apostrophes.
 pub fn put_quoted(text: &[u8], start: usize, length: usize, out: &mut [u8], at: usize) -> usize
+    requires { ⌜ Inside (now text) start length ⌝ }
     ensures { λ r. ⌜ Puts (now (out .entry)) at (valueText (str (partOf (now (text .entry)) start length))) (now (out .exit)) r ⌝ }
 {
     let opened = bytes::put_byte(b'\'', out, at);
-    let next = bytes::put_part(text, start, length, out, opened);
+    let value = Part { start, length };
+    let next = bytes::put_part(text, value, out, opened);
     bytes::put_byte(b'\'', out, next)
 }
 

@@ -1,44 +1,52 @@
--- A pattern that can be written lies inside the arrays and the tables. Assumes nothing.
-use Prim.Native.Nat.{ℕ, _≤_}
+-- A pattern that can be written lies inside the arrays, the query's text and the tables. Assumes nothing.
+use Prim.Native.Nat.{ℕ, _+_, _≤_, _<_}
 use mathlib.Core.List.{List}
 use native.Mathlib.Omega.{arith}
 use lib.ListN.{length, getD}
 use Rattle.model.specs.Bytes.{Bytes}
-use Rattle.model.specs.PlainData.{noClause}
+use Rattle.model.specs.PlainData.{noClause, ConditionWithin}
 use Rattle.model.specs.declared.Condition.{Condition}
 use Rattle.model.specs.declared.Condition.the-variants.{Excluded, OfVertex, OfEdge}
 use Rattle.model.specs.declared.Pattern.{Pattern}
 use Rattle.book_tables.specs.declared.BookCounts.{BookCounts}
-use Rattle.book_tables.specs.Fits.{Within}
-use Rattle.query_writer.specs.Writable.{ConditionFits, PatternFits, arrayLimits, countLimits, Writable}
+use Rattle.book_tables.specs.Fits.{NamesFit}
+use Rattle.putting.specs.Putting.{Declared}
+use Rattle.query_writer.specs.Writable.{ConditionFits, countLimits, Writable}
+use Rattle.query_writer.specs.Inside.{VertexInside, ConditionInside, PatternInside}
 
--- Numbers below the counts are inside the arrays and the tables.
-condition-inside : (c : BookCounts) (p : Pattern) → Within c → p .counts .vertices ≤ 8 → p .counts .edges ≤ 16 → (x : Condition)
-    → ConditionFits (countLimits c p) x → ConditionFits arrayLimits x
-condition-inside c p w v e (Excluded a b) f = (omega (arith, f .0), omega (arith, f .1))
-condition-inside c p w v e (OfVertex a r) f = (omega (arith, f .0), omega (arith, f .1, w .vattrs))
-condition-inside c p w v e (OfEdge a r) f = (omega (arith, f .0), omega (arith, f .1, w .eattrs))
+module _ {book : Bytes} {words : List ℕ} {c : BookCounts} {query : Bytes} {p : Pattern} (w : Writable book words c query p) where
+  -- a name counted at an offset, a vertex counted in the pattern
+  declared : (offset count : ℕ) → NamesFit book words offset count → offset + count ≤ 160 → (i : ℕ) → i < count → Declared book words offset i
+  declared offset count names h i l = record { room = omega (arith, w .fits .room); inside = names .inside i l }
 
-module _ {book : Bytes} {words : List ℕ} {c : BookCounts} {p : Pattern} (w : Writable book words c p) where
-  pub inside-arrays : PatternFits arrayLimits p
-  inside-arrays =
-      let few : p .counts .vertices ≤ 8 = w .pattern .vertices in
-      let edges : p .counts .edges ≤ 16 = w .pattern .edges .few in
-      let labels : c .labels ≤ 32 = w .fits .within .labels in
-      record {
-        vertices = few;
-        edges = record {
-          few = edges;
-          each = λ i h. let f = w .pattern .edges .each i h in
-              record { label = omega (arith, f .label); from = omega (arith, f .from); to = omega (arith, f .to) };
-        };
-        clauses = record {
-          few = w .pattern .clauses .few;
-          each = λ i h. condition-inside c p (w .fits .within) few edges
-              (getD (p .clauses) i noClause .condition) (w .pattern .clauses .each i h);
-        };
-        returns = record { few = w .pattern .returns .few; each = λ i h. omega (arith, w .pattern .returns .each i h) };
-      }
+  vertex-inside : (v : ℕ) → v < p .counts .vertices → VertexInside query (p .vertices) v
+  vertex-inside v h = (omega (arith, w .pattern .vertices), w .parts .vertices v h)
 
-  pub tables-inside : 160 ≤ length words
-  tables-inside = omega (arith, w .fits .room)
+  condition-inside : (x : Condition) → ConditionFits (countLimits c p) x → ConditionWithin (length query) x
+      → ConditionInside book words query (p .vertices) (p .edges) x
+  condition-inside (Excluded u v) f k = (vertex-inside u (f .0), vertex-inside v (f .1))
+  condition-inside (OfVertex v r) f k =
+      (vertex-inside v (f .0), record { attribute = declared _ _ (w .fits .vattrs) (omega (arith, w .fits .within .vattrs)) _ (f .1); value = k })
+  condition-inside (OfEdge e r) f k = (
+    (omega (arith, f .0, w .pattern .edges .few), w .parts .edges e (f .0)),
+    record { attribute = declared _ _ (w .fits .eattrs) (omega (arith, w .fits .within .eattrs)) _ (f .1); value = k },
+  )
+
+  pub pattern-inside : PatternInside book words query p
+  pattern-inside = record {
+    vertices = record { few = w .pattern .vertices; each = w .parts .vertices };
+    edges = record {
+      few = w .pattern .edges .few;
+      each = λ i h. let f = w .pattern .edges .each i h in record {
+        from = vertex-inside _ (f .from);
+        to = vertex-inside _ (f .to);
+        name = w .parts .edges i h;
+        label = declared _ _ (w .fits .labels) (omega (arith, w .fits .within .labels)) _ (f .label);
+      };
+    };
+    clauses = record {
+      few = w .pattern .clauses .few;
+      each = λ i h. condition-inside (getD (p .clauses) i noClause .condition) (w .pattern .clauses .each i h) (w .parts .clauses i h);
+    };
+    returns = record { few = w .pattern .returns .few; each = λ i h. vertex-inside _ (w .pattern .returns .each i h) };
+  }

@@ -128,7 +128,7 @@ no-edges c p f none =
     either (equal-or-not (p .counts .edges) 0) (λ e. e)
     (λ e. let from = f .edges .each 0 (omega (arith, e .1)) .from in absurd (omega arith))
 
-module _ (book : Bytes) (words : List ℕ) (c : BookCounts) (q : Bytes) (p : Pattern) (w : Writable book words c p) (all : length (p .vertices) ≡ 8) where
+module _ (book : Bytes) (words : List ℕ) (c : BookCounts) (q : Bytes) (p : Pattern) (w : Writable book words c q p) (all : length (p .vertices) ≡ 8) where
   -- The Matches, the conditions and the Return names as they are written.
   edges-same : map (edgePiece book words q (p .vertices)) (take (p .counts .edges) (p .edges))
       ≡ map (edgeText (patternIn (bookAt book words c) q p)) (map (edgeIn (bookAt book words c) q) (take (p .counts .edges) (p .edges)))

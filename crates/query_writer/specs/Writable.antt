@@ -1,9 +1,9 @@
 -- What the query writer asks of its caller.
 use Prim.Native.Nat.{ℕ, _≤_, _<_}
 use mathlib.Core.List.{List}
-use lib.ListN.{getD}
+use lib.ListN.{length, getD}
 use Rattle.model.specs.Bytes.{Bytes}
-use Rattle.model.specs.PlainData.{noEdge, noClause}
+use Rattle.model.specs.PlainData.{noEdge, noClause, PartsWithin}
 use Rattle.model.specs.declared.Edge.{Edge}
 use Rattle.model.specs.declared.Condition.{Condition}
 use Rattle.model.specs.declared.Condition.the-variants.{Excluded, OfVertex, OfEdge}
@@ -52,15 +52,12 @@ pub record PatternFits (m : Limits) (p : Pattern) : Type 0 where
   pub clauses : ClausesFit m (p .clauses) (p .counts .clauses)
   pub returns : ReturnsFit m (p .returns) (p .counts .returns)
 
--- the limits of a pattern's arrays and of the book's tables
-abbrev pub arrayLimits : Limits
-arrayLimits = record { vertices = 8; edges = 16; labels = 32; vattrs = 32; eattrs = 32 }
-
 -- the limits of what a pattern and a book have
 abbrev pub countLimits : BookCounts → Pattern → Limits
 countLimits c p = record { vertices = p .counts .vertices; edges = p .counts .edges; labels = c .labels; vattrs = c .vattrs; eattrs = c .eattrs }
 
--- a pattern can be written: the words hold a book, and all that the pattern names is there
-pub record Writable (book : Bytes) (words : List ℕ) (c : BookCounts) (p : Pattern) : Type 0 where
+-- a pattern can be written: the words hold a book, all that the pattern names is there, and its names and texts stand in the query
+pub record Writable (book : Bytes) (words : List ℕ) (c : BookCounts) (query : Bytes) (p : Pattern) : Type 0 where
   pub fits : Fits book words c
   pub pattern : PatternFits (countLimits c p) p
+  pub parts : PartsWithin (length query) p

@@ -1,13 +1,12 @@
 // Putting the conditions: Where before the first, AND between two, in the order of the text.
 ghost use mathlib.Core.List.{_++_};
-ghost use Prim.Native.Nat.{_+_, _<_, _≤_};
-ghost use lib.ListN.{length};
 ghost use Rattle.model.specs.Bytes.{bytesOf};
 ghost use Rattle.model.specs.Answers.{nameAt};
 ghost use Rattle.putting.specs.Putting.{Puts};
 ghost use Rattle.putting.specs.Listing.{before};
 ghost use Rattle.query_writer.specs.Pieces.{requirementPiece, conditionPiece, conditionsText};
-ghost use Rattle.query_writer.specs.Writable.{arrayLimits, ConditionFits, ClausesFit};
+ghost use Rattle.text.specs.Parts.{HasPart};
+ghost use Rattle.query_writer.specs.Inside.{RequirementInside, ConditionInside, ClausesInside};
 use crate::values;
 use book_tables::EATTR_NAMES;
 use book_tables::VATTR_NAMES;
@@ -33,7 +32,7 @@ pub fn put_conditions(
     out: &mut [u8],
     at: usize,
 ) -> usize
-    requires { ⌜ ClausesFit arrayLimits clauses count × (160 ≤ length (now words)) ⌝ }
+    requires { ⌜ ClausesInside (now book) (now words) (now query) vertices edges clauses count ⌝ }
     ensures { λ r. ⌜ Puts (now (out .entry)) at (conditionsText (now (book .entry)) (now (words .entry)) (now (query .entry)) vertices edges clauses count)
         (now (out .exit)) r ⌝ }
 {
@@ -67,7 +66,7 @@ fn put_condition(
     out: &mut [u8],
     at: usize,
 ) -> usize
-    requires { ⌜ ConditionFits arrayLimits condition × (160 ≤ length (now words)) ⌝ }
+    requires { ⌜ ConditionInside (now book) (now words) (now query) vertices edges condition ⌝ }
     ensures { λ r. ⌜ Puts (now (out .entry)) at (conditionPiece (now (book .entry)) (now (words .entry)) (now (query .entry)) vertices edges condition)
         (now (out .exit)) r ⌝ }
 {
@@ -95,12 +94,13 @@ fn put_condition(
 
 // Puts that two vertices differ.
 fn put_exclusion(query: &[u8], first: Part, second: Part, out: &mut [u8], at: usize) -> usize
+    requires { ⌜ HasPart (now query) first × HasPart (now query) second ⌝ }
     ensures { λ r. ⌜ Puts (now (out .entry)) at (nameAt (now (query .entry)) first ++ bytesOf " <> " ++ nameAt (now (query .entry)) second)
         (now (out .exit)) r ⌝ }
 {
-    let at = bytes::put_part(query, first.start, first.length, out, at);
+    let at = bytes::put_part(query, first, out, at);
     let at = bytes::put_bytes(b" <> ", out, at);
-    bytes::put_part(query, second.start, second.length, out, at)
+    bytes::put_part(query, second, out, at)
 }
 
 // Puts what an attribute, one of those declared at an offset, must be.
@@ -114,14 +114,14 @@ fn put_requirement(
     out: &mut [u8],
     at: usize,
 ) -> usize
-    requires { ⌜ offset + requirement .attribute < length (now words) ⌝ }
+    requires { ⌜ HasPart (now query) owner × RequirementInside (now book) (now words) (now query) offset requirement ⌝ }
     ensures { λ r. ⌜ Puts (now (out .entry)) at
         (requirementPiece (now (book .entry)) (now (words .entry)) (now (query .entry)) offset (nameAt (now (query .entry)) owner) requirement)
         (now (out .exit)) r ⌝ }
 {
     let relation = requirement.relation;
     let value = requirement.value;
-    let at = bytes::put_part(query, owner.start, owner.length, out, at);
+    let at = bytes::put_part(query, owner, out, at);
     let at = bytes::put_bytes(b".", out, at);
     let at = bytes::put_declared(book, words, offset, requirement.attribute, out, at);
     let at = bytes::put_bytes(b" ", out, at);

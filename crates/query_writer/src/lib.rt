@@ -1,13 +1,12 @@
 // The query writer: a pattern's text into a lent buffer, or its refusal where the text does not fit.
-ghost use Prim.Native.Nat.{_≤_};
-ghost use lib.ListN.{length};
 ghost use Rattle.model.specs.Answers.{patternIn};
 ghost use Rattle.model.specs.Writing.{writtenQuery};
 ghost use Rattle.book_tables.specs.View.{bookAt};
 ghost use Rattle.putting.specs.Putting.{Puts};
 ghost use Rattle.putting.specs.Whole.{Writes};
 ghost use Rattle.query_writer.specs.Pieces.{patternText};
-ghost use Rattle.query_writer.specs.Writable.{arrayLimits, PatternFits, Writable};
+ghost use Rattle.query_writer.specs.Writable.{Writable};
+ghost use Rattle.query_writer.specs.Inside.{PatternInside};
 use book_tables::BookCounts;
 use model::Pattern;
 use model::limits::MAX_QUERY_BYTES;
@@ -28,7 +27,7 @@ pub fn write_query(
     pattern: Pattern,
     out: &mut [u8],
 ) -> Written
-    requires { ⌜ Writable (now book) (now words) counts pattern ⌝ }
+    requires { ⌜ Writable (now book) (now words) counts (now query) pattern ⌝ }
     ensures { λ r. ⌜ Writes 2048 (writtenQuery (patternIn (bookAt (now (book .entry)) (now (words .entry)) counts) (now (query .entry)) pattern))
         (now (out .entry)) (now (out .exit)) r ⌝ }
 {
@@ -49,7 +48,7 @@ fn put_query(
     out: &mut [u8],
     at: usize,
 ) -> usize
-    requires { ⌜ PatternFits arrayLimits pattern × (160 ≤ length (now words)) ⌝ }
+    requires { ⌜ PatternInside (now book) (now words) (now query) pattern ⌝ }
     ensures { λ r. ⌜ Puts (now (out .entry)) at (patternText (now (book .entry)) (now (words .entry)) (now (query .entry)) pattern) (now (out .exit)) r ⌝ }
 {
     let vertices = pattern.vertices;

@@ -1,12 +1,11 @@
 // Putting the Matches: one for each vertex, then one for each edge.
 ghost use mathlib.Core.List.{[], _++_};
-ghost use Prim.Native.Nat.{_<_, _≤_};
-ghost use lib.ListN.{length};
 ghost use Rattle.model.specs.Bytes.{bytesOf};
 ghost use Rattle.putting.specs.Putting.{Puts};
 ghost use Rattle.putting.specs.Listing.{before};
 ghost use Rattle.query_writer.specs.Pieces.{vertexPiece, edgePiece, verticesText, edgesText};
-ghost use Rattle.query_writer.specs.Writable.{arrayLimits, EdgeFits, EdgesFit};
+ghost use Rattle.text.specs.Parts.{HasPart};
+ghost use Rattle.query_writer.specs.Inside.{EdgeInside, VerticesInside, EdgesInside};
 use book_tables::LABEL_NAMES;
 use model::Edge;
 use model::Part;
@@ -22,7 +21,7 @@ pub fn put_vertices(
     out: &mut [u8],
     at: usize,
 ) -> usize
-    requires { ⌜ count ≤ 8 ⌝ }
+    requires { ⌜ VerticesInside (now query) vertices count ⌝ }
     ensures { λ r. ⌜ Puts (now (out .entry)) at (verticesText (now (query .entry)) vertices count) (now (out .exit)) r ⌝ }
 {
     let mut next = at;
@@ -46,7 +45,7 @@ pub fn put_edges(
     out: &mut [u8],
     at: usize,
 ) -> usize
-    requires { ⌜ EdgesFit arrayLimits edges count × (160 ≤ length (now words)) ⌝ }
+    requires { ⌜ EdgesInside (now book) (now words) (now query) vertices edges count ⌝ }
     ensures { λ r. ⌜ Puts (now (out .entry)) at (edgesText (now (book .entry)) (now (words .entry)) (now (query .entry)) vertices edges count)
         (now (out .exit)) r ⌝ }
 {
@@ -62,11 +61,12 @@ pub fn put_edges(
 
 // Puts Match (v), behind a space if it is not the first.
 fn put_vertex(query: &[u8], i: usize, name: Part, out: &mut [u8], at: usize) -> usize
+    requires { ⌜ HasPart (now query) name ⌝ }
     ensures { λ r. ⌜ Puts (now (out .entry)) at (before [] (bytesOf " ") i ++ vertexPiece (now (query .entry)) name) (now (out .exit)) r ⌝ }
 {
     let at = bytes::put_before(i, b"", b" ", out, at);
     let at = bytes::put_bytes(b"Match (", out, at);
-    let at = bytes::put_part(query, name.start, name.length, out, at);
+    let at = bytes::put_part(query, name, out, at);
     bytes::put_bytes(b")", out, at)
 }
 
@@ -80,7 +80,7 @@ fn put_edge(
     out: &mut [u8],
     at: usize,
 ) -> usize
-    requires { ⌜ EdgeFits arrayLimits edge × (160 ≤ length (now words)) ⌝ }
+    requires { ⌜ EdgeInside (now book) (now words) (now query) vertices edge ⌝ }
     ensures { λ r. ⌜ Puts (now (out .entry)) at (bytesOf " " ++ edgePiece (now (book .entry)) (now (words .entry)) (now (query .entry)) vertices edge)
         (now (out .exit)) r ⌝ }
 {
@@ -90,12 +90,12 @@ fn put_edge(
     let to = vertices[v];
     let name = edge.name;
     let at = bytes::put_bytes(b" Match (", out, at);
-    let at = bytes::put_part(query, from.start, from.length, out, at);
+    let at = bytes::put_part(query, from, out, at);
     let at = bytes::put_bytes(b")-[", out, at);
-    let at = bytes::put_part(query, name.start, name.length, out, at);
+    let at = bytes::put_part(query, name, out, at);
     let at = bytes::put_bytes(b":", out, at);
     let at = bytes::put_declared(book, words, LABEL_NAMES, edge.label, out, at);
     let at = bytes::put_bytes(b"]->(", out, at);
-    let at = bytes::put_part(query, to.start, to.length, out, at);
+    let at = bytes::put_part(query, to, out, at);
     bytes::put_bytes(b")", out, at)
 }

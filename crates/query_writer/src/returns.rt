@@ -5,7 +5,8 @@ ghost use Rattle.model.specs.Answers.{nameAt};
 ghost use Rattle.putting.specs.Putting.{Puts};
 ghost use Rattle.putting.specs.Listing.{before};
 ghost use Rattle.query_writer.specs.Pieces.{returnsText};
-ghost use Rattle.query_writer.specs.Writable.{arrayLimits, ReturnsFit};
+ghost use Rattle.text.specs.Parts.{HasPart};
+ghost use Rattle.query_writer.specs.Inside.{ReturnsInside};
 use model::Part;
 use model::limits::MAX_RETURNS;
 use model::limits::MAX_VERTICES;
@@ -20,7 +21,7 @@ pub fn put_returns(
     out: &mut [u8],
     at: usize,
 ) -> usize
-    requires { ⌜ ReturnsFit arrayLimits returns count ⌝ }
+    requires { ⌜ ReturnsInside (now query) vertices returns count ⌝ }
     ensures { λ r. ⌜ Puts (now (out .entry)) at (returnsText (now (query .entry)) vertices returns count) (now (out .exit)) r ⌝ }
 {
     let mut next = at;
@@ -36,8 +37,9 @@ pub fn put_returns(
 
 // Puts a name, behind a comma if it is not the first.
 fn put_return(query: &[u8], i: usize, name: Part, out: &mut [u8], at: usize) -> usize
+    requires { ⌜ HasPart (now query) name ⌝ }
     ensures { λ r. ⌜ Puts (now (out .entry)) at (before [] (bytesOf ", ") i ++ nameAt (now (query .entry)) name) (now (out .exit)) r ⌝ }
 {
     let at = bytes::put_before(i, b"", b", ", out, at);
-    bytes::put_part(query, name.start, name.length, out, at)
+    bytes::put_part(query, name, out, at)
 }

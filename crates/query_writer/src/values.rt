@@ -1,5 +1,7 @@
 // Putting values and relations.
+ghost use lib.ListN.{length};
 ghost use Rattle.model.specs.Answers.{relationOf, valueOf};
+ghost use Rattle.model.specs.PlainData.{ValueWithin};
 ghost use Rattle.model.specs.Writing.{valueText, relationText};
 ghost use Rattle.putting.specs.Putting.{Puts};
 use model::Relation;
@@ -9,6 +11,7 @@ use putting::values;
 
 // Puts a value, whose text stands in the query's.
 pub fn put_value(query: &[u8], value: Value, out: &mut [u8], at: usize) -> usize
+    requires { ⌜ ValueWithin (length (now query)) value ⌝ }
     ensures { λ r. ⌜ Puts (now (out .entry)) at (valueText (valueOf (now (query .entry)) value)) (now (out .exit)) r ⌝ }
 {
     match value {

@@ -71,8 +71,8 @@ module _ (work : ℕ) (text book rules query request : Bytes) (words table : Lis
     writer-asked = pattern-asked book words (r .book) query (treeOf query) (all .rules-ready .fits) (all .query-read)
 
     module _ (p : PatternData) (read : PatternRead b (r .book) query p) where
-      pub writable : Writable book words (r .book) p
-      writable = record { fits = all .rules-ready .fits; pattern = read .fits }
+      pub writable : Writable book words (r .book) query p
+      writable = record { fits = all .rules-ready .fits; pattern = read .fits; parts = read .parts }
 
       abbrev written : Bytes
       written = writtenQuery (patternIn b query p)

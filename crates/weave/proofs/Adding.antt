@@ -1,10 +1,10 @@
 -- Laws of weaving one text: what its parts are asked for, and the woven pattern that they make together. Assumes nothing.
-use Prim.Native.Nat.{ℕ, _+_, _<_}
+use Prim.Native.Nat.{ℕ, _+_, _<_, _≤_}
 use mathlib.Core.Path.{_≡_, refl, sym, ap, _∙_}
 use mathlib.Core.Logic.{inl, inr}
 use mathlib.Core.List.{List, _++_, map}
 use native.Mathlib.Omega.{arith}
-use lib.ListN.{getD, take, drop}
+use lib.ListN.{length, getD, take, drop}
 use borrow.Author.Tests.{eq-eqb, ne-eqb}
 use Rattle.model.specs.Bytes.{Bytes}
 use Rattle.model.specs.Choice.{pick}
@@ -15,12 +15,13 @@ use Rattle.model.specs.declared.Condition.the-variants.{Excluded, OfVertex, OfE
 use Rattle.model.specs.declared.Pattern.{Pattern as PatternData}
 use Rattle.woven_tables.specs.declared.WovenCounts.{WovenCounts}
 use Rattle.woven_tables.specs.Tables.{textOf, edgesAt, clausesAt, returnsAt}
-use Rattle.model.specs.PlainData.{noEdge, noClause, ConditionFits}
+use Rattle.model.specs.PlainData.{noEdge, noClause, ConditionFits, PartsWithin}
+use Rattle.woven_tables.specs.Reading.{ClausesInside}
 use Rattle.woven_tables.specs.Steps.{renumberedEdge, EdgesReady, EdgesAdded, ReturnsReady, ReturnsAdded}
 use Rattle.woven_tables.specs.ClauseSteps.{renumberedClause, namedClause, ConditionReady, ClausesReady, ClausesAdded}
 use Rattle.weave.specs.Adding.{RestReady, RestAdded}
 use Rattle.woven_tables.proofs.EdgeLaws.{edges-same}
-use Rattle.woven_tables.proofs.ClauseTable.{clauses-same}
+use Rattle.woven_tables.proofs.ClauseTable.{clauses-same, inside-same}
 use Rattle.woven_tables.proofs.ReturnLaws.{returns-same}
 
 -- what a text's edges, clauses and Return vertices are asked for
@@ -88,11 +89,20 @@ module _ (k base : ℕ) (p : PatternData) (numbers : List ℕ) (c : WovenCounts)
         ∙ clauses .clauses-are b q r
         ∙ ap (λ z. z ++ own) (clauses-same b q r old one (c .exclusions + c .requirements) (λ i l u. edges .kept i (inr (omega arith))))
 
+    inside-then : (new : List ℕ) → ((i : ℕ) → i < 408 → getD new i 0 ≡ getD two i 0) → (query rules : Bytes) (size : ℕ)
+        → base + size ≤ length (textOf query rules k) → PartsWithin size p
+        → ClausesInside query rules old (c .exclusions + c .requirements) → ClausesInside query rules new (c .exclusions + c .requirements + p .counts .clauses)
+    inside-then new kept q r n h w before =
+        let room = ready .room-clauses in
+        inside-same q r two new (c .exclusions + c .requirements + p .counts .clauses) (λ i l u. kept i (omega arith))
+        (clauses .inside q r n h (w .clauses) (inside-same q r old one (c .exclusions + c .requirements) (λ i l u. edges .kept i (inr (omega arith))) before))
+
     pub rest-of-query : (new : List ℕ) → ReturnsAdded (p .returns) (p .counts .returns) numbers two new → k ≡ 0
         → RestAdded k base p numbers old new c (p .counts .returns)
     rest-of-query new returns e = record {
       edges-are = edges-then new (λ i h. returns .kept i (inl (omega arith)));
       clauses-are = clauses-then new (λ i h. returns .kept i (inl (omega arith)));
+      inside = inside-then new (λ i h. returns .kept i (inl (omega arith)));
       few-returns = ready .fits .few-returns;
       returns-are = returns .returns-are ∙ ap (λ t. pick t (map (λ v. getD numbers v 0) (take (p .counts .returns) (p .returns)))
           (returnsAt old (c .returns))) (sym (eq-eqb k 0 e));
@@ -105,6 +115,7 @@ module _ (k base : ℕ) (p : PatternData) (numbers : List ℕ) (c : WovenCounts)
         record {
           edges-are = edges-then two (λ i h. refl);
           clauses-are = clauses-then two (λ i h. refl);
+          inside = inside-then two (λ i h. refl);
           few-returns = few;
           returns-are = returns-same old two (c .returns) (λ i l u. clauses .kept i (inr (omega arith)) ∙ edges .kept i (inr (omega arith)))
               ∙ ap (λ t. pick t (map (λ v. getD numbers v 0) (take (p .counts .returns) (p .returns))) (returnsAt old (c .returns))) (sym (ne-eqb k 0 e));

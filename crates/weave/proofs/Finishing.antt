@@ -20,13 +20,14 @@ use Rattle.bits.specs.Word.{bit}
 use Rattle.book_tables.proofs.ListedLaws.{getD-listed}
 use Rattle.woven_tables.specs.declared.WovenCounts.{WovenCounts}
 use Rattle.woven_tables.specs.Tables.{vertexOfWord, edgeAt, verticesAt, edgesAt, clausesAt, wovenAt}
+use Rattle.woven_tables.specs.Reading.{ClausesInside}
 use Rattle.weave.specs.OneMore.{Ranged}
 use Rattle.weave.specs.Adding.{Kept}
 use Rattle.weave.specs.Identities.{identityOf, IdentitiesGiven, markedBelow, fromOf, toOf, EdgesLow, TiedBy, Finished}
 use Rattle.weave.proofs.Limits.{exclusions, requirements, within-limits}
 use Rattle.woven_tables.proofs.VertexLaws.{length-vertices, vertices-same}
 use Rattle.woven_tables.proofs.EdgeLaws.{edges-same}
-use Rattle.woven_tables.proofs.ClauseTable.{clauses-same}
+use Rattle.woven_tables.proofs.ClauseTable.{clauses-same, inside-same}
 use Rattle.woven_tables.proofs.ReturnLaws.{returns-same}
 use Rattle.weave.proofs.OneText.{length-edges, length-clauses, keep-both}
 use Rattle.model.proofs.Places.{keep-same}
@@ -76,6 +77,12 @@ module _ (q r : Bytes) (ids : List Identity) (old new : List ℕ) (c : WovenCoun
       let returns = returns-same old new (c .returns) (λ i l u. given .kept i (inl (omega arith))) in
       λ i. record { vertices = vertices i; edges = edges i; clauses = clauses i; returns = returns i }
 
+  values-stay : ClausesInside q r new (c .exclusions + c .requirements)
+  values-stay =
+      let few-exclusions = kept .exclusions in
+      let few-requirements = kept .requirements in
+      inside-same q r old new (c .exclusions + c .requirements) (λ i l u. given .kept i (inl (omega arith))) (kept .values)
+
   vertex-is : (v : ℕ) → v < c .vertices → vertexOfWord q r (getD old v 0) ≡ getD (verticesAt q r new (c .vertices)) v noVertex
   vertex-is v h = let few = kept .vertices in ap (vertexOfWord q r) (sym (given .kept v (inl (omega arith)))) ∙ sym (vertex-at q r new (c .vertices) v h)
 
@@ -116,6 +123,7 @@ module _ (q r : Bytes) (ids : List Identity) (old new : List ℕ) (c : WovenCoun
     unfolding wovenFault lowest
     finished answer e = record {
       same-pattern = pattern-stays;
+      values = values-stay;
       given = λ b v h. given .given v h ∙ ap (identityOf ids) (woven-vertex b v h);
       fault = λ b. ap₂ (λ x y. pick {A = Maybe ℕ} x (just 12) (pick (not y) (just 13) nothing))
           (ap wovenTooMany (pattern-stays b) ∙ kept-within b q r old c kept) (all-tied b ∙ sym e) ∙ by-answer answer;

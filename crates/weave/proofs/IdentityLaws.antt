@@ -15,7 +15,7 @@ use Rattle.model.specs.Choice.{pick, nothing, just}
 use Rattle.model.specs.Lists.{any}
 use Rattle.model.specs.Request.{Identity}
 use Rattle.model.specs.Weave.{WovenVertex, identifiedBy}
-use Rattle.model.specs.Answers.{partOf, nameAt, identityIn}
+use Rattle.model.specs.Answers.{nameAt, identityIn}
 use Rattle.model.specs.declared.Identity.{Identity as IdentityData}
 use Rattle.model.proofs.Places.{getD-map, length-map}
 use Rattle.bits.specs.Word.{bit, with}
@@ -158,7 +158,7 @@ given-more q r ids old words i mask node so-far low size said =
 
 -- an actor vertex's name was compared
 pub compared : (q r request : Bytes) (w : ℕ) (x : IdentityData) (name : Bytes) (t : Bool) → w % 2 ≡ 1
-    → name ≡ partOf request (x .actor .start) (x .actor .length) → t ≡ same (nameOf q r (w / 2)) name
+    → name ≡ nameAt request (x .actor) → t ≡ same (nameOf q r (w / 2)) name
     → identifiedBy (vertexOfWord q r w) (identityIn request x) ≡ t
-unfolding identifiedBy identityIn nameAt
+unfolding identifiedBy identityIn
 compared q r request w x name t e n s = ap (λ v. identifiedBy v (identityIn request x)) (of-actor q r w e) ∙ ap (same (nameOf q r (w / 2))) (sym n) ∙ sym s

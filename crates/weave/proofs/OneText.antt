@@ -1,6 +1,6 @@
 -- Weaving one text into the words makes the woven pattern of one text more, or passes a limit. Assumes nothing.
-use Prim.Native.Nat.{ℕ, zero, suc, _+_, _-_, _<_, _≤_}
-use mathlib.Core.Path.{_≡_, refl, sym, ap, ap₂, _∙_}
+use Prim.Native.Nat.{ℕ, zero, suc, _+_, _-_, _/_, _<_, _≤_}
+use mathlib.Core.Path.{_≡_, refl, sym, ap, ap₂, subst, _∙_}
 use mathlib.Core.Logic.{inl, inr}
 use mathlib.Core.List.{List, [], _∷_, _++_, map}
 use mathlib.Core.Bool.{Bool, true, false, not}
@@ -26,9 +26,10 @@ use Rattle.book_tables.proofs.ListedLaws.{length-listed}
 use Rattle.woven_tables.specs.declared.WovenCounts.{WovenCounts}
 use Rattle.woven_tables.specs.declared.vertices.Numbers.{Numbers}
 use Rattle.weave.specs.declared.PatternAdded.the-variants.{Woven}
-use Rattle.woven_tables.specs.Tables.{textOf, verticesAt, edgesAt, clausesAt, wovenAt, wovenWords}
+use Rattle.woven_tables.specs.Tables.{textOf, NameInside, verticesAt, edgesAt, clausesAt, wovenAt, wovenWords}
 use Rattle.weave.specs.OneMore.{underNames, moreVertices, oneMore, ClauseWithin}
-use Rattle.model.specs.PlainData.{noEdge, noClause, ConditionFits, PatternFits}
+use Rattle.model.specs.PlainData.{noEdge, noClause, ConditionFits, PatternFits, PartsWithin}
+use Rattle.woven_tables.specs.Reading.{ClausesInside}
 use Rattle.woven_tables.specs.Steps.{renumberedEdge, VerticesAdded, textVertices}
 use Rattle.woven_tables.specs.ClauseSteps.{renumberedClause, namedClause, ExclusionsCounted}
 use Rattle.weave.specs.Adding.{Kept, TextAdded, RestAdded}
@@ -38,7 +39,7 @@ use Rattle.weave.proofs.Limits.{exclusions, requirements, passed-is-too
 use Rattle.woven_tables.proofs.Kept.{keep-append}
 use Rattle.woven_tables.proofs.VertexLaws.{length-vertices, vertices-same}
 use Rattle.woven_tables.proofs.EdgeLaws.{edges-same}
-use Rattle.woven_tables.proofs.ClauseTable.{clauses-same}
+use Rattle.woven_tables.proofs.ClauseTable.{clauses-same, inside-same}
 use Rattle.woven_tables.proofs.ReturnLaws.{returns-same}
 use Rattle.model.proofs.WovenVertices.{at-vertex, first-vertices-i}
 
@@ -271,7 +272,8 @@ module _ (q r : Bytes) (actors : List Bytes) (k base : ℕ) (p : PatternData) (o
         ∙ ap₂ (λ x y. x + y) (kept .counted b) (keep-map isExcluded f cs (renumbered-excluded (numbered .numbers) (c .edges))
         ∙ counted .exactly b (textFrom q r k base))
 
-    pub text-woven : wovenWords ≤ length new → c .edges + p .counts .edges ≤ 48 → c .exclusions + n ≤ 48 → c .requirements + (p .counts .clauses - n) ≤ 48
+    pub text-woven : (size : ℕ) → base + size ≤ length (textOf q r k) → PartsWithin size p → wovenWords ≤ length new
+        → c .edges + p .counts .edges ≤ 48 → c .exclusions + n ≤ 48 → c .requirements + (p .counts .clauses - n) ≤ 48
         → TextAdded q r actors k base p old new c
         (Woven (record {
           vertices = numbered .count;
@@ -282,15 +284,18 @@ module _ (q r : Bytes) (actors : List Bytes) (k base : ℕ) (p : PatternData) (o
           returns = out;
         }))
     unfolding oneMore moreVertices underNames patternIn wovenAt
-    text-woven size few-edges few-exclusions few-requirements = (
+    text-woven size stands parts room few-edges few-exclusions few-requirements = (
       record {
-        room = size;
+        room = room;
         vertices = few;
         edges = few-edges;
         exclusions = few-exclusions;
         requirements = few-requirements;
         returns = rest .few-returns;
         counted = exclusions-counted;
+        names = λ i l. subst (λ w. NameInside q r (w / 2)) (sym (rest .vertices-kept i (omega arith))) (added .inside few i l);
+        values = subst (ClausesInside q r new) (sym sums) (rest .inside q r size stands parts
+            (inside-same q r old one (c .exclusions + c .requirements) (λ i l u. added .kept i (inr (omega arith))) (kept .values)));
       },
       λ b.
           let vertices = vertices-same q r one new (numbered .count) (λ i h. rest .vertices-kept i (omega arith)) ∙ added .vertices few in

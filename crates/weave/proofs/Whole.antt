@@ -51,6 +51,8 @@ none-kept q r words h = record {
   returns =
       omega arith;
   counted = λ b. refl;
+  names = λ i l. omega arith;
+  values = λ i l z. omega arith;
 }
 
 -- the kth text, whose pattern was read from it

@@ -14,13 +14,15 @@ use Rattle.model.specs.declared.Pattern.{Pattern}
 use Rattle.woven_tables.specs.declared.WovenCounts.{WovenCounts}
 use Rattle.weave.specs.declared.PatternAdded.{PatternAdded}
 use Rattle.weave.specs.declared.PatternAdded.the-variants.{Woven, Passed}
-use Rattle.woven_tables.specs.Tables.{textOf, edgesAt, clausesAt, returnsAt, wovenAt, wovenWords}
+use Rattle.woven_tables.specs.Tables.{textOf, ActorsInside, VerticesInside, edgesAt, clausesAt, returnsAt, wovenAt, wovenWords}
 use Rattle.weave.specs.OneMore.{oneMore}
-use Rattle.model.specs.PlainData.{PatternFits}
+use Rattle.model.specs.PlainData.{PatternFits, PartsWithin}
 use Rattle.woven_tables.specs.Steps.{renumberedEdge}
+use Rattle.woven_tables.specs.Reading.{ClausesInside}
 use Rattle.woven_tables.specs.ClauseSteps.{renumberedClause, namedClause}
 
--- the counts are those of a woven pattern in the words, and within the limits
+-- the counts are those of a woven pattern in the words, and within the limits; the names of its vertices and the text values of its clauses lie inside their
+-- texts
 pub record Kept (query rules : Bytes) (words : List ℕ) (c : WovenCounts) : Type 0 where
   pub room : wovenWords ≤ length words
   pub vertices : c .vertices ≤ 24
@@ -29,17 +31,23 @@ pub record Kept (query rules : Bytes) (words : List ℕ) (c : WovenCounts) : Typ
   pub requirements : c .requirements ≤ 48
   pub returns : c .returns ≤ 4
   pub counted : (b : Book) → length (keep isExcluded (clausesAt b query rules words (c .exclusions + c .requirements))) ≡ c .exclusions
+  pub names : VerticesInside query rules words (c .vertices)
+  pub values : ClausesInside query rules words (c .exclusions + c .requirements)
 
 -- the counts of the woven pattern of no text
 abbrev pub noCounts : WovenCounts
 noCounts = record { vertices = 0; edges = 0; exclusions = 0; requirements = 0; returns = 0 }
 
--- what is asked of a text, the kth, whose names stand from a base on
+-- what is asked of a text, the kth, whose names and text values stand from a base on in so many bytes
 pub record TextReady (query rules : Bytes) (words : List ℕ) (c : WovenCounts) (actors : List ℕ) (count k base : ℕ) (p : Pattern) : Type 0 where
   pub kept : Kept query rules words c
   pub few-texts : k < 32
   pub few-actors : count ≤ length actors
+  pub known-actors : ActorsInside rules actors count
   pub fits : PatternFits base p
+  pub size : ℕ
+  pub stands : base + size ≤ length (textOf query rules k)
+  pub parts : PartsWithin size p
 
 -- the words hold the woven pattern with the text, or a limit is passed; b is whatever book the labels and attributes are numbered in
 abbrev pub TextAdded : Bytes → Bytes → List Bytes → ℕ → ℕ → Pattern → List ℕ → List ℕ → WovenCounts → PatternAdded → Type 0
@@ -66,6 +74,8 @@ pub record RestAdded (k base : ℕ) (p : Pattern) (numbers old new : List ℕ) (
   pub clauses-are : (b : Book) (query rules : Bytes) → clausesAt b query rules new (c .exclusions + c .requirements + p .counts .clauses)
       ≡ clausesAt b query rules old (c .exclusions + c .requirements)
       ++ map (renumberedClause numbers (c .edges)) (map (namedClause b (drop base (textOf query rules k))) (take (p .counts .clauses) (p .clauses)))
+  pub inside : (query rules : Bytes) (size : ℕ) → base + size ≤ length (textOf query rules k) → PartsWithin size p
+      → ClausesInside query rules old (c .exclusions + c .requirements) → ClausesInside query rules new (c .exclusions + c .requirements + p .counts .clauses)
   pub few-returns : out ≤ 4
   pub returns-are : returnsAt new out ≡ pick (eqb k 0) (map (λ v. getD numbers v 0) (take (p .counts .returns) (p .returns))) (returnsAt old (c .returns))
   pub vertices-kept : (i : ℕ) → i < 24 → getD new i 0 ≡ getD old i 0

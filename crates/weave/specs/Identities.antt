@@ -14,11 +14,13 @@ use Rattle.model.specs.Weave.{stepsAlong, wovenFault, WovenVertex, noVertex, id
 use Rattle.model.specs.Answers.{identityIn}
 use Rattle.model.specs.declared.Identity.{Identity as IdentityData}
 use Rattle.bits.specs.Word.{bit}
+use Rattle.text.specs.Parts.{HasPart}
 use Rattle.book_tables.specs.Listed.{listed}
 use Rattle.woven_tables.specs.declared.WovenCounts.{WovenCounts}
 use Rattle.woven_tables.specs.Tables.{wovenAt, identityAt, vertexOfWord}
 use Rattle.model.specs.PlainData.{noPart}
 use Rattle.woven_tables.specs.Steps.{KeptOutside}
+use Rattle.woven_tables.specs.Reading.{ClausesInside}
 use Rattle.weave.specs.Adding.{Kept}
 
 -- the node that identities give to a woven vertex
@@ -34,9 +36,10 @@ identitiesIn request identities count = map (identityIn request) (take count ide
 abbrev pub noIdentity : IdentityData
 noIdentity = record { actor = noPart; node = 0 }
 
--- what is asked of identities: few, and their nodes are numbers of nodes
-pub record IdentitiesReady (identities : List IdentityData) (count : ℕ) : Type 0 where
+-- what is asked of identities: few, their actors are parts of the request, and their nodes are numbers of nodes
+pub record IdentitiesReady (request : Bytes) (identities : List IdentityData) (count : ℕ) : Type 0 where
   pub few : count ≤ 8
+  pub actors : (i : ℕ) → i < count → HasPart request (getD identities i noIdentity .actor)
   pub nodes : (i : ℕ) → i < count → getD identities i noIdentity .node < 256
 
 -- each woven vertex has the node that its identity gives, or none, and the marked vertices are those that have one
@@ -75,13 +78,14 @@ TiedBy words vertices edges mask out =
     → markedBelow vertices out ≡ stepsAlong vertices (wovenAt b query rules words c) (markedBelow vertices mask)
 
 -- what is asked of the words before identities are given
-pub record FinishReady (query rules : Bytes) (words : List ℕ) (c : WovenCounts) (identities : List IdentityData) (count : ℕ) : Type 0 where
+pub record FinishReady (query rules request : Bytes) (words : List ℕ) (c : WovenCounts) (identities : List IdentityData) (count : ℕ) : Type 0 where
   pub kept : Kept query rules words c
   pub low : EdgesLow words (c .edges) (c .vertices)
-  pub identified : IdentitiesReady identities count
+  pub identified : IdentitiesReady request identities count
 
 -- the woven pattern stands as it was, with identities; 13 exactly if some vertex is not tied to one
 pub record Finished (query rules : Bytes) (ids : List Identity) (old new : List ℕ) (c : WovenCounts) (out : Bool) : Type 0 where
   pub same-pattern : (b : Book) → wovenAt b query rules new c ≡ wovenAt b query rules old c
+  pub values : ClausesInside query rules new (c .exclusions + c .requirements)
   pub given : (b : Book) (v : ℕ) → v < c .vertices → identityAt new v ≡ identityOf ids (getD (wovenAt b query rules new c .vertices) v noVertex)
   pub fault : (b : Book) → wovenFault (wovenAt b query rules new c) ids ≡ pick out nothing (just 13)

@@ -1,12 +1,13 @@
 // Identities on the woven vertices: the actor vertex of an identity's name has its node.
 ghost use mathlib.Core.Path.{_≡_};
-ghost use Prim.Native.Nat.{_≤_};
+ghost use Prim.Native.Nat.{_/_, _≤_};
 ghost use lib.ListN.{length};
-ghost use Rattle.woven_tables.specs.Tables.{vertexOfWord, nodeIn, wovenWords};
+ghost use Rattle.woven_tables.specs.Tables.{NameInside, VerticesInside, vertexOfWord, nodeIn, wovenWords};
 ghost use Rattle.weave.specs.Identities.{identityOf, identitiesIn, IdentitiesReady, IdentitiesGiven};
 use crate::marks;
 use model::Identity;
 use model::limits::MAX_IDENTITIES;
+use text::parts::part_of;
 use woven_tables::IDENTITIES;
 use woven_tables::NO_NODE;
 use woven_tables::names;
@@ -21,7 +22,7 @@ fn find_identity(
     count: usize,
     word: u32,
 ) -> u32
-    requires { ⌜ IdentitiesReady identities count ⌝ }
+    requires { ⌜ IdentitiesReady (now request) identities count × NameInside (now query) (now rules) (word / 2) ⌝ }
     ensures { λ r. ⌜ nodeIn r ≡ identityOf (identitiesIn (now (request .entry)) identities count)
         (vertexOfWord (now (query .entry)) (now (rules .entry)) word) ⌝ }
 {
@@ -30,7 +31,7 @@ fn find_identity(
         while i < count {
             let identity = identities[i];
             let actor = identity.actor;
-            let name = names::part(request, actor.start, actor.length);
+            let name = part_of(request, actor);
             if names::says(query, rules, word / VERTEX_KINDS, name) {
                 return identity.node as u32;
             }
@@ -51,7 +52,8 @@ pub fn give_identities(
     words: &mut [u32],
     n: usize,
 ) -> u32
-    requires { ⌜ IdentitiesReady identities count × (n ≤ 24) × (wovenWords ≤ length (now words)) ⌝ }
+    requires { ⌜ IdentitiesReady (now request) identities count × (n ≤ 24) × (wovenWords ≤ length (now words))
+        × VerticesInside (now query) (now rules) (now words) n ⌝ }
     ensures { λ r. ⌜ IdentitiesGiven (now (query .entry)) (now (rules .entry)) (identitiesIn (now (request .entry)) identities count) (now (words .entry))
         (now (words .exit)) n r ⌝ }
 {

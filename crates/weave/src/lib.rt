@@ -142,7 +142,7 @@ pub fn finish(
     words: &mut [u32],
     counts: WovenCounts,
 ) -> bool
-    requires { ⌜ FinishReady (now query) (now rules) (now words) counts identities count ⌝ }
+    requires { ⌜ FinishReady (now query) (now rules) (now request) (now words) counts identities count ⌝ }
     ensures { λ r. ⌜ Finished (now (query .entry)) (now (rules .entry)) (identitiesIn (now (request .entry)) identities count) (now (words .entry))
         (now (words .exit)) counts r ⌝ }
 {

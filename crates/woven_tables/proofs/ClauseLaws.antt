@@ -1,6 +1,6 @@
 -- Laws of the clause table: the words of a relation, a value and a clause say it. Assumes nothing.
 use Prim.Native.Nat.{ℕ, _+_, _*_, _/_, _%_, _<_}
-use mathlib.Core.Path.{_≡_, sym, ap, _∙_}
+use mathlib.Core.Path.{_≡_, sym, ap, subst, _∙_}
 use mathlib.Core.List.{List, []}
 use mathlib.Core.Bool.{Bool, true, false}
 use native.Mathlib.Omega.{arith}
@@ -18,6 +18,7 @@ use Rattle.model.specs.declared.Condition.{Condition}
 use Rattle.model.specs.declared.Condition.the-variants.{Excluded, OfVertex, OfEdge}
 use Rattle.model.specs.declared.Value.{Value}
 use Rattle.model.specs.declared.Value.the-variants.{Number, Text, Truth}
+use Rattle.model.specs.PlainData.{ValueWithin, ConditionWithin}
 use Rattle.woven_tables.specs.Tables.{textOf, relationAt, valueAt, clauseAt}
 use Rattle.woven_tables.specs.declared.clauses.ClauseValue.{ClauseValue}
 use Rattle.woven_tables.specs.declared.clauses.ClauseWords.{ClauseWords}
@@ -34,7 +35,7 @@ module _ (base : ℕ) (value : Value) where
   unfolding valueAt valueOf
   number-said n e =
       let h : n / 4294967296 * 4294967296 + n % 4294967296 ≡ n = omega arith in
-      record { kind = omega arith; said = λ text. ap int h ∙ ap (valueOf (drop base text)) (sym e) }
+      record { kind = omega arith; said = λ text. ap int h ∙ ap (valueOf (drop base text)) (sym e); inside = λ n w z. omega arith }
 
   pub text-said : (start size : ℕ) → value ≡ Text start size → ValueSaid base value (record { kind = 1; high = base + start; low = size })
   unfolding valueAt valueOf
@@ -42,15 +43,16 @@ module _ (base : ℕ) (value : Value) where
     kind = omega arith;
     said = λ text. ap str (sym (part-of-rest text base start size))
         ∙ ap (valueOf (drop base text)) (sym e);
+    inside = λ n w z. let f = subst (ValueWithin n) e w in omega arith;
   }
 
   pub true-said : (t : Bool) → value ≡ Truth t → t ≡ true → ValueSaid base value (record { kind = 2; high = 0; low = 1 })
   unfolding valueAt valueOf
-  true-said t e f = record { kind = omega arith; said = λ text. ap bool (sym f) ∙ ap (valueOf (drop base text)) (sym e) }
+  true-said t e f = record { kind = omega arith; said = λ text. ap bool (sym f) ∙ ap (valueOf (drop base text)) (sym e); inside = λ n w z. omega arith }
 
   pub false-said : (t : Bool) → value ≡ Truth t → t ≡ false → ValueSaid base value (record { kind = 2; high = 0; low = 0 })
   unfolding valueAt valueOf
-  false-said t e f = record { kind = omega arith; said = λ text. ap bool (sym f) ∙ ap (valueOf (drop base text)) (sym e) }
+  false-said t e f = record { kind = omega arith; said = λ text. ap bool (sym f) ∙ ap (valueOf (drop base text)) (sym e); inside = λ n w z. omega arith }
 
 -- the attribute and the owner in a clause's first word
 attribute-digit : (top a low what : ℕ) → a < 32 → low < 128 → what ≡ top * 4096 + a * 128 + low → what / 128 % 32 ≡ a
@@ -78,6 +80,7 @@ requirement-said k base kind owner x v n what few-texts few-kinds few-owners few
       attribute = attribute-digit (k * 64 + owner) a (n * 16 + d * 4 + kind) what few-attributes (omega arith) (omega arith);
       its-owner = owner-digit k owner (a * 128 + n * 16 + d * 4 + kind) what few-owners (omega arith) (omega arith);
       text-number = omega arith;
+      inside = λ n w z. value .inside n w (sym its-value ∙ z);
     }
 
 -- the words of a condition, by its kind
@@ -85,7 +88,10 @@ module _ (k base : ℕ) (numbers : List ℕ) (before : ℕ) (condition : Conditi
   pub exclusion-said : (u v : ℕ) → condition ≡ Excluded u v
       → ClauseSaid k base numbers before condition (record { what = 0; high = getD numbers u 0; low = getD numbers v 0 })
   unfolding clauseAt clauseIn renumberedClause
-  exclusion-said u v e b q r = ap (λ c. renumberedClause numbers before (clauseIn b (drop base (textOf q r k)) c)) (sym e)
+  exclusion-said u v e = record {
+    is = λ b q r. ap (λ c. renumberedClause numbers before (clauseIn b (drop base (textOf q r k)) c)) (sym e);
+    inside = λ q r n h w z. omega arith;
+  }
 
   -- a requirement's parts, put together
   clause-parts : (b : Book) (q r : Bytes) (out : ClauseWords) (kind owner : ℕ) (x : Requirement) → RequirementSaid k base kind owner x out
@@ -105,11 +111,17 @@ module _ (k base : ℕ) (numbers : List ℕ) (before : ℕ) (condition : Conditi
   pub of-vertex-said : (v : ℕ) (x : Requirement) (out : ClauseWords) → condition ≡ OfVertex v x → RequirementSaid k base 1 (getD numbers v 0) x out
       → ClauseSaid k base numbers before condition out
   unfolding clauseIn renumberedClause
-  of-vertex-said v x out e said b q r = clause-parts b q r out 1 (getD numbers v 0) x said
-      ∙ ap (λ c. renumberedClause numbers before (clauseIn b (drop base (textOf q r k)) c)) (sym e)
+  of-vertex-said v x out e said = record {
+    is = λ b q r. clause-parts b q r out 1 (getD numbers v 0) x said
+        ∙ ap (λ c. renumberedClause numbers before (clauseIn b (drop base (textOf q r k)) c)) (sym e);
+    inside = λ q r n h w z. rw (said .text-number) (omega (arith, said .inside n (subst (ConditionWithin n) e w) z));
+  }
 
   pub of-edge-said : (j : ℕ) (x : Requirement) (out : ClauseWords) → condition ≡ OfEdge j x → RequirementSaid k base 2 (before + j) x out
       → ClauseSaid k base numbers before condition out
   unfolding clauseIn renumberedClause
-  of-edge-said j x out e said b q r = clause-parts b q r out 2 (before + j) x said
-      ∙ ap (λ c. renumberedClause numbers before (clauseIn b (drop base (textOf q r k)) c)) (sym e)
+  of-edge-said j x out e said = record {
+    is = λ b q r. clause-parts b q r out 2 (before + j) x said
+        ∙ ap (λ c. renumberedClause numbers before (clauseIn b (drop base (textOf q r k)) c)) (sym e);
+    inside = λ q r n h w z. rw (said .text-number) (omega (arith, said .inside n (subst (ConditionWithin n) e w) z));
+  }

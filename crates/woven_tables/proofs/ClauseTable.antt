@@ -1,12 +1,13 @@
 -- Laws of the clause table: a stored clause stands behind those there; the exclusions among a text's clauses. Assumes nothing.
 use Prim.Native.Nat.{ℕ, _+_, _*_, _<_, _≤_}
-use mathlib.Core.Path.{_≡_, refl, sym, ap, ap₂, _∙_}
+use mathlib.Core.Path.{_≡_, refl, sym, ap, ap₂, subst, _∙_}
 use mathlib.Core.Logic.{_≢_, _⊎_, ⊎-elim}
 use mathlib.Core.List.{List, [], _∷_, _++_, map, append-assoc, append-nil}
 use native.Mathlib.Numerals.{add-one}
 use native.Mathlib.Omega.{arith}
 use lib.ListN.{length, getD, set, take, drop, length-set, length-append}
 use lib.Seq.{getD-set-same, getD-set-other, take-suc, length-take-le}
+use Rattle.logic.specs.Tests.{either, below-or-not}
 use Rattle.model.specs.Bytes.{Bytes}
 use Rattle.model.specs.Lists.{keep}
 use Rattle.model.specs.Book.{Book}
@@ -20,6 +21,7 @@ use Rattle.woven_tables.specs.declared.clauses.ClauseWords.{ClauseWords}
 use Rattle.woven_tables.specs.Tables.{textOf, clauseAt, clausesAt, wovenWords}
 use Rattle.model.specs.PlainData.{noClause}
 use Rattle.woven_tables.specs.Steps.{KeptOutside}
+use Rattle.woven_tables.specs.Reading.{whatOf, highOf, lowOf, ClauseInside, ClausesInside}
 use Rattle.woven_tables.specs.ClauseSteps.{renumberedClause, ClauseSaid, namedClause, ClausesAdded, oneIfExcluded, ExclusionsCounted}
 use Rattle.woven_tables.proofs.EdgeLaws.{maps-more}
 use Rattle.woven_tables.proofs.Kept.{keep-append}
@@ -31,6 +33,15 @@ unfolding clausesAt
 clauses-same b q r old new n f = listed-same _ _ n (λ i l.
     λ j. clauseAt b q r (f (120 + 3 * i) (omega arith) (omega arith) j) (f (120 + 3 * i + 1) (omega arith) (omega arith) j)
     (f (120 + 3 * i + 2) (omega arith) (omega arith) j))
+
+-- their text values end where they did
+same-inside : (q r : Bytes) {w w′ x x′ y y′ : ℕ} → w′ ≡ w → x′ ≡ x → y′ ≡ y → ClauseInside q r w x y → ClauseInside q r w′ x′ y′
+same-inside q r e f g h = rw (e, f, g) h
+
+pub inside-same : (q r : Bytes) (old new : List ℕ) (n : ℕ) → ((i : ℕ) → 120 ≤ i → i < 120 + 3 * n → getD new i 0 ≡ getD old i 0)
+    → ClausesInside q r old n → ClausesInside q r new n
+inside-same q r old new n f h i l = same-inside q r (f (120 + 3 * i) (omega arith) (omega arith)) (f (120 + 3 * i + 1) (omega arith) (omega arith))
+    (f (120 + 3 * i + 2) (omega arith) (omega arith)) (h i l)
 
 module _ (words : List ℕ) (m w x y : ℕ) (room : m < 96) (size : wovenWords ≤ length words) where
   at : ℕ
@@ -45,24 +56,42 @@ module _ (words : List ℕ) (m w x y : ℕ) (room : m < 96) (size : wovenWords �
       getD-set-other (set (set words (120 + 3 * m) w) (120 + 3 * m + 1) x) (120 + 3 * m + 2) i y 0 s
       ∙ getD-set-other (set words (120 + 3 * m) w) (120 + 3 * m + 1) i x 0 q ∙ getD-set-other words (120 + 3 * m) i w 0 p
 
+  -- its three words
+  first : getD stored (120 + 3 * m) 0 ≡ w
+  unfolding stored
+  first = getD-set-other (set (set words (120 + 3 * m) w) (120 + 3 * m + 1) x) (120 + 3 * m + 2) (120 + 3 * m) y 0 (λ e. omega arith)
+      ∙ getD-set-other (set words (120 + 3 * m) w) (120 + 3 * m + 1) (120 + 3 * m) x 0 (λ e. omega arith)
+      ∙ getD-set-same words (120 + 3 * m) w 0 (omega arith)
+
+  second : getD stored (120 + 3 * m + 1) 0 ≡ x
+  unfolding stored
+  second = getD-set-other (set (set words (120 + 3 * m) w) (120 + 3 * m + 1) x) (120 + 3 * m + 2) (120 + 3 * m + 1) y 0 (λ e. omega arith)
+      ∙ getD-set-same (set words (120 + 3 * m) w) (120 + 3 * m + 1) x 0 (omega (arith, length-set words (120 + 3 * m) w))
+
+  third : getD stored (120 + 3 * m + 2) 0 ≡ y
+  unfolding stored
+  third =
+      let one = set words (120 + 3 * m) w in
+      getD-set-same (set one (120 + 3 * m + 1) x) (120 + 3 * m + 2) y 0
+      (omega (arith, length-set words (120 + 3 * m) w, length-set one (120 + 3 * m + 1) x))
+
   pub clause-stored : (b : Book) (q r : Bytes)
       → clausesAt b q r (set (set (set words (120 + 3 * m) w) (120 + 3 * m + 1) x) (120 + 3 * m + 2) y) (m + 1)
       ≡ clausesAt b q r words m ++ (clauseAt b q r w x y ∷ [])
   unfolding clausesAt stored
   clause-stored b q r =
-      let one = set words (120 + 3 * m) w in
-      let two = set one (120 + 3 * m + 1) x in
-      let l : length one ≡ length words = length-set words (120 + 3 * m) w in
-      let k : length two ≡ length one = length-set one (120 + 3 * m + 1) x in
-      let first : getD stored (120 + 3 * m) 0 ≡ w = getD-set-other two (120 + 3 * m + 2) (120 + 3 * m) y 0 (λ e. omega arith)
-      ∙ getD-set-other one (120 + 3 * m + 1) (120 + 3 * m) x 0 (λ e. omega arith) ∙ getD-set-same words (120 + 3 * m) w 0 (omega arith) in
-      let second : getD stored (120 + 3 * m + 1) 0 ≡ x = getD-set-other two (120 + 3 * m + 2) (120 + 3 * m + 1) y 0 (λ e. omega arith)
-      ∙ getD-set-same one (120 + 3 * m + 1) x 0 (omega arith) in
-      let third : getD stored (120 + 3 * m + 2) 0 ≡ y = getD-set-same two (120 + 3 * m + 2) y 0 (omega arith) in
       listed-more _ m
       ∙ ap₂ (λ xs z. xs ++ (z ∷ []))
       (clauses-same b q r words stored m (λ i l u. elsewhere i (λ e. omega arith) (λ e. omega arith) (λ e. omega arith)))
       (λ i. clauseAt b q r (first i) (second i) (third i))
+
+  pub clause-inside : (q r : Bytes) → ClausesInside q r words m → ClauseInside q r w x y
+      → ClausesInside q r (set (set (set words (120 + 3 * m) w) (120 + 3 * m + 1) x) (120 + 3 * m + 2) y) (m + 1)
+  unfolding stored
+  clause-inside q r old own i l = either (below-or-not i m)
+      (λ h. inside-same q r words stored m (λ i l u. elsewhere i (λ e. omega arith) (λ e. omega arith) (λ e. omega arith)) old i h)
+      (λ h. let e : i ≡ m = omega arith in subst (λ n. ClauseInside q r (whatOf stored n) (highOf stored n) (lowOf stored n)) (sym e)
+      (same-inside q r first second third own))
 
   pub clause-kept : KeptOutside 120 408 words (set (set (set words (120 + 3 * m) w) (120 + 3 * m + 1) x) (120 + 3 * m + 2) y)
   unfolding stored
@@ -83,6 +112,7 @@ clauses-start base k clauses numbers before old woven =
       added = record {
         clauses-are = λ b q r. ap (clausesAt b q r old) e
             ∙ sym (append-nil (clausesAt b q r old woven));
+        inside = λ q r n h w old i l. old i (omega arith);
         kept = λ i z. refl;
       };
     }
@@ -106,9 +136,12 @@ clauses-more base k clauses i numbers before old words woven out so-far more roo
             let own = renumberedClause numbers before (namedClause b text (getD clauses i noClause)) in
             ap (clausesAt b q r (set two (at + 2) (out .low))) e
             ∙ clause-stored words (woven + i) (out .what) (out .high) (out .low) room size b q r
-            ∙ ap₂ (λ xs y. xs ++ (y ∷ [])) (so-far .added .clauses-are b q r) (said b q r)
+            ∙ ap₂ (λ xs y. xs ++ (y ∷ [])) (so-far .added .clauses-are b q r) (said .is b q r)
             ∙ append-assoc (clausesAt b q r old woven) given (own ∷ [])
             ∙ ap (λ z. clausesAt b q r old woven ++ z) (sym (maps-more (renumberedClause numbers before) (namedClause b text) clauses i noClause more));
+        inside = λ q r n h w before. subst (ClausesInside q r (set two (at + 2) (out .low))) (sym e)
+            (clause-inside words (woven + i) (out .what) (out .high) (out .low) room size q r
+            (so-far .added .inside q r n h (λ j l. w j (omega arith)) before) (said .inside q r n h (w i (omega arith))));
         kept = λ j z. clause-kept words (woven + i) (out .what) (out .high) (out .low) room size j z ∙ so-far .added .kept j z;
       };
     }

@@ -1,27 +1,18 @@
 -- Laws of names in words: what a name word and a vertex word say, and which vertices are the same. Assumes nothing.
-use Prim.Native.Nat.{ℕ, _+_, _-_, _*_, _/_, _%_, _<_, _≤_}
-use mathlib.Core.Path.{_≡_, sym, ap, ap₂, _∙_}
-use mathlib.Core.List.{List, []}
+use Prim.Native.Nat.{ℕ, _+_, _*_, _/_, _%_, _<_, _≤_}
+use mathlib.Core.Path.{_≡_, sym, ap, ap₂, subst, _∙_}
+use mathlib.Core.List.{List}
 use mathlib.Core.Bool.{Bool, true, false}
 use native.Mathlib.Omega.{arith}
-use lib.ListN.{length, take, drop, drop-of-length-le, length-drop}
-use lib.Seq.{take-all, take-nil, drop-drop}
+use lib.ListN.{length, take, drop}
+use lib.Seq.{drop-drop}
 use borrow.Author.Tests.{eq-eqb, ne-eqb}
 use Rattle.model.specs.Bytes.{Bytes, same}
 use Rattle.model.specs.Choice.{pick}
 use Rattle.model.specs.Names.{mem}
 use Rattle.model.specs.Weave.{actor, own, sameVertex, weaveVertex}
 use Rattle.model.specs.Answers.{partOf}
-use Rattle.woven_tables.specs.Tables.{textOf, nameOf, vertexOfWord}
-
--- parts at the end of a text
-pub part-long : (s : Bytes) (i n : ℕ) → length s - i < n → take (length s - i) (drop i s) ≡ partOf s i n
-unfolding partOf
-part-long s i n h = take-all (length s - i) (drop i s) (simp length-drop (omega arith)) ∙ sym (take-all n (drop i s) (simp length-drop (omega arith)))
-
-pub part-none : (s : Bytes) (i n : ℕ) → length s < i → [] ≡ partOf s i n
-unfolding partOf
-part-none s i n h = let g : length s ≤ i = omega arith in rw (drop-of-length-le s g) (sym (take-nil n))
+use Rattle.woven_tables.specs.Tables.{textOf, nameOf, NameInside, vertexOfWord}
 
 -- a part of the rest of a text is a part of the text
 pub part-of-rest : (s : Bytes) (base i n : ℕ) → partOf (drop base s) i n ≡ partOf s (base + i) n
@@ -36,6 +27,20 @@ in-query q r w e = rw (eq-eqb (w / 2097152) 0 e)
 pub in-rules : (q r : Bytes) (w : ℕ) → (w / 2097152 ≡ 0 → ⊥) → nameOf q r w ≡ partOf r (w / 32 % 65536) (w % 32)
 unfolding nameOf textOf
 in-rules q r w e = rw (ne-eqb (w / 2097152) 0 e)
+
+-- it lies inside that text
+pub inside-query : (q r : Bytes) (w : ℕ) → w / 2097152 ≡ 0 → NameInside q r w → w / 32 % 65536 + w % 32 ≤ length q
+unfolding textOf
+inside-query q r w e h = rw (eq-eqb (w / 2097152) 0 e) at h
+
+pub inside-rules : (q r : Bytes) (w : ℕ) → (w / 2097152 ≡ 0 → ⊥) → NameInside q r w → w / 32 % 65536 + w % 32 ≤ length r
+unfolding textOf
+inside-rules q r w e h = rw (ne-eqb (w / 2097152) 0 e) at h
+
+-- half of a vertex word
+half : (w : ℕ) (t : Bool) → (w * 2 + pick t 1 0) / 2 ≡ w
+half w true = omega arith
+half w false = omega arith
 
 -- what a vertex word says
 pub of-actor : (q r : Bytes) (w : ℕ) → w % 2 ≡ 1 → vertexOfWord q r w ≡ actor (nameOf q r (w / 2))
@@ -79,6 +84,17 @@ module _ (q r : Bytes) (k start size : ℕ) (low : start < 65536) (short : size 
       let b : ((k * 65536 + start) * 32 + size) / 32 % 65536 ≡ start = omega arith in
       let c : ((k * 65536 + start) * 32 + size) % 32 ≡ size = omega arith in
       rw (a, b, c)
+
+  pub word-inside : (name : ℕ) → name ≡ (k * 65536 + start) * 32 + size → start + size ≤ length (textOf q r k) → NameInside q r name
+  word-inside name n h =
+      let a : ((k * 65536 + start) * 32 + size) / 2097152 ≡ k = omega arith in
+      let b : ((k * 65536 + start) * 32 + size) / 32 % 65536 ≡ start = omega arith in
+      let c : ((k * 65536 + start) * 32 + size) % 32 ≡ size = omega arith in
+      rw (n, a, b, c) h
+
+  pub vertex-inside : (name out : ℕ) (t : Bool) → name ≡ (k * 65536 + start) * 32 + size → out ≡ name * 2 + pick t 1 0
+      → start + size ≤ length (textOf q r k) → NameInside q r (out / 2)
+  vertex-inside name out t n o h = subst (NameInside q r) (sym (ap (λ z. z / 2) o ∙ half name t)) (word-inside name n h)
 
   pub vertex-word-says : (actors : List Bytes)
       → vertexOfWord q r (((k * 65536 + start) * 32 + size) * 2 + pick (mem (partOf (textOf q r k) start size) actors) 1 0)

@@ -1,5 +1,5 @@
 -- Laws of the vertex table: a vertex that is there keeps the table, a new one comes behind; the numbers of a text's vertices. Assumes nothing.
-use Prim.Native.Nat.{ℕ, _+_, _<_, _≤_}
+use Prim.Native.Nat.{ℕ, _+_, _/_, _<_, _≤_}
 use mathlib.Core.Path.{_≡_, refl, sym, ap, ap₂, subst, subst₂, _∙_}
 use mathlib.Core.Logic.{_⊎_, ⊎-elim}
 use mathlib.Core.List.{List, [], _∷_, _++_, map}
@@ -8,7 +8,7 @@ use native.Mathlib.Numerals.{add-one}
 use native.Mathlib.Omega.{arith}
 use lib.ListN.{length, getD, set, take, drop, length-append, length-set, take-append-drop}
 use lib.Seq.{getD-set-same, getD-set-other, getD-take, take-suc, take-all, length-take-le}
-use Rattle.logic.specs.Tests.{either, equal-or-not}
+use Rattle.logic.specs.Tests.{either, equal-or-not, below-or-not}
 use Rattle.model.specs.Bytes.{Bytes}
 use Rattle.model.specs.Choice.{pick}
 use Rattle.model.specs.Answers.{partOf, nameAt}
@@ -19,7 +19,7 @@ use Rattle.model.proofs.FirstNames.{firstsBy-append}
 use Rattle.model.proofs.Places.{getD-in, getD-map, length-map}
 use Rattle.book_tables.proofs.ListedLaws.{listed-more, listed-same, length-listed}
 use Rattle.woven_tables.specs.declared.vertices.Placed.{Placed}
-use Rattle.woven_tables.specs.Tables.{verticesAt, vertexOfWord, wovenWords}
+use Rattle.woven_tables.specs.Tables.{NameInside, VerticesInside, verticesAt, vertexOfWord, wovenWords}
 use Rattle.model.specs.PlainData.{noPart}
 use Rattle.woven_tables.specs.Steps.{KeptOutside, VertexPlaced, VerticesAdded, textVertices}
 use Rattle.woven_tables.proofs.NameLaws.{part-of-rest}
@@ -53,13 +53,14 @@ vertices-same q r old new n h = listed-same (λ i. vertexOfWord q r (getD new i 
     (λ i l. ap (vertexOfWord q r) (h i l))
 
 -- placing a vertex, by what the search for it found
-module _ (q r : Bytes) (words : List ℕ) (n word at : ℕ) (found : at ≡ placeVertex (vertexOfWord q r word) (verticesAt q r words n)) where
+module _ (q r : Bytes) (words : List ℕ) (n word at : ℕ) (found : at ≡ placeVertex (vertexOfWord q r word) (verticesAt q r words n))
+    (there : VerticesInside q r words n) (own : NameInside q r (word / 2)) where
   pub place-there : at < n → VertexPlaced q r words words n word (record { at = at; count = n })
   unfolding addNewBy
   place-there h =
       let l = length-vertices q r words n in
       let e = below-there (vertexOfWord q r word) (verticesAt q r words n) (omega arith) in
-      record { at = found; counted = rw e (sym l); vertices = λ z. rw e; kept = λ i j. refl }
+      record { at = found; counted = rw e (sym l); vertices = λ z. rw e; inside = λ z. there; kept = λ i j. refl }
 
   new-count : n ≤ at → n + 1 ≡ length (addNewBy sameVertex (verticesAt q r words n) (vertexOfWord q r word))
   unfolding addNewBy
@@ -79,11 +80,21 @@ module _ (q r : Bytes) (words : List ℕ) (n word at : ℕ) (found : at ≡ plac
         vertices = λ z. rw e (listed-more (λ i. vertexOfWord q r (getD (set words n word) i 0)) n
             ∙ ap₂ (λ x y. x ++ (y ∷ [])) (vertices-same q r words (set words n word) n (λ i k. getD-set-other words n i word 0 (λ p. omega arith)))
             (ap (vertexOfWord q r) (getD-set-same words n word 0 (omega arith))));
+        inside = λ z i k. either (below-or-not i n)
+            (λ h. subst (λ w. NameInside q r (w / 2)) (sym (getD-set-other words n i word 0 (λ p. omega arith))) (there i h))
+            (λ h. let e : i ≡ n = omega arith in subst (λ w. NameInside q r (w / 2))
+            (sym (ap (λ j. getD (set words n word) j 0) e ∙ getD-set-same words n word 0 (omega arith))) own);
         kept = λ i z. getD-set-other words n i word 0 (λ p. ⊎-elim (λ y. omega arith) (λ y. omega arith) z);
       }
 
   pub place-passed : n ≤ at → 24 ≤ n → VertexPlaced q r words words n word (record { at = at; count = n + 1 })
-  place-passed h g = record { at = found; counted = new-count h; vertices = λ z. absurd (omega arith); kept = λ i j. refl }
+  place-passed h g = record {
+    at = found;
+    counted = new-count h;
+    vertices = λ z. absurd (omega arith);
+    inside = λ z. absurd (omega arith);
+    kept = λ i j. refl;
+  }
 
 -- a vertex has the place that it has once it is put behind
 place-own : (w : WovenVertex) (vs : List WovenVertex) → placeVertex w (addNewBy sameVertex vs w) ≡ placeVertex w vs
@@ -178,12 +189,13 @@ pub record VerticesSoFar (q r : Bytes) (names : List WovenVertex) (old words : L
   pub room : length words ≡ length old
   pub size : length given ≡ 8
   pub numbered : Numbered (verticesAt q r old woven) names i (verticesAt q r words n) given
+  pub inside : VerticesInside q r words n
   pub kept : KeptOutside 0 24 old words
 
 pub vertices-start : (q r : Bytes) (names : List WovenVertex) (old : List ℕ) (woven : ℕ) (given : List ℕ) → woven ≤ 24 → length given ≡ 8
-    → VerticesSoFar q r names old old woven woven 0 given
-vertices-start q r names old woven given h s =
-    record { few = h; room = refl; size = s; numbered = numbered-none (verticesAt q r old woven) names given; kept = λ i z. refl }
+    → VerticesInside q r old woven → VerticesSoFar q r names old old woven woven 0 given
+vertices-start q r names old woven given h s there =
+    record { few = h; room = refl; size = s; numbered = numbered-none (verticesAt q r old woven) names given; inside = there; kept = λ i z. refl }
 
 module _ (q r : Bytes) (names : List WovenVertex) (old words : List ℕ) (woven n i : ℕ) (given : List ℕ)
     (so-far : VerticesSoFar q r names old words woven n i given) (more : i < length names)
@@ -197,6 +209,7 @@ module _ (q r : Bytes) (names : List WovenVertex) (old words : List ℕ) (woven 
         (sym (placed .vertices h ∙ ap (addNewBy sameVertex (verticesAt q r words n)) says))
         (ap (set given i) (sym (placed .at ∙ ap (λ z. placeVertex z (verticesAt q r words n)) says)))
         (numbered-more (verticesAt q r old woven) names i (verticesAt q r words n) given (so-far .numbered) more (omega (arith, so-far .size)));
+    inside = placed .inside h;
     kept = λ j z. placed .kept j z ∙ so-far .kept j z;
   }
 
@@ -208,6 +221,7 @@ module _ (q r : Bytes) (names : List WovenVertex) (old words : List ℕ) (woven 
         (subst (λ z. 24 < z) (placed .counted ∙ ap (λ z. length (addNewBy sameVertex (verticesAt q r words n) z)) says) h);
     vertices = λ z. absurd (omega arith);
     numbers = λ z. absurd (omega arith);
+    inside = λ z. absurd (omega arith);
     kept = λ j z. placed .kept j z ∙ so-far .kept j z;
   }
 
@@ -221,5 +235,6 @@ vertices-end q r names old words woven n i given s count all-named h =
       passed = λ z. absurd (omega (arith, s .few));
       vertices = λ z. all;
       numbers = λ z j l. s .numbered .numbers j (omega arith) ∙ ap (placeVertex (getD names j noVertex)) all;
+      inside = λ z. s .inside;
       kept = s .kept;
     }

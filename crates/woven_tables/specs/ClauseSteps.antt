@@ -17,13 +17,15 @@ use Rattle.model.specs.declared.Clause.{Clause as ClauseData}
 use Rattle.woven_tables.specs.declared.clauses.ClauseValue.{ClauseValue}
 use Rattle.woven_tables.specs.declared.clauses.ClauseWords.{ClauseWords}
 use Rattle.woven_tables.specs.Tables.{textOf, relationAt, valueAt, clauseAt, clausesAt}
-use Rattle.model.specs.PlainData.{noClause, RequirementFits}
+use Rattle.model.specs.PlainData.{noClause, RequirementFits, ValueWithin, ConditionWithin}
 use Rattle.woven_tables.specs.Steps.{KeptOutside}
+use Rattle.woven_tables.specs.Reading.{ClauseInside, ClausesInside}
 
 -- words say a value whose text stands from a base on
 pub record ValueSaid (base : ℕ) (value : Value) (out : ClauseValue) : Type 0 where
   pub kind : out .kind < 3
   pub said : (text : Bytes) → valueAt text (out .kind) (out .high) (out .low) ≡ valueOf (drop base text) value
+  pub inside : (size : ℕ) → ValueWithin size value → out .kind ≡ 1 → out .high + out .low ≤ base + size
 
 -- the parts of a requirement's words
 pub record RequirementSaid (k base kind owner : ℕ) (x : Requirement) (out : ClauseWords) : Type 0 where
@@ -33,6 +35,7 @@ pub record RequirementSaid (k base kind owner : ℕ) (x : Requirement) (out : Cl
   pub attribute : out .what / 128 % 32 ≡ x .attribute
   pub its-owner : out .what / 4096 % 64 ≡ owner
   pub text-number : out .what / 262144 ≡ k
+  pub inside : (size : ℕ) → ValueWithin size (x .value) → out .what / 4 % 4 ≡ 1 → out .high + out .low ≤ base + size
 
 -- what is asked of a condition of a text, its vertices having these numbers, and so many edges standing before its own
 abbrev pub ConditionReady : ℕ → List ℕ → ℕ → Condition → Type 0
@@ -46,11 +49,12 @@ renumberedClause numbers before (excluded u v) = excluded (getD numbers u 0) (ge
 renumberedClause numbers before (vertexHas v a r x) = vertexHas (getD numbers v 0) a r x
 renumberedClause numbers before (edgeHas e a r x) = edgeHas (before + e) a r x
 
--- words say a condition
-abbrev pub ClauseSaid : ℕ → ℕ → List ℕ → ℕ → Condition → ClauseWords → Type 0
-ClauseSaid k base numbers before condition out =
-    (b : Book) (query rules : Bytes) → clauseAt b query rules (out .what) (out .high) (out .low)
-    ≡ renumberedClause numbers before (clauseIn b (drop base (textOf query rules k)) condition)
+-- words say a condition, and its text value ends inside the text, where that of the condition does
+pub record ClauseSaid (k base : ℕ) (numbers : List ℕ) (before : ℕ) (condition : Condition) (out : ClauseWords) : Type 0 where
+  pub is : (b : Book) (query rules : Bytes) → clauseAt b query rules (out .what) (out .high) (out .low)
+      ≡ renumberedClause numbers before (clauseIn b (drop base (textOf query rules k)) condition)
+  pub inside : (query rules : Bytes) (size : ℕ) → base + size ≤ length (textOf query rules k) → ConditionWithin size condition
+      → ClauseInside query rules (out .what) (out .high) (out .low)
 
 -- the condition of a clause, by names
 abbrev pub namedClause : Book → Bytes → ClauseData → Clause
@@ -63,10 +67,13 @@ pub record ClausesReady (base k : ℕ) (clauses : List ClauseData) (count : ℕ)
   pub room : woven + count ≤ 96
   pub fit : (i : ℕ) → i < count → ConditionReady base numbers before (getD clauses i noClause .condition)
 
--- the clauses of a text are woven
+-- the clauses of a text are woven; their text values end inside it, where they did before they were woven
 pub record ClausesAdded (base k : ℕ) (clauses : List ClauseData) (count : ℕ) (numbers : List ℕ) (before : ℕ) (old new : List ℕ) (woven : ℕ) : Type 0 where
   pub clauses-are : (b : Book) (query rules : Bytes) → clausesAt b query rules new (woven + count)
       ≡ clausesAt b query rules old woven ++ map (renumberedClause numbers before) (map (namedClause b (drop base (textOf query rules k))) (take count clauses))
+  pub inside : (query rules : Bytes) (size : ℕ) → base + size ≤ length (textOf query rules k)
+      → ((i : ℕ) → i < count → ConditionWithin size (getD clauses i noClause .condition)) → ClausesInside query rules old woven
+      → ClausesInside query rules new (woven + count)
   pub kept : KeptOutside 120 408 old new
 
 -- 1 for an exclusion, 0 for a requirement

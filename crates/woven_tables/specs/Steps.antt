@@ -13,7 +13,7 @@ use Rattle.model.specs.declared.Part.{Part}
 use Rattle.model.specs.declared.Edge.{Edge as EdgeData}
 use Rattle.woven_tables.specs.declared.vertices.Placed.{Placed}
 use Rattle.woven_tables.specs.declared.vertices.Numbers.{Numbers}
-use Rattle.woven_tables.specs.Tables.{textOf, verticesAt, edgesAt, returnsAt, vertexOfWord}
+use Rattle.woven_tables.specs.Tables.{textOf, ActorsInside, VerticesInside, verticesAt, edgesAt, returnsAt, vertexOfWord}
 use Rattle.model.specs.PlainData.{noPart, noEdge, NameFits}
 use Rattle.model.specs.Lists.{addNewBy}
 
@@ -26,6 +26,7 @@ pub record VertexPlaced (query rules : Bytes) (old new : List ℕ) (n word : ℕ
   pub at : out .at ≡ placeVertex (vertexOfWord query rules word) (verticesAt query rules old n)
   pub counted : out .count ≡ length (addNewBy sameVertex (verticesAt query rules old n) (vertexOfWord query rules word))
   pub vertices : out .count ≤ 24 → verticesAt query rules new (out .count) ≡ addNewBy sameVertex (verticesAt query rules old n) (vertexOfWord query rules word)
+  pub inside : out .count ≤ 24 → VerticesInside query rules new (out .count)
   pub kept : KeptOutside 0 24 old new
 
 -- what weaving makes of a text's vertices, of which so many stand in the array
@@ -38,6 +39,12 @@ pub record VerticesReady (base k : ℕ) (parts : List Part) (count : ℕ) : Type
   pub few : count ≤ 8
   pub fit : (i : ℕ) → i < count → NameFits base (getD parts i noPart)
 
+-- the names of the actors, of the vertices that are woven and of those of a text lie inside their texts
+pub record NamesStand (query rules : Bytes) (listed : List ℕ) (many : ℕ) (words : List ℕ) (n base k : ℕ) (parts : List Part) (count : ℕ) : Type 0 where
+  pub actors : ActorsInside rules listed many
+  pub woven : VerticesInside query rules words n
+  pub own : (i : ℕ) → i < count → base + getD parts i noPart .start + getD parts i noPart .length ≤ length (textOf query rules k)
+
 -- the vertices of a text are woven, each with its number; a count past 24 says that the limit is passed
 pub record VerticesAdded (query rules : Bytes) (vs : List WovenVertex) (count : ℕ) (old new : List ℕ) (n : ℕ) (out : Numbers) : Type 0 where
   pub all : length vs ≡ count
@@ -45,6 +52,7 @@ pub record VerticesAdded (query rules : Bytes) (vs : List WovenVertex) (count : 
   pub vertices : out .count ≤ 24 → verticesAt query rules new (out .count) ≡ firstVertices (verticesAt query rules old n) vs
   pub numbers : out .count ≤ 24 → (i : ℕ) → i < length vs
       → getD (out .numbers) i 0 ≡ placeVertex (getD vs i noVertex) (firstVertices (verticesAt query rules old n) vs)
+  pub inside : out .count ≤ 24 → VerticesInside query rules new (out .count)
   pub kept : KeptOutside 0 24 old new
 
 -- an edge with new numbers for its vertices

@@ -1,7 +1,7 @@
 -- The woven pattern in words: where each table stands, and what its words say. The texts are numbered: 0 is the query, the others are policies.
-use Prim.Native.Nat.{ℕ, _+_, _*_, _/_, _%_}
+use Prim.Native.Nat.{ℕ, _+_, _*_, _/_, _%_, _<_, _≤_}
 use mathlib.Core.List.{List, [], _∷_}
-use lib.ListN.{getD}
+use lib.ListN.{length, getD}
 use lib.Dec.{eqb}
 use Rattle.model.specs.Bytes.{Bytes}
 use Rattle.model.specs.Choice.{pick, Maybe, nothing, just}
@@ -50,6 +50,17 @@ textOf query rules k = pick (eqb k 0) query rules
 -- a name word is (k * 65536 + start) * 32 + length
 unfoldable pub nameOf : Bytes → Bytes → ℕ → Bytes
 nameOf query rules w = partOf (textOf query rules (w / 2097152)) (w / 32 % 65536) (w % 32)
+
+-- it says a part of its text
+abbrev pub NameInside : Bytes → Bytes → ℕ → Type 0
+NameInside query rules w = w / 32 % 65536 + w % 32 ≤ length (textOf query rules (w / 2097152))
+
+-- so do the names of the first n vertices, and those of the first n actors in the rules
+abbrev pub VerticesInside : Bytes → Bytes → List ℕ → ℕ → Type 0
+VerticesInside query rules words n = (i : ℕ) → i < n → NameInside query rules (getD words i 0 / 2)
+
+abbrev pub ActorsInside : Bytes → List ℕ → ℕ → Type 0
+ActorsInside rules words n = (i : ℕ) → i < n → getD words i 0 / 32 + getD words i 0 % 32 ≤ length rules
 
 -- a vertex word is twice a name word, and one more for an actor vertex; another is an own vertex of the text that its name stands in
 unfoldable pub vertexOfWord : Bytes → Bytes → ℕ → WovenVertex

@@ -1,14 +1,17 @@
 // Names of woven vertices: the words that say where one stands, and comparing them.
 ghost use mathlib.Core.Path.{_≡_};
-ghost use Prim.Native.Nat.{_+_, _*_, _<_, _≤_};
+ghost use Prim.Native.Nat.{_+_, _*_, _/_, _<_, _≤_};
 ghost use lib.ListN.{length};
 ghost use Rattle.model.specs.Bytes.{same};
 ghost use Rattle.model.specs.Choice.{pick};
 ghost use Rattle.model.specs.Names.{mem};
 ghost use Rattle.model.specs.Weave.{sameVertex, placeVertex, weaveVertex};
 ghost use Rattle.model.specs.Answers.{partOf};
-ghost use Rattle.woven_tables.specs.Tables.{textOf, nameOf, vertexOfWord, actorsAt, verticesAt};
+ghost use Rattle.woven_tables.specs.Tables.{textOf, nameOf, NameInside, ActorsInside, VerticesInside, vertexOfWord, actorsAt, verticesAt};
 use book_tables::names::NAME_LENGTHS;
+use model::Part;
+use text::compare::same_bytes;
+use text::parts::part_of;
 
 // A name word is (text's number * NAME_STARTS + start) * NAME_LENGTHS + length.
 const NAME_STARTS: usize = 65536;
@@ -20,21 +23,6 @@ const KIND_NAMES: u32 = TEXT_NAMES as u32;
 
 // A vertex word is twice the word of its name, and one more for an actor vertex.
 pub const VERTEX_KINDS: u32 = 2;
-
-// The part of a text from start on, of a length; fewer bytes at the text's end.
-pub fn part(text: &[u8], start: usize, length: usize) -> &[u8]
-    ensures { λ r. ⌜ now r ≡ partOf (now (text .entry)) start length ⌝ }
-{
-    if start <= text.len() {
-        if length <= text.len() - start {
-            &text[start..start + length]
-        } else {
-            &text[start..]
-        }
-    } else {
-        &text[..0]
-    }
-}
 
 // The word of a name of the kth text.
 pub fn name_word(k: usize, start: usize, length: usize) -> u32
@@ -58,32 +46,39 @@ fn vertex_word(name: u32, actor: bool) -> u32
 
 // A name word says that name.
 pub fn says(query: &[u8], rules: &[u8], word: u32, name: &[u8]) -> bool
+    requires { ⌜ NameInside (now query) (now rules) word ⌝ }
     ensures { λ r. ⌜ r ≡ same (nameOf (now (query .entry)) (now (rules .entry)) word) (now (name .entry)) ⌝ }
 {
     let w = word as usize;
-    let start = w / NAME_LENGTHS % NAME_STARTS;
-    let length = w % NAME_LENGTHS;
+    let part = Part {
+        start: w / NAME_LENGTHS % NAME_STARTS,
+        length: w % NAME_LENGTHS,
+    };
     if w / TEXT_NAMES == 0 {
-        return text::compare::same_bytes(part(query, start, length), name);
+        return same_bytes(part_of(query, part), name);
     }
-    text::compare::same_bytes(part(rules, start, length), name)
+    same_bytes(part_of(rules, part), name)
 }
 
 // Two name words say the same name.
 fn say_the_same(query: &[u8], rules: &[u8], a: u32, b: u32) -> bool
+    requires { ⌜ NameInside (now query) (now rules) a × NameInside (now query) (now rules) b ⌝ }
     ensures { λ r. ⌜ r ≡ same (nameOf (now (query .entry)) (now (rules .entry)) a) (nameOf (now (query .entry)) (now (rules .entry)) b) ⌝ }
 {
     let w = b as usize;
-    let start = w / NAME_LENGTHS % NAME_STARTS;
-    let length = w % NAME_LENGTHS;
+    let part = Part {
+        start: w / NAME_LENGTHS % NAME_STARTS,
+        length: w % NAME_LENGTHS,
+    };
     if w / TEXT_NAMES == 0 {
-        return says(query, rules, a, part(query, start, length));
+        return says(query, rules, a, part_of(query, part));
     }
-    says(query, rules, a, part(rules, start, length))
+    says(query, rules, a, part_of(rules, part))
 }
 
 // Two woven vertices are the same: both are actor vertices, or both own vertices of one text, and their names are the same.
 fn same_vertex(query: &[u8], rules: &[u8], a: u32, b: u32) -> bool
+    requires { ⌜ NameInside (now query) (now rules) (a / 2) × NameInside (now query) (now rules) (b / 2) ⌝ }
     ensures { λ r. ⌜ r ≡ sameVertex (vertexOfWord (now (query .entry)) (now (rules .entry)) a) (vertexOfWord (now (query .entry)) (now (rules .entry)) b) ⌝ }
 {
     let name_a = a / VERTEX_KINDS;
@@ -105,14 +100,17 @@ fn same_vertex(query: &[u8], rules: &[u8], a: u32, b: u32) -> bool
 
 // A name is one of the actors, which are names in the rules.
 fn is_actor(query: &[u8], rules: &[u8], actors: &[u32], count: usize, word: u32) -> bool
-    requires { ⌜ count ≤ length (now actors) ⌝ }
+    requires { ⌜ (count ≤ length (now actors)) × ActorsInside (now rules) (now actors) count × NameInside (now query) (now rules) word ⌝ }
     ensures { λ r. ⌜ r ≡ mem (nameOf (now (query .entry)) (now (rules .entry)) word) (actorsAt (now (rules .entry)) (now (actors .entry)) count) ⌝ }
 {
     let mut i = 0;
     while i < count {
         let w = actors[i] as usize;
-        let actor = part(rules, w / NAME_LENGTHS, w % NAME_LENGTHS);
-        if says(query, rules, word, actor) {
+        let actor = Part {
+            start: w / NAME_LENGTHS,
+            length: w % NAME_LENGTHS,
+        };
+        if says(query, rules, word, part_of(rules, actor)) {
             return true;
         }
         i += 1;
@@ -130,8 +128,10 @@ pub fn vertex_of(
     start: usize,
     length: usize,
 ) -> u32
-    requires { ⌜ (count ≤ lib.ListN.length (now actors)) × (k < 32) × (start < 65536) × (length < 32) ⌝ }
-    ensures { λ r. ⌜ vertexOfWord (now (query .entry)) (now (rules .entry)) r
+    requires { ⌜ (count ≤ lib.ListN.length (now actors)) × (k < 32) × (start < 65536) × (length < 32) × ActorsInside (now rules) (now actors) count
+        × (start + length ≤ lib.ListN.length (textOf (now query) (now rules) k)) ⌝ }
+    ensures inside { λ r. ⌜ NameInside (now (query .entry)) (now (rules .entry)) (r / 2) ⌝ }
+    ensures says { λ r. ⌜ vertexOfWord (now (query .entry)) (now (rules .entry)) r
         ≡ weaveVertex k (actorsAt (now (rules .entry)) (now (actors .entry)) count)
         (partOf (textOf (now (query .entry)) (now (rules .entry)) k) start length) ⌝ }
 {
@@ -141,7 +141,7 @@ pub fn vertex_of(
 
 // The number of a vertex among the woven ones, or how many there are where it is none of them.
 pub fn find_vertex(query: &[u8], rules: &[u8], words: &[u32], count: usize, word: u32) -> usize
-    requires { ⌜ count ≤ length (now words) ⌝ }
+    requires { ⌜ (count ≤ length (now words)) × VerticesInside (now query) (now rules) (now words) count × NameInside (now query) (now rules) (word / 2) ⌝ }
     ensures { λ r. ⌜ r ≡ placeVertex (vertexOfWord (now (query .entry)) (now (rules .entry)) word)
         (verticesAt (now (query .entry)) (now (rules .entry)) (now (words .entry)) count) ⌝ }
 {

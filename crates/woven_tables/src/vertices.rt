@@ -1,8 +1,8 @@
 // Weaving the vertices of one text: actor vertices of one name are joined, all others kept apart.
-ghost use Prim.Native.Nat.{_<_, _≤_};
+ghost use Prim.Native.Nat.{_/_, _<_, _≤_};
 ghost use lib.ListN.{length, drop};
-ghost use Rattle.woven_tables.specs.Tables.{textOf, actorsAt, wovenWords};
-ghost use Rattle.woven_tables.specs.Steps.{VertexPlaced, VerticesReady, VerticesAdded, textVertices};
+ghost use Rattle.woven_tables.specs.Tables.{textOf, NameInside, VerticesInside, actorsAt, wovenWords};
+ghost use Rattle.woven_tables.specs.Steps.{VertexPlaced, VerticesReady, NamesStand, VerticesAdded, textVertices};
 use crate::names;
 use model::Part;
 use model::limits::MAX_VERTICES;
@@ -22,7 +22,8 @@ pub struct Numbers {
 
 // Gives a vertex its place among the woven ones.
 fn place_vertex(query: &[u8], rules: &[u8], words: &mut [u32], n: usize, word: u32) -> Placed
-    requires { ⌜ (n ≤ 24) × (wovenWords ≤ length (now words)) ⌝ }
+    requires { ⌜ (n ≤ 24) × (wovenWords ≤ length (now words)) × VerticesInside (now query) (now rules) (now words) n
+        × NameInside (now query) (now rules) (word / 2) ⌝ }
     ensures { λ r. ⌜ VertexPlaced (now (query .entry)) (now (rules .entry)) (now (words .entry)) (now (words .exit)) n word r ⌝ }
 {
     let at = names::find_vertex(query, rules, words, n, word);
@@ -49,7 +50,8 @@ pub fn add_vertices(
     words: &mut [u32],
     woven: usize,
 ) -> Numbers
-    requires { ⌜ VerticesReady base k parts count × («actor_count» ≤ length (now actors)) × (woven ≤ 24) × (wovenWords ≤ length (now words)) ⌝ }
+    requires { ⌜ VerticesReady base k parts count × («actor_count» ≤ length (now actors)) × (woven ≤ 24) × (wovenWords ≤ length (now words))
+        × NamesStand (now query) (now rules) (now actors) «actor_count» (now words) woven base k parts count ⌝ }
     ensures { λ r. ⌜ VerticesAdded (now (query .entry)) (now (rules .entry))
         (textVertices (drop base (textOf (now (query .entry)) (now (rules .entry)) k)) k (actorsAt (now (rules .entry)) (now (actors .entry)) «actor_count») parts count) count
         (now (words .entry)) (now (words .exit)) woven r ⌝ }

@@ -34,7 +34,7 @@ finish-requires c κs =
     (a .ready .request .category) (given .texts) old old _
     (subst (PoliciesWoven (bookAt (a .book .now) (a .words .now) (a .ready .book)) (a .ready .book) (a .query .now) (a .rules .now)
     (a .rules-words .now) (a .ready .rules) (a .ready .request .category) old) (c .before .before .all .given .1)
-    (at-weave-texts .weave-texts .ensures)) _ _ (given .identified)
+    (at-weave-texts .weave-texts .ensures)) _ _ _ (given .identified)
 
 returns-2 : tie.Need-returns-2
 returns-2 c =

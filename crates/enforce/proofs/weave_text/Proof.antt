@@ -4,7 +4,7 @@ use mathlib.Core.Path.{subst}
 use native.Mathlib.Omega.{arith}
 use lib.ListN.{length-take, length-drop}
 use Rattle.weave.specs.Adding.{TextAdded}
-use Rattle.enforce.proofs.HeldLaws.{own-actors}
+use Rattle.enforce.proofs.HeldLaws.{own-actors, actors-inside}
 use borrow.Author.Needs.{needs}
 use Rattle.enforce.proofs.weave_text.Statement.{statement}
 use Rattle.enforce.proofs.weave_text.Tie as tie
@@ -24,7 +24,11 @@ add-pattern-requires c κs =
       kept = given .kept;
       few-texts = given .few-texts;
       few-actors = simp (length-take, length-drop) (omega (arith, given .few-actors, given .room, given .low));
+      known-actors = actors-inside _ _ _ (given .actors);
       fits = c .before .pattern-of .ensures .words _ (given .short);
+      size = _;
+      stands = given .stands;
+      parts = c .before .pattern-of .ensures .parts;
     }
 
 returns : tie.Need-returns

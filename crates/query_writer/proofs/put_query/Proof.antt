@@ -8,7 +8,7 @@ use Rattle.query_writer.proofs.put_query.Tie as tie
 put-returns-requires : tie.Need-put-returns-requires
 put-returns-requires c κs =
     let at-pre = c .before .before .before .before .before .before .before .before .before .before .before .before .before .before .before .before .before .before .before .before .before .before .before .before .before .before .before in
-    at-pre .pre .0 .returns
+    at-pre .pre .returns
 
 returns : tie.Need-returns
 unfolding patternText

@@ -9,7 +9,7 @@ use Rattle.putting.proofs.PuttingLaws.{puts-same}
 use Rattle.putting.proofs.WholeLaws.{refused, written-in-front, nothing-lent}
 use Rattle.query_writer.specs.Pieces.{patternText}
 use Rattle.query_writer.proofs.ModelLaws.{pattern-written}
-use Rattle.query_writer.proofs.InsideLaws.{inside-arrays, tables-inside}
+use Rattle.query_writer.proofs.InsideLaws.{pattern-inside}
 use borrow.Author.Needs.{needs}
 use Rattle.query_writer.proofs.write_query.Statement.{statement}
 use Rattle.query_writer.proofs.write_query.Tie as tie
@@ -22,7 +22,7 @@ text-is s =
     (sym (length-map (s .args .pattern .vertices) _) ∙ s .good .1 .1 .1 .1 .0 .1 .1 .0 .1 .0 .1)
 
 put-query-requires : tie.Need-put-query-requires
-put-query-requires c κs = let s = c .before .before .before .before .before in (inside-arrays (s .pre), tables-inside (s .pre))
+put-query-requires c κs = let s = c .before .before .before .before .before in pattern-inside (s .pre)
 
 returns : tie.Need-returns
 returns c =
@@ -35,7 +35,7 @@ returns c =
 put-query-requires-2 : tie.Need-put-query-requires-2
 put-query-requires-2 c κs =
     let s = c .before .before .before .before .before .before .before .before .before .before .before in
-    (inside-arrays (s .pre), tables-inside (s .pre))
+    pattern-inside (s .pre)
 
 returns-2 : tie.Need-returns-2
 returns-2 c =

@@ -8,6 +8,16 @@ use borrow.Author.Needs.{needs}
 use Rattle.weave.proofs.add_pattern.Statement.{statement}
 use Rattle.weave.proofs.add_pattern.Tie as tie
 
+add-vertices-requires : tie.Need-add-vertices-requires
+add-vertices-requires c κs =
+    let given = c .before .before .before .before .before .before .before .pre in (
+      record { few-texts = given .few-texts; few = given .fits .few-vertices; fit = given .fits .vertices },
+      given .few-actors,
+      given .kept .vertices,
+      given .kept .room,
+      record { actors = given .known-actors; woven = given .kept .names; own = λ i l. omega (arith, given .stands, given .parts .vertices i l) },
+    )
+
 returns : tie.Need-returns
 returns c =
     let at-add-vertices = c .before .before .before .before in
@@ -85,6 +95,7 @@ returns-5 c =
     (at-if1 .if1 .left) (at-add-vertices .add-vertices .ensures)
     (at-add-rest .add-rest .last .1 .1 .1 .1 .0) (at-add-rest .add-rest .result) (at-count-exclusions .count-exclusions .result)
     (at-add-rest .add-rest .ensures) (at-count-exclusions .count-exclusions .ensures) (at-pre .pre .kept)
+    (at-pre .pre .size) (at-pre .pre .stands) (at-pre .pre .parts)
     (omega (arith, at-pre .pre .kept .room, at-add-vertices .add-vertices .kept .1 .1 .1 .1 .1 .1 .1 .1 .0, at-add-rest .add-rest .kept .1 .1 .1 .1 .0))
     (at-if2 .if2 .left) (at-if3 .if3 .left) (at-if4 .if4 .left)
 
@@ -92,7 +103,7 @@ pub add-pattern-spec : {M : Type 1} → statement M
 add-pattern-spec =
     tie.close
     (tie.spec
-    (λ c κs. search needs)
+    add-vertices-requires
     (λ c. search needs)
     returns
     (λ c κs. search needs)

@@ -6,6 +6,10 @@ use borrow.Author.Needs.{needs}
 use Rattle.weave.proofs.finish.Statement.{statement}
 use Rattle.weave.proofs.finish.Tie as tie
 
+give-identities-requires : tie.Need-give-identities-requires
+give-identities-requires c κs =
+    let given = c .before .before .before .before .before .pre in (given .identified, given .kept .vertices, given .kept .room, given .kept .names)
+
 tied-requires : tie.Need-tied-requires
 tied-requires c κs =
     let at-give-identities = c .before .before .before in
@@ -31,4 +35,4 @@ returns c =
 pub finish-spec : {M : Type 1} → statement M
 finish-spec =
     tie.close
-    (tie.spec (λ c κs. search needs) tied-requires (λ c κs. search needs) (λ c. search needs) returns)
+    (tie.spec give-identities-requires tied-requires (λ c κs. search needs) (λ c. search needs) returns)

@@ -1,4 +1,5 @@
 -- `put_quoted` meets its contract. Assumes nothing.
+use Rattle.model.specs.Answers.{nameAt}
 use Rattle.model.specs.Writing.{valueText}
 use Rattle.putting.proofs.PuttingLaws.{puts-then}
 use borrow.Author.Needs.{needs}
@@ -6,7 +7,7 @@ use Rattle.putting.proofs.values.put_quoted.Statement.{statement}
 use Rattle.putting.proofs.values.put_quoted.Tie as tie
 
 returns : tie.Need-returns
-unfolding valueText
+unfolding valueText nameAt
 returns c =
     let at-put-part = c .before .before .before .before .before .before in
     let at-put-byte = at-put-part .before .before .before .before in

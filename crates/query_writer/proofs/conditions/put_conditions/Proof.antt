@@ -28,7 +28,7 @@ put-condition-requires : tie.Need-put-condition-requires Inv-loop μ-loop
 put-condition-requires c κs =
     let at-loop = c .before .before .before .before .before .before .before in
     let at-pre = at-loop .before .before .before .before .before in
-    (at-pre .pre .0 .each (at-loop .loop .i) (omega arith), at-pre .pre .1)
+    at-pre .pre .each (at-loop .loop .i) (omega arith)
 
 loop-again : tie.Need-loop-again Inv-loop μ-loop
 unfolding conditionsText

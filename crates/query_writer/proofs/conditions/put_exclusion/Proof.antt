@@ -1,12 +1,10 @@
 -- `put_exclusion` meets its contract. Assumes nothing.
-use Rattle.model.specs.Answers.{nameAt}
 use Rattle.putting.proofs.PuttingLaws.{puts-then}
 use borrow.Author.Needs.{needs}
 use Rattle.query_writer.proofs.conditions.put_exclusion.Statement.{statement}
 use Rattle.query_writer.proofs.conditions.put_exclusion.Tie as tie
 
 returns : tie.Need-returns
-unfolding nameAt
 returns c =
     let at-put-bytes = c .before .before .before .before .before .before in
     let at-put-part = at-put-bytes .before .before .before .before .before in

@@ -1,5 +1,4 @@
 -- `put_requirement` meets its contract. Assumes nothing.
-use Rattle.model.specs.Answers.{nameAt}
 use Rattle.model.specs.Writing.{demandText}
 use Rattle.query_writer.specs.Pieces.{requirementPiece}
 use Rattle.putting.proofs.PuttingLaws.{puts-then}
@@ -7,8 +6,15 @@ use borrow.Author.Needs.{needs}
 use Rattle.query_writer.proofs.conditions.put_requirement.Statement.{statement}
 use Rattle.query_writer.proofs.conditions.put_requirement.Tie as tie
 
+put-value-requires : tie.Need-put-value-requires
+put-value-requires c κs =
+    let at-put-relation = c .before .before .before .before .before .before .before .before in
+    let at-put-declared = at-put-relation .before .before .before .before .before .before .before .before .before in
+    let at-put-part = at-put-declared .before .before .before .before .before .before .before .before .before in
+    at-put-part .before .before .before .before .before .before .pre .1 .value
+
 returns : tie.Need-returns
-unfolding nameAt demandText requirementPiece
+unfolding demandText requirementPiece
 returns c =
     let at-put-bytes3 = c .before .before .before .before .before .before in
     let at-put-relation = at-put-bytes3 .before .before .before .before .before in
@@ -34,6 +40,6 @@ put-requirement-spec =
     (λ c κs. search needs)
     (λ c. search needs)
     (λ c κs. search needs)
-    (λ c κs. search needs)
+    put-value-requires
     (λ c. search needs)
     returns)

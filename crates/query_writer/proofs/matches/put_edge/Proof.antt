@@ -1,6 +1,4 @@
 -- `put_edge` meets its contract. Assumes nothing.
-use native.Mathlib.Omega.{arith}
-use Rattle.model.specs.Answers.{nameAt}
 use Rattle.query_writer.specs.Pieces.{vertexAt, edgePiece}
 use Rattle.putting.proofs.PuttingLaws.{puts-then, puts-keeps-length}
 use borrow.Author.Needs.{needs}
@@ -10,7 +8,14 @@ use Rattle.query_writer.proofs.matches.put_edge.Tie as tie
 put-declared-requires : tie.Need-put-declared-requires
 put-declared-requires c κs =
     let at-pre = c .before .before .before .before .before .before .before .before .before .before .before .before .before .before .before .before .before .before .before .before .before .before .before .before .before .before .before .before .before .before .before in
-    omega (arith, at-pre .pre .0 .label, at-pre .pre .1)
+    at-pre .pre .label
+
+put-part-requires-3 : tie.Need-put-part-requires-3
+put-part-requires-3 c κs =
+    let at-put-declared = c .before .before .before .before .before .before .before .before in
+    let at-put-part2 = at-put-declared .before .before .before .before .before .before .before .before .before in
+    let at-put-part = at-put-part2 .before .before .before .before .before .before .before .before .before in
+    at-put-part .before .before .before .before .before .before .before .before .before .before .before .before .before .before .pre .to .1
 
 same-length : tie.Need-same-length
 same-length c =
@@ -29,7 +34,7 @@ same-length c =
     (c .before .before .put-bytes5 .ensures))
 
 returns : tie.Need-returns
-unfolding nameAt vertexAt edgePiece
+unfolding vertexAt edgePiece
 returns c =
     let at-put-part3 = c .before .before .before .before .before .before .before in
     let at-put-bytes4 = at-put-part3 .before .before .before .before in
@@ -64,7 +69,7 @@ put-edge-spec =
     put-declared-requires
     (λ c. search needs)
     (λ c κs. search needs)
-    (λ c κs. search needs)
+    put-part-requires-3
     (λ c. search needs)
     (λ c κs. search needs)
     same-length

@@ -25,9 +25,7 @@ unfolding edgesText
 loop-holds c = let a = c .before .before .before .before .args in (omega arith, puts-none (bytesOf " ") (bytesOf " ") (a .out .now) (a .at))
 
 put-edge-requires : tie.Need-put-edge-requires Inv-loop μ-loop
-put-edge-requires c κs =
-    let at-pre = c .before .before .before .before .before .before .before .before in
-    (at-pre .pre .0 .each (c .before .before .before .loop .i) (omega arith), at-pre .pre .1)
+put-edge-requires c κs = c .before .before .before .before .before .before .before .before .pre .each (c .before .before .before .loop .i) (omega arith)
 
 loop-again : tie.Need-loop-again Inv-loop μ-loop
 unfolding edgesText

@@ -1,5 +1,4 @@
 -- `put_vertex` meets its contract. Assumes nothing.
-use Rattle.model.specs.Answers.{nameAt}
 use Rattle.query_writer.specs.Pieces.{vertexPiece}
 use Rattle.putting.proofs.PuttingLaws.{puts-then}
 use borrow.Author.Needs.{needs}
@@ -7,7 +6,7 @@ use Rattle.query_writer.proofs.matches.put_vertex.Statement.{statement}
 use Rattle.query_writer.proofs.matches.put_vertex.Tie as tie
 
 returns : tie.Need-returns
-unfolding nameAt vertexPiece
+unfolding vertexPiece
 returns c =
     let at-put-part = c .before .before .before .before .before .before .before in
     let at-put-bytes = at-put-part .before .before .before .before in

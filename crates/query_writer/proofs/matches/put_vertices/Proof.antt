@@ -24,6 +24,9 @@ loop-holds : tie.Need-loop-holds Inv-loop μ-loop
 unfolding verticesText
 loop-holds c = let a = c .before .before .args in (omega arith, puts-none [] (bytesOf " ") (a .out .now) (a .at))
 
+put-vertex-requires : tie.Need-put-vertex-requires Inv-loop μ-loop
+put-vertex-requires c κs = c .before .before .before .before .before .before .pre .each (c .before .before .before .loop .i) (omega arith)
+
 loop-again : tie.Need-loop-again Inv-loop μ-loop
 unfolding verticesText
 loop-again c = let a = c .before .before .before .before .before .before .before .before .before .args in
@@ -51,7 +54,7 @@ put-vertices-spec =
     loop-holds
     (λ c. search needs)
     (λ c. search needs)
-    (λ c κs. search needs)
+    put-vertex-requires
     (λ c. search needs)
     (λ c. search needs)
     loop-again

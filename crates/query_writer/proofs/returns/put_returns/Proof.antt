@@ -24,10 +24,13 @@ unfolding vertexAt returnsText
 loop-holds c = let a = c .before .before .args in (omega arith, puts-none [] (bytesOf ", ") (a .out .now) (a .at))
 
 mul-name : tie.Need-mul-name Inv-loop μ-loop
-mul-name c = omega (arith, c .before .before .before .before .pre .each (c .before .loop .i) (omega arith))
+mul-name c = omega (arith, c .before .before .before .before .pre .each (c .before .loop .i) (omega arith) .0)
 
 array-copy-out-name : tie.Need-array-copy-out-name Inv-loop μ-loop
-array-copy-out-name c = omega (arith, c .before .before .before .before .pre .each (c .before .loop .i) (omega arith))
+array-copy-out-name c = omega (arith, c .before .before .before .before .pre .each (c .before .loop .i) (omega arith) .0)
+
+put-return-requires : tie.Need-put-return-requires Inv-loop μ-loop
+put-return-requires c κs = c .before .before .before .before .before .before .pre .each (c .before .before .before .loop .i) (omega arith) .1
 
 loop-again : tie.Need-loop-again Inv-loop μ-loop
 unfolding vertexAt returnsText
@@ -58,7 +61,7 @@ put-returns-spec =
     (λ c. search needs)
     mul-name
     array-copy-out-name
-    (λ c κs. search needs)
+    put-return-requires
     (λ c. search needs)
     (λ c. search needs)
     loop-again

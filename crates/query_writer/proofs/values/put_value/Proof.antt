@@ -1,9 +1,17 @@
 -- `put_value` meets its contract, by the value's kind. Assumes nothing.
+use mathlib.Core.Path.{subst}
+use lib.ListN.{length}
+use Rattle.model.specs.PlainData.{ValueWithin}
 use Rattle.putting.proofs.PuttingLaws.{puts-same}
 use Rattle.query_writer.proofs.ValueLaws.{number-value, text-value, truth-value}
 use borrow.Author.Needs.{needs}
 use Rattle.query_writer.proofs.values.put_value.Statement.{statement}
 use Rattle.query_writer.proofs.values.put_value.Tie as tie
+
+put-quoted-requires : tie.Need-put-quoted-requires
+put-quoted-requires c κs =
+    let at-pre = c .before .before .before .before .before .before in
+    subst (ValueWithin (length (at-pre .args .query .now))) (c .before .before .value2 .given .1) (at-pre .pre)
 
 returns : tie.Need-returns
 returns c =
@@ -30,7 +38,7 @@ put-value-spec =
     (λ c. search needs)
     (λ c κs. search needs)
     (λ c. search needs)
-    (λ c κs. search needs)
+    put-quoted-requires
     (λ c. search needs)
     (λ c κs. search needs)
     (λ c. search needs)

@@ -24,26 +24,31 @@ abbrev μ-loop : tie.MeasureT-loop
 loop-holds : tie.Need-loop-holds Inv-loop μ-loop
 loop-holds c = (omega arith, λ j h. absurd (omega arith))
 
+part-of-requires : tie.Need-part-of-requires Inv-loop μ-loop
+part-of-requires c κs =
+    let at-loop = c .before .before .before in
+    at-loop .before .before .before .before .before .pre .0 .actors (at-loop .loop .i) (c .before .before .loop-test .taken)
+
 cast-result : tie.Need-cast-result Inv-loop μ-loop
 cast-result c =
     let at-loop = c .before .before .before .before .before .before .before in
     let at-pre = at-loop .before .before .before .before .before in
-    let f = at-pre .pre .nodes (at-loop .loop .i) (omega arith) in omega arith
+    let f = at-pre .pre .0 .nodes (at-loop .loop .i) (omega arith) in omega arith
 
 returns : tie.Need-returns Inv-loop μ-loop
 returns c =
     let a = c .before .before .before .before .before .before .before .before .before .before .before .before .args in
     let all : length (a .t4) ≡ 8 = search needs in
-    let few = c .before .before .before .before .before .before .before .before .before .before .before .before .pre .few in
-    node-said _ (c .before .before .before .before .before .before .before .before .before .before .before .before .pre .nodes
+    let few = c .before .before .before .before .before .before .before .before .before .before .before .before .pre .0 .few in
+    node-said _ (c .before .before .before .before .before .before .before .before .before .before .before .before .pre .0 .nodes
     (c .before .before .before .before .before .before .before .loop .i) (omega arith))
     ∙ sym (found-in (a .request .now) (a .t4) (a .count) (omega arith) (vertexOfWord (a .query .now) (a .rules .now) (a .word))
     (c .before .before .before .before .before .before .before .loop .i) (c .before .before .before .before .before .before .loop-test .taken)
     (c .before .before .before .before .before .before .before .loop .inv .1)
     (compared (a .query .now) (a .rules .now) (a .request .now) (a .word)
-    (getD (a .t4) (c .before .before .before .before .before .before .before .loop .i) noIdentity) (c .before .before .before .part .result .now)
+    (getD (a .t4) (c .before .before .before .before .before .before .before .loop .i) noIdentity) (c .before .before .before .part-of .result .now)
     (c .before .before .says .result) (c .before .before .before .before .before .before .before .before .if1 .taken)
-    (c .before .before .before .part .ensures) (c .before .before .says .ensures) ∙ c .before .if2 .taken))
+    (c .before .before .before .part-of .ensures) (c .before .before .says .ensures) ∙ c .before .if2 .taken))
 
 loop-again : tie.Need-loop-again Inv-loop μ-loop
 loop-again c =
@@ -53,7 +58,7 @@ loop-again c =
     let a = at-args .args in
     let own : identifiedBy (vertexOfWord (a .query .now) (a .rules .now) (a .word)) (identityIn (a .request .now) (getD (a .t4) (at-loop .loop .i) noIdentity)) ≡ false =
     compared (a .query .now) (a .rules .now) (a .request .now) (a .word) (getD (a .t4) (at-loop .loop .i) noIdentity)
-    (c .before .before .part .result .now) (c .before .says .result) (at-if1 .if1 .taken) (c .before .before .part .ensures) (c .before .says .ensures)
+    (c .before .before .part-of .result .now) (c .before .says .result) (at-if1 .if1 .taken) (c .before .before .part-of .ensures) (c .before .says .ensures)
     ∙ c .if2 .left in (
       omega arith,
       λ j h. either (equal-or-not j (at-loop .loop .i))
@@ -67,7 +72,7 @@ unfolding nodeIn
 returns-2 c =
     let a = c .before .before .before .before .before .before .args in
     let all : length (a .t4) ≡ 8 = search needs in
-    let few = c .before .before .before .before .before .before .pre .few in
+    let few = c .before .before .before .before .before .before .pre .0 .few in
     sym (none-in (a .request .now) (a .t4) (a .count) (omega arith) (vertexOfWord (a .query .now) (a .rules .now) (a .word))
     (λ j h. c .before .loop .inv .1 j (omega arith)))
 
@@ -76,7 +81,7 @@ unfolding nodeIn
 returns-3 c =
     let a = c .before .before .before .before .args in
     let all : length (a .t4) ≡ 8 = search needs in
-    let few = c .before .before .before .before .pre .few in
+    let few = c .before .before .before .before .pre .0 .few in
     sym (own-has-none (a .request .now) (a .t4) (a .count) (omega arith) (a .query .now) (a .rules .now) (a .word) (c .if1 .left))
 
 pub find-identity-spec : {M : Type 1} → statement M
@@ -88,7 +93,7 @@ find-identity-spec =
     loop-holds
     (λ c. search needs)
     (λ c. search needs)
-    (λ c κs. search needs)
+    part-of-requires
     (λ c κs. search needs)
     cast-result
     returns

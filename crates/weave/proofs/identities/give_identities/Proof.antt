@@ -1,9 +1,11 @@
 -- `give_identities` meets its contract. The loop's invariant: the vertices below v have their nodes. Assumes nothing.
 use Rattle.weave.proofs.IdentityLaws.{GivenSoFar, given-start, given-more}
+use Rattle.woven_tables.specs.Tables.{NameInside}
 use Rattle.weave.specs.Identities.{identitiesIn, IdentitiesGiven}
 use native.Mathlib.Omega.{arith}
+use mathlib.Core.Logic.{inl}
 use mathlib.Core.Path.{_≡_, sym, subst}
-use Prim.Native.Nat.{_+_, _-_, _≤_}
+use Prim.Native.Nat.{_+_, _-_, _/_, _≤_}
 use borrow.Author.Needs.{needs}
 use Rattle.weave.proofs.identities.give_identities.Statement.{statement}
 use Rattle.weave.proofs.identities.give_identities.Tie as tie
@@ -24,6 +26,17 @@ slice-read-find-identity : tie.Need-slice-read-find-identity Inv-loop μ-loop
 slice-read-find-identity c =
     let at-pre = c .before .before .before .before .before .before .before in
     omega (arith, c .before .before .loop .inv .1 .size, at-pre .pre .1, at-pre .pre .2)
+
+find-identity-requires : tie.Need-find-identity-requires Inv-loop μ-loop
+find-identity-requires c κs =
+    let at-loop = c .before .before in
+    let at-pre = at-loop .before .before .before .before .before in
+    let v = at-loop .loop .v in
+    let own = at-pre .pre .3 v (c .before .loop-test .taken) in (
+      at-pre .pre .0,
+      subst (λ w. NameInside (at-pre .args .query .now) (at-pre .args .rules .now) (w / 2))
+          (sym (at-loop .loop .inv .1 .given .kept v (inl (omega (arith, at-pre .pre .1))))) own,
+    )
 
 slice-write-words : tie.Need-slice-write-words Inv-loop μ-loop
 slice-write-words c =
@@ -63,7 +76,7 @@ give-identities-spec =
     loop-holds
     (λ c. search needs)
     slice-read-find-identity
-    (λ c κs. search needs)
+    find-identity-requires
     (λ c. search needs)
     (λ c. search needs)
     slice-write-words

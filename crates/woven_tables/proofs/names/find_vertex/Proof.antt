@@ -25,6 +25,11 @@ loop-holds c =
     let at-args = c .before .before .before in
     (omega arith, scan-none _ (λ j. vertexOfWord (at-args .args .query .now) (at-args .args .rules .now) (getD (at-args .args .words .now) j 0)))
 
+same-vertex-requires : tie.Need-same-vertex-requires Inv-loop μ-loop
+same-vertex-requires c κs =
+    let at-loop = c .before .before in
+    let at-pre = at-loop .before .before .before .before in (at-pre .pre .2, at-pre .pre .1 (at-loop .loop .i) (c .before .loop-test .taken))
+
 returns : tie.Need-returns Inv-loop μ-loop
 unfolding placeVertex verticesAt
 returns c =
@@ -64,7 +69,7 @@ find-vertex-spec =
     loop-holds
     (λ c. search needs)
     (λ c. search needs)
-    (λ c κs. search needs)
+    same-vertex-requires
     returns
     (λ c. search needs)
     (λ c. search needs)

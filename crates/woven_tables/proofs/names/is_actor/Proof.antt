@@ -6,6 +6,7 @@ use Rattle.book_tables.specs.Listed.{listed}
 use Rattle.model.specs.Names.{mem}
 use Rattle.model.specs.Lists.{any}
 use Rattle.model.specs.Bytes.{same}
+use Rattle.model.specs.Answers.{nameAt}
 use lib.ListN.{getD}
 use native.Mathlib.Omega.{arith}
 use Prim.Native.Nat.{_-_, _≤_}
@@ -32,8 +33,13 @@ loop-holds c =
 cast-w : tie.Need-cast-w Inv-loop μ-loop
 cast-w c = omega (arith, c .shared-slice-known4 .given (c .before .before .loop .i))
 
+part-of-requires : tie.Need-part-of-requires Inv-loop μ-loop
+part-of-requires c κs =
+    let at-loop = c .before .before in
+    at-loop .before .before .before .before .pre .1 (at-loop .loop .i) (c .before .loop-test .taken)
+
 returns : tie.Need-returns Inv-loop μ-loop
-unfolding mem actorsAt nameIn
+unfolding mem actorsAt nameIn nameAt
 returns c =
     let at-loop-test = c .before .before .before .before in
     let at-loop = at-loop-test .before in
@@ -41,17 +47,17 @@ returns c =
     sym (scan-found (same (nameOf (at-args .args .query .now) (at-args .args .rules .now) (at-args .args .word)))
     (λ j. nameIn (at-args .args .rules .now) (getD (at-args .args .actors .now) j 0)) (at-args .args .count) (at-loop .loop .i)
     (at-loop-test .loop-test .taken) (ap (same (nameOf (at-args .args .query .now) (at-args .args .rules .now) (at-args .args .word)))
-    (sym (c .before .before .part .ensures)) ∙ sym (c .before .says .ensures) ∙ c .if1 .taken))
+    (sym (c .before .before .part-of .ensures)) ∙ sym (c .before .says .ensures) ∙ c .if1 .taken))
 
 loop-again : tie.Need-loop-again Inv-loop μ-loop
-unfolding nameIn
+unfolding nameIn nameAt
 loop-again c =
     let at-loop = c .before .before .before .before .before in
     let at-args = at-loop .before .before .before .before in (
       omega arith,
       scan-on (same (nameOf (at-args .args .query .now) (at-args .args .rules .now) (at-args .args .word)))
           (λ j. nameIn (at-args .args .rules .now) (getD (at-args .args .actors .now) j 0)) (at-loop .loop .i) (at-loop .loop .inv .1)
-          (ap (same (nameOf (at-args .args .query .now) (at-args .args .rules .now) (at-args .args .word))) (sym (c .before .before .part .ensures))
+          (ap (same (nameOf (at-args .args .query .now) (at-args .args .rules .now) (at-args .args .word))) (sym (c .before .before .part-of .ensures))
           ∙ sym (c .before .says .ensures) ∙ c .if1 .left),
     )
 
@@ -73,7 +79,7 @@ is-actor-spec =
     (λ c. search needs)
     (λ c. search needs)
     cast-w
-    (λ c κs. search needs)
+    part-of-requires
     (λ c κs. search needs)
     returns
     (λ c. search needs)

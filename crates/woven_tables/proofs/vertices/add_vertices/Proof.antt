@@ -24,7 +24,7 @@ loop-holds c =
     let at-args = c .before .before .before .before in (
       omega arith,
       vertices-start (at-args .args .query .now) (at-args .args .rules .now) _ (at-args .args .words .now) (at-args .args .woven) _
-          (omega arith) refl,
+          (omega arith) refl (at-args .pre .4 .woven),
     )
 
 add-vertex-of : tie.Need-add-vertex-of Inv-loop μ-loop
@@ -35,13 +35,14 @@ add-vertex-of c =
 vertex-of-requires : tie.Need-vertex-of-requires Inv-loop μ-loop
 vertex-of-requires c κs =
     let at-pre = c .before .before .before .before .before .before .before .before in
-    let f = at-pre .pre .0 .fit (c .before .before .before .loop .i) (omega arith) in (at-pre .pre .1, at-pre .pre .0 .few-texts, f .0, f .1)
+    let f = at-pre .pre .0 .fit (c .before .before .before .loop .i) (omega arith) in
+    (at-pre .pre .1, at-pre .pre .0 .few-texts, f .0, f .1, at-pre .pre .4 .actors, at-pre .pre .4 .own (c .before .before .before .loop .i) (omega arith))
 
 place-vertex-requires : tie.Need-place-vertex-requires Inv-loop μ-loop
 place-vertex-requires c κs =
     let at-loop = c .before .before .before .before .before in
     let at-pre = at-loop .before .before .before .before .before in
-    (at-loop .loop .inv .1 .few, omega (arith, at-loop .loop .inv .1 .room, at-pre .pre .3))
+    (at-loop .loop .inv .1 .few, omega (arith, at-loop .loop .inv .1 .room, at-pre .pre .3), at-loop .loop .inv .1 .inside, c .before .vertex-of .ensures .0)
 
 same-length : tie.Need-same-length Inv-loop μ-loop
 same-length c =
@@ -65,7 +66,7 @@ returns c =
     (c .before .before .before .before .before .before .before .before .before .loop .inv .1) (omega arith)
     (c .before .before .before .place-vertex .last .1 .1 .0) (c .before .before .before .before .before .vertex-of .result)
     (c .before .before .before .place-vertex .result) (c .before .before .before .place-vertex .ensures)
-    (c .before .before .before .before .before .vertex-of .ensures
+    (c .before .before .before .before .before .vertex-of .ensures .1
     ∙ own-says text (a .base) (a .k) actors (a .t7) (a .count) few (c .before .before .before .before .before .before .before .before .before .loop .i)
     (c .before .before .before .before .before .before .before .before .loop-test .taken)) (a .count) all (c .if1 .taken)
 
@@ -87,7 +88,7 @@ loop-again c =
           (c .before .before .before .before .before .before .before .before .before .loop .inv .1) (omega arith)
           (c .before .before .before .place-vertex .last .1 .1 .0) (c .before .before .before .before .before .vertex-of .result)
           (c .before .before .before .place-vertex .result) (c .before .before .before .place-vertex .ensures)
-          (c .before .before .before .before .before .vertex-of .ensures
+          (c .before .before .before .before .before .vertex-of .ensures .1
           ∙ own-says text (a .base) (a .k) actors (a .t7) (a .count) few
           (c .before .before .before .before .before .before .before .before .before .loop .i)
           (c .before .before .before .before .before .before .before .before .loop-test .taken))

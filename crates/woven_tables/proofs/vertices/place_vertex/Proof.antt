@@ -9,19 +9,20 @@ returns : tie.Need-returns
 returns c =
     let at-args = c .before .before .before .before .before .before in
     place-there (at-args .args .query .now) (at-args .args .rules .now) (at-args .args .words .now) (at-args .args .n) (at-args .args .word)
-    (c .before .find-vertex .result) (c .before .find-vertex .ensures) (c .if1 .taken)
+    (c .before .find-vertex .result) (c .before .find-vertex .ensures) (at-args .pre .2) (at-args .pre .3) (c .if1 .taken)
 
 returns-2 : tie.Need-returns-2
 returns-2 c =
     let at-args = c .before .before .before .before .before .before .before in
     place-new (at-args .args .query .now) (at-args .args .rules .now) (at-args .args .words .now) (at-args .args .n) (at-args .args .word)
-    (c .before .before .find-vertex .result) (c .before .before .find-vertex .ensures) (c .before .if1 .left) (c .if2 .taken) (omega arith)
+    (c .before .before .find-vertex .result) (c .before .before .find-vertex .ensures) (at-args .pre .2) (at-args .pre .3)
+    (c .before .if1 .left) (c .if2 .taken) (omega arith)
 
 returns-3 : tie.Need-returns-3
 returns-3 c =
     let at-args = c .before .before .before .before .before .before .before in
     place-passed (at-args .args .query .now) (at-args .args .rules .now) (at-args .args .words .now) (at-args .args .n) (at-args .args .word)
-    (c .before .before .find-vertex .result) (c .before .before .find-vertex .ensures) (c .before .if1 .left) (c .if2 .left)
+    (c .before .before .find-vertex .result) (c .before .before .find-vertex .ensures) (at-args .pre .2) (at-args .pre .3) (c .before .if1 .left) (c .if2 .left)
 
 pub place-vertex-spec : {M : Type 1} → statement M
 place-vertex-spec =
