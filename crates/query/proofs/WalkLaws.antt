@@ -2,9 +2,10 @@
 use Prim.Native.Nat.{ℕ, _+_, _<_, _≤_}
 use mathlib.Core.Path.{_≡_, refl, sym, ap, subst, _∙_}
 use mathlib.Core.List.{List, [], _∷_, _++_, map}
-use mathlib.Core.Bool.{Bool}
+use mathlib.Core.Bool.{Bool, true, false}
 use native.Mathlib.Omega.{arith}
 use lib.ListN.{length, set}
+use Rattle.model.specs.Choice.{pick}
 use Rattle.model.specs.Bytes.{Bytes}
 use Rattle.model.specs.Lists.{joined, firstsBy}
 use Rattle.model.specs.Names.{place, addNew, firsts}
@@ -88,8 +89,8 @@ no-variable (Truth t) = (refl, refl)
 edge-named : (s : Bytes) (p : PieceData) → map (nameAt s) (joined edgePart (pieceStanding p)) ≡ edgeIn (pieceOf s p)
 unfolding edgeIn pieceOf pieceStanding edgePart joined
 edge-named s (piece.Start v) = refl
-edge-named s (piece.Goes l) = refl
-edge-named s (piece.Comes l) = refl
+edge-named s (piece.Linked true l) = refl
+edge-named s (piece.Linked false l) = refl
 edge-named s (piece.Differ v u) = refl
 edge-named s (piece.Asks d) = ap (map (nameAt s)) (no-variable (d .value) .1)
 edge-named s (piece.Returns v) = refl
@@ -224,17 +225,17 @@ module _ {book : Bytes} {words : List ℕ} {c : BookCounts} {s : Bytes} {from : 
       start-on h = pattern-on (turn g) (own-later (turn g) name refl n) (vertex-more (turn g) name refl n h) edges-kept clauses-kept returns-kept
 
     -- a link, from the last vertex to its own
-    module _ {link : Link} (g : x .piece ≡ piece.Goes link) where
-      pub goes-room : e .count < 16
+    module _ {link : Link} (g : x .piece ≡ piece.Linked true link) where
+      goes-room : e .count < 16
       unfolding edgesBetween pieceOf
       goes-room = omega (arith, edge-room (turn g))
 
       module _ {own : ℕ} (n : own ≡ place (nameAt s (link .vertex)) ws) where
-        pub goes-own : own < 8
+        goes-own : own < 8
         unfolding vertexIn pieceOf
         goes-own = own-room (turn g) (link .vertex) refl n
 
-        pub goes-on : {u : Vertices} → Placed v own (link .vertex) u → {y : Edge} → y ≡ edgeMade b s link last own
+        goes-on : {u : Vertices} → Placed v own (link .vertex) u → {y : Edge} → y ≡ edgeMade b s link last own
             → PatternSoFar book words c s (x .next) own u (record { edges = set (e .edges) (e .count) y; count = e .count + 1 }) k r
         unfolding vertexIn edgesBetween conditionIn returnIn pieceOf pieceStanding vertexPart edgePart valuePart joined numberAfter firstsBy
         goes-on h {y} made =
@@ -242,22 +243,39 @@ module _ {book : Bytes} {words : List ℕ} {c : BookCounts} {s : Bytes} {from : 
             (link-more s e (so .edges .stored) b link last own y made goes-room) clauses-kept returns-kept
 
     -- a link, from its own vertex to the last
-    module _ {link : Link} (g : x .piece ≡ piece.Comes link) where
-      pub comes-room : e .count < 16
+    module _ {link : Link} (g : x .piece ≡ piece.Linked false link) where
+      comes-room : e .count < 16
       unfolding edgesBetween pieceOf
       comes-room = omega (arith, edge-room (turn g))
 
       module _ {own : ℕ} (n : own ≡ place (nameAt s (link .vertex)) ws) where
-        pub comes-own : own < 8
+        comes-own : own < 8
         unfolding vertexIn pieceOf
         comes-own = own-room (turn g) (link .vertex) refl n
 
-        pub comes-on : {u : Vertices} → Placed v own (link .vertex) u → {y : Edge} → y ≡ edgeMade b s link own last
+        comes-on : {u : Vertices} → Placed v own (link .vertex) u → {y : Edge} → y ≡ edgeMade b s link own last
             → PatternSoFar book words c s (x .next) own u (record { edges = set (e .edges) (e .count) y; count = e .count + 1 }) k r
         unfolding vertexIn edgesBetween conditionIn returnIn pieceOf pieceStanding vertexPart edgePart valuePart joined numberAfter firstsBy
         comes-on h {y} made =
             pattern-on (turn g) (own-later (turn g) (link .vertex) refl n) (vertex-more (turn g) (link .vertex) refl n h)
             (link-more s e (so .edges .stored) b link own last y made comes-room) clauses-kept returns-kept
+
+    -- a link, whichever way it points
+    module _ {link : Link} where
+      pub link-room : (points : Bool) → x .piece ≡ piece.Linked points link → e .count < 16
+      link-room true g = goes-room g
+      link-room false g = comes-room g
+
+      module _ {own : ℕ} (n : own ≡ place (nameAt s (link .vertex)) ws) where
+        pub link-own : (points : Bool) → x .piece ≡ piece.Linked points link → own < 8
+        link-own true g = goes-own g n
+        link-own false g = comes-own g n
+
+        pub link-on : (points : Bool) → x .piece ≡ piece.Linked points link → {u : Vertices} → Placed v own (link .vertex) u
+            → {y : Edge} → y ≡ edgeMade b s link (pick points last own) (pick points own last)
+            → PatternSoFar book words c s (x .next) own u (record { edges = set (e .edges) (e .count) y; count = e .count + 1 }) k r
+        link-on true g h made = goes-on g n h made
+        link-on false g h made = comes-on g n h made
 
     -- an exclusion
     module _ {one other : Part} (g : x .piece ≡ piece.Differ one other) where

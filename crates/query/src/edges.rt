@@ -1,5 +1,6 @@
 // The edges of a text in its order, labels by their numbers in the book, ends by their numbers among the vertices.
 ghost use mathlib.Core.Path.{_≡_};
+ghost use Rattle.model.specs.Choice.{pick};
 ghost use Rattle.model.specs.Names.{place};
 ghost use Rattle.model.specs.Answers.{nameAt};
 ghost use Rattle.book_tables.specs.View.{bookAt};
@@ -57,26 +58,35 @@ pub fn edge_number(s: &[u8], links: Edges, name: Part) -> usize
     n
 }
 
-// An edge between two vertices by number, its label by number.
+// The edge of a link, its label by number, between the last vertex and its own by number: it points to its own, or to the last.
 pub fn edge_of(
     book: &[u8],
     words: &[u32],
     counts: BookCounts,
     s: &[u8],
     link: Link,
-    from: usize,
-    to: usize,
+    points: bool,
+    last: usize,
+    own: usize,
 ) -> Edge
     requires { ⌜ Fits (now book) (now words) counts × HasPart (now s) (link .label) ⌝ }
-    ensures { λ r. ⌜ r ≡ edgeMade (bookAt (now (book .entry)) (now (words .entry)) counts) (now (s .entry)) link from to ⌝ }
+    ensures { λ r. ⌜ r ≡ edgeMade (bookAt (now (book .entry)) (now (words .entry)) counts) (now (s .entry)) link (pick points last own) (pick points own last) ⌝ }
 {
     let word = link.label;
     let label = names::find_label(book, words, counts, parts::part_of(s, word));
     let name = link.edge;
+    if points {
+        return Edge {
+            name,
+            label,
+            from: last,
+            to: own,
+        };
+    }
     Edge {
         name,
         label,
-        from,
-        to,
+        from: own,
+        to: last,
     }
 }

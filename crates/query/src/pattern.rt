@@ -25,6 +25,7 @@ use model::limits::MAX_VERTICES;
 use query_faults::scan;
 use query_pieces::Piece;
 use query_pieces::PieceRead;
+use query_pieces::Place;
 use query_pieces::reading;
 
 // The empty pattern.
@@ -102,29 +103,26 @@ pub fn pattern_of(book: &[u8], words: &[u32], counts: BookCounts, s: &[u8]) -> P
             return made(found, links, conditions, returned);
         };
         let p = x.piece;
-        let next = x.next;
-        place = next;
+        let behind = x.next;
+        let spot = behind.spot;
+        // Field by field: as a whole it would be read before all of it is written.
+        place = Place {
+            at: behind.at,
+            close: behind.close,
+            spot,
+        };
         match p {
             Piece::Start(v) => {
                 let own = vertices::vertex_number(s, found, v);
                 found = vertices::with_vertex(found, own, v);
                 last = own;
             }
-            Piece::Goes(link) => {
+            Piece::Linked(points, link) => {
                 let v = link.vertex;
                 let own = vertices::vertex_number(s, found, v);
                 found = vertices::with_vertex(found, own, v);
                 let n = links.count;
-                links.edges[n] = edges::edge_of(book, words, counts, s, link, last, own);
-                links.count = n + 1;
-                last = own;
-            }
-            Piece::Comes(link) => {
-                let v = link.vertex;
-                let own = vertices::vertex_number(s, found, v);
-                found = vertices::with_vertex(found, own, v);
-                let n = links.count;
-                links.edges[n] = edges::edge_of(book, words, counts, s, link, own, last);
+                links.edges[n] = edges::edge_of(book, words, counts, s, link, points, last, own);
                 links.count = n + 1;
                 last = own;
             }

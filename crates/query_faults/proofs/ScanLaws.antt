@@ -20,6 +20,9 @@ use Rattle.model.specs.declared.Part.{Part}
 use Rattle.query_pieces.specs.Walk.{Walk, stopped, ahead, orStopped, walk}
 use Rattle.query_signs.specs.Reads.{signsFrom}
 use Rattle.query_pieces.specs.Steps.{spotOf, chainAt, pieceOf, walkAt, stepOf, StepAt}
+use Rattle.query_pieces.specs.Named.{vertexIn, edgeIn, returnIn}
+use Rattle.query_pieces.specs.declared.Link.{Link}
+use Rattle.query_pieces.specs.declared.Piece.the-variants as piece
 use Rattle.query_pieces.specs.declared.Place.{Place}
 use Rattle.query_pieces.specs.declared.Step.{Step}
 use Rattle.query_pieces.specs.declared.PieceRead.{PieceRead}
@@ -140,3 +143,20 @@ module _ (text : List Piece) (i : ℕ) (p : Piece) (qs : List Piece) (e : drop i
     where
       head : getD text i p ≡ p
       head = let z = drop-cons text i p further-in in cc
+
+-- the names of a link, whichever way it points
+module _ (s : Bytes) (l : Link) where
+  pub linked-vertex : (points : Bool) → vertexIn (pieceOf s (piece.Linked points l)) ≡ nameAt s (l .vertex) ∷ []
+  unfolding vertexIn pieceOf
+  linked-vertex true = refl
+  linked-vertex false = refl
+
+  pub linked-edge : (points : Bool) → edgeIn (pieceOf s (piece.Linked points l)) ≡ nameAt s (l .edge) ∷ []
+  unfolding edgeIn pieceOf
+  linked-edge true = refl
+  linked-edge false = refl
+
+  pub linked-return : (points : Bool) → returnIn (pieceOf s (piece.Linked points l)) ≡ []
+  unfolding returnIn pieceOf
+  linked-return true = refl
+  linked-return false = refl

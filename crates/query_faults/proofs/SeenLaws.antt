@@ -14,7 +14,10 @@ use Rattle.model.specs.ReadQuery.{typed, unknown, mistyped, fromItself, isDiffe
 use Rattle.query_pieces.specs.Faults.{mistypedAt, fromItselfAt}
 use Rattle.query_pieces.specs.Named.{vertexIn, edgeIn, returnIn}
 use Rattle.query_pieces.specs.Steps.{pieceOf}
+use Rattle.model.specs.Answers.{nameAt}
+use Rattle.query_pieces.specs.declared.Link.{Link}
 use Rattle.query_pieces.specs.declared.Piece.{Piece as PieceData}
+use Rattle.query_pieces.specs.declared.Piece.the-variants as piece
 use Rattle.names_met.specs.Table.{Holds}
 use Rattle.names_met.proofs.TableLaws.{holds-same}
 use Rattle.query_faults.specs.Known.{Table, Behind}
@@ -187,6 +190,13 @@ module _ (b : Book) (s : Bytes) (done : List Piece) (t : Survey) (vertices edges
       → Returns (namesIn Returned done ++ (v ∷ [])) → Now (returns v)
   unfolding nameIn vertexIn edgeIn returnIn
   behind-return v k hv he hr = record { seen = k; vertex-names = holds-same s vertices _ _ hv; edge-names = holds-same s edges _ _ he; return-names = hr }
+
+  -- a link, whichever way it points
+  pub behind-linked : (l : Link) → Now (goes (nameAt s (l .edge)) (nameAt s (l .label)) (nameAt s (l .vertex)))
+      × Now (comes (nameAt s (l .edge)) (nameAt s (l .label)) (nameAt s (l .vertex))) → (points : Bool) → Now (pieceOf s (piece.Linked points l))
+  unfolding pieceOf
+  behind-linked l k true = k .0
+  behind-linked l k false = k .1
 
   -- a piece that is of a kind
   pub behind-is : (p q : PieceData) → p ≡ q → Now (pieceOf s q) → Now (pieceOf s p)

@@ -37,11 +37,7 @@ pub fn vertex_of(p: Piece) -> NameOf
 {
     match p {
         Piece::Start(v) => NameOf::Is(v),
-        Piece::Goes(l) => {
-            let name = l.vertex;
-            NameOf::Is(name)
-        }
-        Piece::Comes(l) => {
+        Piece::Linked(_, l) => {
             let name = l.vertex;
             NameOf::Is(name)
         }
@@ -58,11 +54,7 @@ pub fn edge_of(p: Piece) -> NameOf
 {
     match p {
         Piece::Start(_) => NameOf::None,
-        Piece::Goes(l) => {
-            let name = l.edge;
-            NameOf::Is(name)
-        }
-        Piece::Comes(l) => {
+        Piece::Linked(_, l) => {
             let name = l.edge;
             NameOf::Is(name)
         }
@@ -79,8 +71,7 @@ pub fn return_of(p: Piece) -> NameOf
 {
     match p {
         Piece::Start(_) => NameOf::None,
-        Piece::Goes(_) => NameOf::None,
-        Piece::Comes(_) => NameOf::None,
+        Piece::Linked(_, _) => NameOf::None,
         Piece::Differ(_, _) => NameOf::None,
         Piece::Asks(_) => NameOf::None,
         Piece::Returns(v) => NameOf::Is(v),

@@ -79,8 +79,7 @@ fn piece_passed(
             met.vertices = names_met::with_name(s, vertices, met.vertices, v);
             Passed { survey: r, met }
         }
-        Piece::Goes(l) => link_passed(book, words, counts, s, vertices, edges, i, before, l),
-        Piece::Comes(l) => link_passed(book, words, counts, s, vertices, edges, i, before, l),
+        Piece::Linked(_, l) => link_passed(book, words, counts, s, vertices, edges, i, before, l),
         Piece::Differ(v, u) => {
             let r = conditions::differ_seen(s, vertices, edges, met, i, t, v, u);
             Passed { survey: r, met }
@@ -141,7 +140,14 @@ pub fn fault_with(
         match reading::next_piece(s, place) {
             PieceRead::Found(x) => {
                 let p = x.piece;
-                let next = x.next;
+                let behind = x.next;
+                let spot = behind.spot;
+                // Field by field: as a whole it would be read before all of it is written.
+                let next = Place {
+                    at: behind.at,
+                    close: behind.close,
+                    spot,
+                };
                 t = piece_passed(book, words, counts, s, vertices, edges, returned, i, t, p);
                 if t.survey.undeclared {
                     return tallies::fault_at_end(is_whole_from(s, next), t.survey);

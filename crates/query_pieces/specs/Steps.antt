@@ -47,8 +47,8 @@ chainAt spot.InReturn = false
 -- the piece that each case is
 unfoldable pub pieceOf : Bytes → PieceData → Piece
 pieceOf s (piece.Start v) = start (nameAt s v)
-pieceOf s (piece.Goes l) = goes (nameAt s (l .edge)) (nameAt s (l .label)) (nameAt s (l .vertex))
-pieceOf s (piece.Comes l) = comes (nameAt s (l .edge)) (nameAt s (l .label)) (nameAt s (l .vertex))
+pieceOf s (piece.Linked true l) = goes (nameAt s (l .edge)) (nameAt s (l .label)) (nameAt s (l .vertex))
+pieceOf s (piece.Linked false l) = comes (nameAt s (l .edge)) (nameAt s (l .label)) (nameAt s (l .vertex))
 pieceOf s (piece.Differ v u) = asks (differ (nameAt s v) (nameAt s u))
 pieceOf s (piece.Asks d) = asks (demand (nameAt s (d .subject)) (nameAt s (d .attribute)) (relationOf (d .relation)) (valueOf s (d .value)))
 pieceOf s (piece.Returns v) = returns (nameAt s v)
@@ -64,8 +64,7 @@ standingsAt s p = standingsFrom none (chainAt (p .spot)) (p .close) s (p .at)
 -- the variables of a chain's piece, the text value of a condition
 unfoldable pub pieceStanding : PieceData → List Standing
 pieceStanding (piece.Start v) = vertex v ∷ []
-pieceStanding (piece.Goes l) = edge (l .edge) ∷ vertex (l .vertex) ∷ []
-pieceStanding (piece.Comes l) = edge (l .edge) ∷ vertex (l .vertex) ∷ []
+pieceStanding (piece.Linked points l) = edge (l .edge) ∷ vertex (l .vertex) ∷ []
 pieceStanding (piece.Differ v u) = []
 pieceStanding (piece.Asks d) = valueStanding (d .value)
 pieceStanding (piece.Returns v) = []
@@ -92,8 +91,7 @@ pub record DemandInside (s : Bytes) (d : Demand) : Type 0 where
 
 abbrev pub PieceInside : Bytes → PieceData → Type 0
 PieceInside s (piece.Start v) = HasPart s v
-PieceInside s (piece.Goes l) = LinkInside s l
-PieceInside s (piece.Comes l) = LinkInside s l
+PieceInside s (piece.Linked points l) = LinkInside s l
 PieceInside s (piece.Differ v u) = HasPart s v × HasPart s u
 PieceInside s (piece.Asks d) = DemandInside s d
 PieceInside s (piece.Returns v) = HasPart s v

@@ -37,11 +37,10 @@ pub struct Demand {
     pub value: Value,
 }
 
-// A piece of the text.
+// A piece of the text. Of a link it is told whether it points to its own vertex or to the one before.
 pub enum Piece {
     Start(Part),
-    Goes(Link),
-    Comes(Link),
+    Linked(bool, Link),
     Differ(Part, Part),
     Asks(Demand),
     Returns(Part),

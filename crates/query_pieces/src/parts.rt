@@ -47,9 +47,9 @@ fn linked(arrow: usize, l: Link) -> Piece
     ensures { λ r. ⌜ LinkIs arrow l r ⌝ }
 {
     if arrow == marks::MINUS {
-        return Piece::Comes(l);
+        return Piece::Linked(false, l);
     }
-    Piece::Goes(l)
+    Piece::Linked(true, l)
 }
 
 // An edge in its brackets, an arrow's end, and the vertex behind it.

@@ -15,12 +15,9 @@ use Rattle.query.proofs.WalkLaws.{
   pattern-end,
   start-own,
   start-on,
-  goes-own,
-  goes-room,
-  goes-on,
-  comes-own,
-  comes-room,
-  comes-on,
+  link-own,
+  link-room,
+  link-on,
   differ-room,
   differ-on,
   asks-room,
@@ -88,8 +85,8 @@ with-vertex-requires-2 : tie.Need-with-vertex-requires-2 Inv-loop μ-loop
 with-vertex-requires-2 c κs =
     let at-before = c .before .before .before .before in
     let t = at-before .before in
-    goes-own (t .before .before .before .before .before .loop .inv) (t .before .before .before .before .next-piece .ensures)
-    (t .before .before .x .given .1) (c .before .before .before .p2 .given .1) (c .vertex-number2 .ensures)
+    link-own (t .before .before .before .before .before .loop .inv) (t .before .before .before .before .next-piece .ensures)
+    (t .before .before .x .given .1) (c .vertex-number2 .ensures) _ (c .before .before .before .p2 .given .1)
 
 edge-of-requires : tie.Need-edge-of-requires Inv-loop μ-loop
 edge-of-requires c κs =
@@ -99,16 +96,13 @@ edge-of-requires c κs =
     (c .before .before .before .before .p2 .given .1) in
     (so .asked .fits, here .label)
 
-mul-t41 : tie.Need-mul-t41 Inv-loop μ-loop
-mul-t41 c = omega (arith, c .before .before .before .before .before .before .before .before .before .before .before .before .loop .inv .edges .stored .few)
-
 element-set-from-links : tie.Need-element-set-from-links Inv-loop μ-loop
 element-set-from-links c =
     let at-p2 = c .before .before .before .before .before in
     let at-before = at-p2 .before in
     let t = at-before .before in
-    goes-room (t .before .before .before .before .before .loop .inv) (t .before .before .before .before .next-piece .ensures)
-    (t .before .before .x .given .1) (at-p2 .p2 .given .1)
+    link-room (t .before .before .before .before .before .loop .inv) (t .before .before .before .before .next-piece .ensures)
+    (t .before .before .x .given .1) _ (at-p2 .p2 .given .1)
 
 add-links : tie.Need-add-links Inv-loop μ-loop
 add-links c = omega (arith, c .before .before .before .before .before .before .before .before .before .before .before .before .loop .inv .edges .stored .few)
@@ -123,71 +117,45 @@ loop-again-2 c =
     let at-p2 = c .before .before .before .before .before in
     let at-before = at-p2 .before in
     let t = at-before .before in
-    goes-on (t .before .before .before .before .before .loop .inv) (t .before .before .before .before .next-piece .ensures)
-    (t .before .before .x .given .1) (at-p2 .p2 .given .1) (c .before .before .vertex-number2 .ensures) (c .before .with-vertex2 .ensures)
+    link-on (t .before .before .before .before .before .loop .inv) (t .before .before .before .before .next-piece .ensures)
+    (t .before .before .x .given .1) (c .before .before .vertex-number2 .ensures) _ (at-p2 .p2 .given .1) (c .before .with-vertex2 .ensures)
     (c .edge-of .ensures)
-
-vertex-number-requires-3 : tie.Need-vertex-number-requires-3 Inv-loop μ-loop
-vertex-number-requires-3 c κs =
-    let t = c .before .before .before .before in
-    let so = t .before .before .before .before .before .loop .inv in
-    let here = here-inside (t .before .before .before .before .next-piece .ensures) (t .before .before .x .given .1) (c .before .before .p3 .given .1) in
-    (vertices-inside _ _ _ (so .vertices), here .vertex)
-
-with-vertex-requires-3 : tie.Need-with-vertex-requires-3 Inv-loop μ-loop
-with-vertex-requires-3 c κs =
-    let at-before = c .before .before .before .before in
-    let t = at-before .before in
-    comes-own (t .before .before .before .before .before .loop .inv) (t .before .before .before .before .next-piece .ensures)
-    (t .before .before .x .given .1) (c .before .before .before .p3 .given .1) (c .vertex-number3 .ensures)
-
-edge-of-requires-2 : tie.Need-edge-of-requires-2 Inv-loop μ-loop
-edge-of-requires-2 c κs =
-    let t = c .before .before .before .before .before .before in
-    let so = t .before .before .before .before .before .loop .inv in
-    let here = here-inside (t .before .before .before .before .next-piece .ensures) (t .before .before .x .given .1)
-    (c .before .before .before .before .p3 .given .1) in
-    (so .asked .fits, here .label)
-
-mul-t45 : tie.Need-mul-t45 Inv-loop μ-loop
-mul-t45 c = omega (arith, c .before .before .before .before .before .before .before .before .before .before .before .before .loop .inv .edges .stored .few)
-
-element-set-from-links-2 : tie.Need-element-set-from-links-2 Inv-loop μ-loop
-element-set-from-links-2 c =
-    let at-p3 = c .before .before .before .before .before in
-    let at-before = at-p3 .before in
-    let t = at-before .before in
-    comes-room (t .before .before .before .before .before .loop .inv) (t .before .before .before .before .next-piece .ensures)
-    (t .before .before .x .given .1) (at-p3 .p3 .given .1)
-
-add-links-2 : tie.Need-add-links-2 Inv-loop μ-loop
-add-links-2 c = omega (arith, c .before .before .before .before .before .before .before .before .before .before .before .before .loop .inv .edges .stored .few)
-
-loop-less-3 : tie.Need-loop-less-3 Inv-loop μ-loop
-loop-less-3 c =
-    let t = c .before .before .before .before .before .before .before in
-    fewer-pieces (t .before .before .before .before .next-piece .ensures) (t .before .before .x .given .1)
-
-loop-again-3 : tie.Need-loop-again-3 Inv-loop μ-loop
-loop-again-3 c =
-    let at-p3 = c .before .before .before .before .before in
-    let at-before = at-p3 .before in
-    let t = at-before .before in
-    comes-on (t .before .before .before .before .before .loop .inv) (t .before .before .before .before .next-piece .ensures)
-    (t .before .before .x .given .1) (at-p3 .p3 .given .1) (c .before .before .vertex-number3 .ensures) (c .before .with-vertex3 .ensures)
-    (c .edge-of2 .ensures)
 
 exclusion-requires : tie.Need-exclusion-requires Inv-loop μ-loop
 exclusion-requires c κs =
     let t = c .before .before .before in
     let so = t .before .before .before .before .before .loop .inv in
-    let here = here-inside (t .before .before .before .before .next-piece .ensures) (t .before .before .x .given .1) (c .before .p4 .given .1) in
+    let here = here-inside (t .before .before .before .before .next-piece .ensures) (t .before .before .x .given .1) (c .before .p3 .given .1) in
     (vertices-inside _ _ _ (so .vertices), here .0, here .1)
 
 element-set-from-conditions : tie.Need-element-set-from-conditions Inv-loop μ-loop
 element-set-from-conditions c =
     let t = c .before .before .before .before in
     differ-room (t .before .before .before .before .before .loop .inv) (t .before .before .before .before .next-piece .ensures)
+    (t .before .before .x .given .1) (c .before .before .p3 .given .1)
+
+loop-less-3 : tie.Need-loop-less-3 Inv-loop μ-loop
+loop-less-3 c =
+    let t = c .before .before .before .before in
+    fewer-pieces (t .before .before .before .before .next-piece .ensures) (t .before .before .x .given .1)
+
+loop-again-3 : tie.Need-loop-again-3 Inv-loop μ-loop
+loop-again-3 c =
+    let t = c .before .before .before .before in
+    differ-on (t .before .before .before .before .before .loop .inv) (t .before .before .before .before .next-piece .ensures)
+    (t .before .before .x .given .1) (c .before .before .p3 .given .1) (c .exclusion .ensures)
+
+requirement-requires : tie.Need-requirement-requires Inv-loop μ-loop
+requirement-requires c κs =
+    let t = c .before .before .before in
+    let so = t .before .before .before .before .before .loop .inv in
+    let here = here-inside (t .before .before .before .before .next-piece .ensures) (t .before .before .x .given .1) (c .before .p4 .given .1) in
+    (so .asked .fits, vertices-inside _ _ _ (so .vertices), edges-inside (so .edges), here)
+
+element-set-from-conditions-2 : tie.Need-element-set-from-conditions-2 Inv-loop μ-loop
+element-set-from-conditions-2 c =
+    let t = c .before .before .before .before in
+    asks-room (t .before .before .before .before .before .loop .inv) (t .before .before .before .before .next-piece .ensures)
     (t .before .before .x .given .1) (c .before .before .p4 .given .1)
 
 loop-less-4 : tie.Need-loop-less-4 Inv-loop μ-loop
@@ -198,20 +166,20 @@ loop-less-4 c =
 loop-again-4 : tie.Need-loop-again-4 Inv-loop μ-loop
 loop-again-4 c =
     let t = c .before .before .before .before in
-    differ-on (t .before .before .before .before .before .loop .inv) (t .before .before .before .before .next-piece .ensures)
-    (t .before .before .x .given .1) (c .before .before .p4 .given .1) (c .exclusion .ensures)
+    asks-on (t .before .before .before .before .before .loop .inv) (t .before .before .before .before .next-piece .ensures)
+    (t .before .before .x .given .1) (c .before .before .p4 .given .1) (c .requirement .ensures)
 
-requirement-requires : tie.Need-requirement-requires Inv-loop μ-loop
-requirement-requires c κs =
+vertex-number-requires-3 : tie.Need-vertex-number-requires-3 Inv-loop μ-loop
+vertex-number-requires-3 c κs =
     let t = c .before .before .before in
     let so = t .before .before .before .before .before .loop .inv in
     let here = here-inside (t .before .before .before .before .next-piece .ensures) (t .before .before .x .given .1) (c .before .p5 .given .1) in
-    (so .asked .fits, vertices-inside _ _ _ (so .vertices), edges-inside (so .edges), here)
+    (vertices-inside _ _ _ (so .vertices), here)
 
-element-set-from-conditions-2 : tie.Need-element-set-from-conditions-2 Inv-loop μ-loop
-element-set-from-conditions-2 c =
+element-write-returned : tie.Need-element-write-returned Inv-loop μ-loop
+element-write-returned c =
     let t = c .before .before .before .before in
-    asks-room (t .before .before .before .before .before .loop .inv) (t .before .before .before .before .next-piece .ensures)
+    returned-room (t .before .before .before .before .before .loop .inv) (t .before .before .before .before .next-piece .ensures)
     (t .before .before .x .given .1) (c .before .before .p5 .given .1)
 
 loop-less-5 : tie.Need-loop-less-5 Inv-loop μ-loop
@@ -222,32 +190,8 @@ loop-less-5 c =
 loop-again-5 : tie.Need-loop-again-5 Inv-loop μ-loop
 loop-again-5 c =
     let t = c .before .before .before .before in
-    asks-on (t .before .before .before .before .before .loop .inv) (t .before .before .before .before .next-piece .ensures)
-    (t .before .before .x .given .1) (c .before .before .p5 .given .1) (c .requirement .ensures)
-
-vertex-number-requires-4 : tie.Need-vertex-number-requires-4 Inv-loop μ-loop
-vertex-number-requires-4 c κs =
-    let t = c .before .before .before in
-    let so = t .before .before .before .before .before .loop .inv in
-    let here = here-inside (t .before .before .before .before .next-piece .ensures) (t .before .before .x .given .1) (c .before .p6 .given .1) in
-    (vertices-inside _ _ _ (so .vertices), here)
-
-element-write-returned : tie.Need-element-write-returned Inv-loop μ-loop
-element-write-returned c =
-    let t = c .before .before .before .before in
-    returned-room (t .before .before .before .before .before .loop .inv) (t .before .before .before .before .next-piece .ensures)
-    (t .before .before .x .given .1) (c .before .before .p6 .given .1)
-
-loop-less-6 : tie.Need-loop-less-6 Inv-loop μ-loop
-loop-less-6 c =
-    let t = c .before .before .before .before in
-    fewer-pieces (t .before .before .before .before .next-piece .ensures) (t .before .before .x .given .1)
-
-loop-again-6 : tie.Need-loop-again-6 Inv-loop μ-loop
-loop-again-6 c =
-    let t = c .before .before .before .before in
     returned-on (t .before .before .before .before .before .loop .inv) (t .before .before .before .before .next-piece .ensures)
-    (t .before .before .x .given .1) (c .before .before .p6 .given .1) (c .vertex-number4 .ensures)
+    (t .before .before .x .given .1) (c .before .before .p5 .given .1) (c .vertex-number3 .ensures)
 
 pub pattern-of-spec : {M : Type 1} → statement M
 pattern-of-spec =
@@ -256,10 +200,11 @@ pattern-of-spec =
     (λ c κs. search needs) (λ c κs. search needs) (λ c κs. search needs) (λ c κs. search needs) (λ c κs. search needs) loop-holds (λ c κs. search needs)
     (λ c. search needs)
     (λ c. search needs) (λ c κs. search needs) returns (λ c. search needs) vertex-number-requires with-vertex-requires loop-less loop-again (λ c. search needs)
-    vertex-number-requires-2 with-vertex-requires-2 edge-of-requires mul-t41 element-set-from-links add-links loop-less-2 loop-again-2 (λ c. search needs)
-    vertex-number-requires-3 with-vertex-requires-3 edge-of-requires-2 mul-t45 element-set-from-links-2 add-links-2 loop-less-3 loop-again-3
-    (λ c. search needs) exclusion-requires (λ c. search needs) element-set-from-conditions (λ c. search needs) loop-less-4 loop-again-4
+    vertex-number-requires-2 with-vertex-requires-2 edge-of-requires
+    (λ c. omega (arith, c .before .before .before .before .before .before .before .before .before .before .before .before .loop .inv .edges .stored .few))
+    element-set-from-links add-links loop-less-2 loop-again-2 (λ c. search needs)
+    exclusion-requires (λ c. search needs) element-set-from-conditions (λ c. search needs) loop-less-3 loop-again-3
     (λ c. search needs) requirement-requires
-    (λ c. search needs) element-set-from-conditions-2 (λ c. search needs) loop-less-5 loop-again-5 (λ c. search needs) vertex-number-requires-4
+    (λ c. search needs) element-set-from-conditions-2 (λ c. search needs) loop-less-4 loop-again-4 (λ c. search needs) vertex-number-requires-3
     (λ c. search needs)
-    element-write-returned (λ c. search needs) loop-less-6 loop-again-6)
+    element-write-returned (λ c. search needs) loop-less-5 loop-again-5)

@@ -2,7 +2,8 @@ use Rattle.query_faults.specs.Names.{asList}
 use Rattle.query_pieces.specs.Named.{returnIn}
 use Rattle.query_pieces.specs.Steps.{pieceOf, PieceInside}
 use Rattle.query_pieces.specs.declared.Piece.{Piece}
-use mathlib.Core.Path.{sym, ap, subst}
+use mathlib.Core.Path.{sym, ap, subst, _∙_}
+use Rattle.query_faults.proofs.ScanLaws.{linked-return}
 use borrow.Author.Needs.{needs}
 use Rattle.query_faults.proofs.scan.return_of.Statement.{statement}
 use Rattle.query_faults.proofs.scan.return_of.Tie as tie
@@ -12,8 +13,8 @@ unfolding asList returnIn pieceOf
 returns c = (λ s. sym (ap (λ (x : Piece). returnIn (pieceOf s x)) (c .enum-told .given .1)), λ s h. tt)
 
 returns-2 : tie.Need-returns-2
-unfolding asList returnIn pieceOf
-returns-2 c = (λ s. sym (ap (λ (x : Piece). returnIn (pieceOf s x)) (c .enum-told2 .given .1)), λ s h. tt)
+unfolding asList
+returns-2 c = (λ s. sym (ap (λ (x : Piece). returnIn (pieceOf s x)) (c .enum-told2 .given .1) ∙ linked-return s _ _), λ s h. tt)
 
 returns-3 : tie.Need-returns-3
 unfolding asList returnIn pieceOf
@@ -25,11 +26,7 @@ returns-4 c = (λ s. sym (ap (λ (x : Piece). returnIn (pieceOf s x)) (c .enum-t
 
 returns-5 : tie.Need-returns-5
 unfolding asList returnIn pieceOf
-returns-5 c = (λ s. sym (ap (λ (x : Piece). returnIn (pieceOf s x)) (c .enum-told5 .given .1)), λ s h. tt)
-
-returns-6 : tie.Need-returns-6
-unfolding asList returnIn pieceOf
-returns-6 c = (λ s. sym (ap (λ (x : Piece). returnIn (pieceOf s x)) (c .before .p .given .1)), λ s h. subst (PieceInside s) (c .before .p .given .1) h)
+returns-5 c = (λ s. sym (ap (λ (x : Piece). returnIn (pieceOf s x)) (c .before .p .given .1)), λ s h. subst (PieceInside s) (c .before .p .given .1) h)
 
 pub return-of-spec : {M : Type 1} → statement M
 return-of-spec =
@@ -40,10 +37,8 @@ return-of-spec =
     (λ c. search needs)
     (λ c. search needs)
     (λ c. search needs)
-    (λ c. search needs)
     returns
     returns-2
     returns-3
     returns-4
-    returns-5
-    returns-6)
+    returns-5)
