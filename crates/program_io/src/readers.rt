@@ -1,9 +1,9 @@
 // Printing the answers of the readers and of the query writer. These functions only print: no contract can say what reached the output.
-ghost use Rattle.program_io.specs.Identities.{Inside, IdentitiesInside};
+ghost use Rattle.text.specs.Parts.{HasPart};
+ghost use Rattle.program_io.specs.Identities.{IdentitiesInside};
 use libc::STDOUT_FILENO;
 use model::BookRead;
 use model::Identity;
-use model::Part;
 use model::QueryWritten;
 use model::Refusal;
 use model::RequestRead;
@@ -13,6 +13,7 @@ use model::limits::MAX_IDENTITIES;
 use model::limits::MAX_QUERY_BYTES;
 use model::limits::WORK_WORDS;
 use service::read_book;
+use text::parts::part_of;
 
 // Prints what the book reader answers: the counts of nodes, relationships and entries.
 pub fn print_book(book: &[u8]) {
@@ -74,22 +75,13 @@ fn print_identities(request: &[u8], identities: [Identity; MAX_IDENTITIES], coun
 
 // Prints an actor and the number of its node.
 fn print_identity(request: &[u8], identity: Identity)
-    requires { ⌜ Inside (now request) (identity .actor) ⌝ }
+    requires { ⌜ HasPart (now request) (identity .actor) ⌝ }
 {
     let actor = identity.actor;
     io::write_all(STDOUT_FILENO, b" (");
-    print_part(request, actor);
+    io::write_all(STDOUT_FILENO, part_of(request, actor));
     print_number(b" ", identity.node);
     io::write_all(STDOUT_FILENO, b")");
-}
-
-// Prints a part of a text.
-fn print_part(text: &[u8], part: Part)
-    requires { ⌜ Inside (now text) part ⌝ }
-{
-    let start = part.start;
-    let length = part.length;
-    io::write_all(STDOUT_FILENO, &text[start..start + length]);
 }
 
 // Prints a number behind a text.
