@@ -7,11 +7,12 @@ use native.Mathlib.Omega.{arith}
 use lib.ListN.{length}
 use lib.Dec.{T}
 use borrow.Author.Tests.{ne-eqb}
+use Rattle.logic.specs.Tests.{either, equal-or-not}
 use Rattle.model.specs.Bytes.{Bytes, bytesOf, same}
 use Rattle.model.specs.Choice.{nothing, just, andThen}
 use Rattle.model.specs.Signs.{Sign, word, whole, text, mark, broken, isWord, isMark, wordy}
 use Rattle.model.specs.Signs.{chainBehind}
-use Rattle.model.specs.Grammar.{goes, comes, Spot, atStart, inChain, inWhere, inReturn, startAt, linkAt, conditionAt, returnAt, pieceAt}
+use Rattle.model.specs.Grammar.{goes, comes, spotAfter, Spot, atStart, inChain, inWhere, inReturn, startAt, linkAt, conditionAt, returnAt, pieceAt}
 use Rattle.model.specs.Places.{none, bracketOf, Standing, variableAt, standingAt}
 use Rattle.model.proofs.Decides.{same→eq}
 use Rattle.query_signs.specs.declared.Sign.{Sign as SignData}
@@ -31,7 +32,21 @@ use Rattle.query_pieces.specs.declared.Spot.the-variants.{AtStart, InCha
 use Rattle.query_pieces.specs.declared.PieceRead.{PieceRead}
 use Rattle.query_pieces.specs.Walk.{Walk, stopped, orStopped, endsWell, walk}
 use Rattle.query_pieces.proofs.PartLaws.{step-stands}
-use Rattle.query_pieces.specs.Steps.{spotOf, chainAt, walkAt, piecesBy, StepIs, walkBy, standingsAt, standingsBy}
+use Rattle.query_pieces.specs.Steps.{
+  spotOf,
+  chainAt,
+  walkAt,
+  piecesBy,
+  linkThen,
+  arrowBehind,
+  linkPiece,
+  chained,
+  StepIs,
+  walkBy,
+  standingsAt,
+  standingsBy,
+}
+use Rattle.query_pieces.proofs.StepLaws.{link-by}
 
 -- a sign that is this word
 word-is : (w : Bytes) (x : Sign) → isWord w x ≡ true → x ≡ word w
@@ -116,6 +131,32 @@ module _ (s : Bytes) (t : SignData) (q : ℕ) where
       × (standingsBy InChain s t q ≡ standingsFrom none true false s q)
   unfolding pieceAt isWord isMark same chainBehind chainAt spotOf wordy bracketOf standingAt variableAt markBytes
   chain-comes e = by-sign InChain (mark (bytesOf "<-")) (code-is s t 15405 (omega arith) e) refl
+
+  -- a link, by the mark that ends it
+  goes-link : codeOf t ≡ 45 → walkBy InChain s t q ≡ orStopped (linkThen (markBytes 11582) (signsFrom true false s q) (chained 11582))
+  unfolding linkPiece markBytes spotAfter
+  goes-link e = chain-goes e .0 ∙ link-by goes (bytesOf "->") (λ e l v. refl) (signsFrom true false s q)
+
+  comes-link : codeOf t ≡ 15405 → walkBy InChain s t q ≡ orStopped (linkThen (markBytes 45) (signsFrom true false s q) (chained 45))
+  unfolding linkPiece markBytes spotAfter
+  comes-link e = chain-comes e .0 ∙ link-by comes (bytesOf "-") (λ e l v. refl) (signsFrom true false s q)
+
+  pub chain-link : (arrow : ℕ) → arrow ≡ arrowBehind (codeOf t) → (arrow ≡ 0 → ⊥)
+      → (walkBy InChain s t q ≡ orStopped (linkThen (markBytes arrow) (signsFrom true false s q) (chained arrow)))
+      × (standingsBy InChain s t q ≡ standingsFrom none true false s q)
+  chain-link arrow a some = either (equal-or-not (codeOf t) 45)
+      (λ e. let z : arrow ≡ 11582 = a ∙ rw e in
+      (goes-link e ∙ ap (λ (n : ℕ). orStopped (linkThen (markBytes n) (signsFrom true false s q) (chained n))) (sym z), chain-goes e .1))
+      (λ d. either (equal-or-not (codeOf t) 15405)
+      (λ e. let z : arrow ≡ 45 = a ∙ rw e in
+      (comes-link e ∙ ap (λ (n : ℕ). orStopped (linkThen (markBytes n) (signsFrom true false s q) (chained n))) (sym z), chain-comes e .1))
+      (λ f. absurd (some (a ∙ rw (ne-eqb (codeOf t) 45 (d .1), ne-eqb (codeOf t) 15405 (f .1))))))
+
+  pub no-link : arrowBehind (codeOf t) ≡ 0 → (codeOf t ≡ 45 → ⊥) × (codeOf t ≡ 15405 → ⊥)
+  no-link a = (
+    λ e. let z : _≡_ {A = ℕ} 11582 0 = sym (ap arrowBehind e) ∙ a in absurd (omega arith),
+    λ e. let z : _≡_ {A = ℕ} 45 0 = sym (ap arrowBehind e) ∙ a in absurd (omega arith),
+  )
 
   pub return-comma : codeOf t ≡ 44 → (walkBy InReturn s t q ≡ piecesBy (returnAt (signsFrom false false s q)) (signsFrom false false s q))
       × (standingsBy InReturn s t q ≡ standingsFrom none false false s q)

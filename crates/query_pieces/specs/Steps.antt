@@ -168,6 +168,10 @@ linkThen arrow ts f =
     expect arrow ts (λ ts.
     vertexThen ts (λ v ts. f e l v ts)))))))
 
+-- the mark that ends a link, by the one that begins it: -> behind -, - behind <-, none behind another
+abbrev pub arrowBehind : ℕ → ℕ
+arrowBehind code = pick (eqb code 45) 11582 (pick (eqb code 15405) 45 0)
+
 -- the piece of a chain by the mark at its arrow's end, and what follows it
 unfoldable pub linkPiece : ℕ → Bytes → Bytes → Bytes → Piece
 linkPiece arrow e l v = pick (eqb arrow 45) (comes e l v) (goes e l v)

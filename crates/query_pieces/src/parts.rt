@@ -3,7 +3,7 @@ ghost use mathlib.Core.Bool.{true, false};
 ghost use Prim.Native.Nat.{_<_};
 ghost use Rattle.model.specs.Bytes.{bytesOf};
 ghost use Rattle.model.specs.Signs.{expect};
-ghost use Rattle.model.specs.Grammar.{startAt, linkAt, conditionAt, returnAt};
+ghost use Rattle.model.specs.Grammar.{startAt, conditionAt, returnAt};
 ghost use Rattle.model.specs.Answers.{nameAt};
 ghost use Rattle.query_signs.specs.Marks.{markBytes};
 ghost use Rattle.model.specs.Places.{none};
@@ -53,7 +53,7 @@ fn linked(arrow: usize, l: Link) -> Piece
 }
 
 // An edge in its brackets, an arrow's end, and the vertex behind it.
-fn link(s: &[u8], from: usize, arrow: usize) -> PieceRead
+pub fn link(s: &[u8], from: usize, arrow: usize) -> PieceRead
     requires { ⌜ 0 < arrow ⌝ }
     ensures { λ r. ⌜ StepIs (orStopped (linkThen (markBytes arrow) (signsFrom true false (now (s .entry)) from) (chained arrow)))
         (standingsFrom none true false (now (s .entry)) from) (now (s .entry)) from r ⌝ }
@@ -110,22 +110,6 @@ pub fn start(s: &[u8], from: usize) -> PieceRead
             spot: Spot::InChain,
         },
     })
-}
-
-// -[e:id]->(v), from behind the minus.
-pub fn goes(s: &[u8], from: usize) -> PieceRead
-    ensures { λ r. ⌜ StepIs (piecesBy (linkAt Rattle.model.specs.Grammar.Piece.goes (bytesOf "->") (signsFrom true false (now (s .entry)) from))
-        (signsFrom true false (now (s .entry)) from)) (standingsFrom none true false (now (s .entry)) from) (now (s .entry)) from r ⌝ }
-{
-    link(s, from, marks::RIGHTWARD)
-}
-
-// <-[e:id]-(v), from behind the arrow.
-pub fn comes(s: &[u8], from: usize) -> PieceRead
-    ensures { λ r. ⌜ StepIs (piecesBy (linkAt Rattle.model.specs.Grammar.Piece.comes (bytesOf "-") (signsFrom true false (now (s .entry)) from))
-        (signsFrom true false (now (s .entry)) from)) (standingsFrom none true false (now (s .entry)) from) (now (s .entry)) from r ⌝ }
-{
-    link(s, from, marks::MINUS)
 }
 
 // v <> u, from behind the sign.

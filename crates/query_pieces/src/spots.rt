@@ -4,7 +4,7 @@ ghost use Rattle.model.specs.Signs.{isWord};
 ghost use Rattle.query_signs.specs.Reads.{signOf, SignInside};
 ghost use Rattle.query_pieces.specs.declared.Spot.the-variants.{AtStart, InChain, InWhere, InReturn};
 ghost use Rattle.query_pieces.specs.Walk.{endsWell};
-ghost use Rattle.query_pieces.specs.Steps.{StepIs, walkBy, standingsBy, spotOf, chainAt};
+ghost use Rattle.query_pieces.specs.Steps.{StepIs, arrowBehind, walkBy, standingsBy, spotOf, chainAt};
 use crate::PieceRead;
 use crate::Spot;
 use crate::parts;
@@ -62,17 +62,27 @@ fn first_piece(s: &[u8], t: Sign, q: usize) -> PieceRead
     PieceRead::None(false)
 }
 
+// The mark that ends a link, by the one that begins it: -> behind -, and - behind <-.
+fn arrow_behind(code: usize) -> usize
+    ensures { λ r. ⌜ r ≡ arrowBehind code ⌝ }
+{
+    if code == marks::MINUS {
+        return marks::RIGHTWARD;
+    }
+    if code == marks::LEFTWARD {
+        return marks::MINUS;
+    }
+    marks::NONE
+}
+
 // The piece behind a chain, whose first sign ends at q.
 fn chain_piece(s: &[u8], t: Sign, q: usize) -> PieceRead
     requires { ⌜ SignInside (now s) t ⌝ }
     ensures { λ r. ⌜ StepIs (walkBy InChain (now (s .entry)) t q) (standingsBy InChain (now (s .entry)) t q) (now (s .entry)) q r ⌝ }
 {
-    let code = expected::mark_code(t);
-    if code == marks::MINUS {
-        return parts::goes(s, q);
-    }
-    if code == marks::LEFTWARD {
-        return parts::comes(s, q);
+    let arrow = arrow_behind(expected::mark_code(t));
+    if arrow != marks::NONE {
+        return parts::link(s, q, arrow);
     }
     if is_word(s, t, b"Where") {
         return parts::condition(s, q);
