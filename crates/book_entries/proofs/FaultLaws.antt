@@ -14,7 +14,7 @@ use Rattle.model.specs.Book.{Attr, attrNames}
 use Rattle.model.specs.ReadBook.{suits, undeclared}
 use Rattle.book_tables.proofs.ListedLaws.{any-end, all-end, map-end}
 use Rattle.book_entries.specs.Faults.{entriesFault, entryFault, lower}
-use Rattle.book_entries.proofs.TwiceLaws.{twice-end}
+use Rattle.book_tables.proofs.MemberLaws.{twice-end}
 
 -- undeclared, twice, suited of the entries before; declared, seen, suited of the new one
 cases : (u t s d n w : Bool)

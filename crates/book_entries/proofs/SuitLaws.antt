@@ -21,7 +21,7 @@ use Rattle.book_tables.specs.View.{wordAt, nameOf, namesAt, kindIn, attrOf, att
 use Rattle.book_tables.specs.Fits.{NamesFit}
 use Rattle.book_tables.proofs.ListedLaws.{map-end, scan-found, scan-all}
 use Rattle.book_tables.proofs.NameLaws.{equal-same, same-equal, name-mem}
-use Rattle.book_entries.proofs.TwiceLaws.{mem-end}
+use Rattle.book_tables.proofs.MemberLaws.{mem-end}
 
 -- two names are not the same bytes
 pub differ-same : (a b : Bytes) → (a ≡ b → ⊥) → same a b ≡ false
@@ -75,8 +75,7 @@ module _ (text : Bytes) (words : List ℕ) (offset declared : ℕ) (f : NamesFit
         ∙ rw (
           h b m,
           map-end (λ (x : Entry). x .attr) es e,
-          mem-end (nameOf text words offset b) (map (λ (x : Entry). x .attr) es)
-              (e .attr),
+          mem-end (nameOf text words offset b) (e .attr) (map (λ (x : Entry). x .attr) es),
           ← named,
           same-numbers b a m l,
         )
@@ -87,7 +86,7 @@ module _ (text : Bytes) (words : List ℕ) (offset declared : ℕ) (f : NamesFit
       → (b : ℕ) → b < declared → bit seen b ≡ mem (nameOf text words offset b) (map (λ x. x .attr) (es ++ (e ∷ [])))
   seen-same e none seen es h b m =
       h b m ∙ sym (ap (mem (nameOf text words offset b)) (map-end (λ (x : Entry). x .attr) es e)
-      ∙ mem-end (nameOf text words offset b) (map (λ (x : Entry). x .attr) es) (e .attr)
+      ∙ mem-end (nameOf text words offset b) (e .attr) (map (λ (x : Entry). x .attr) es)
       ∙ ap (λ (t : Bool). mem (nameOf text words offset b) (map (λ (x : Entry). x .attr) es) || t)
       (differ-same _ _ (λ q. absurd (clash (name-mem text words offset declared (e .attr) b m q))))
       ∙ or-false (mem (nameOf text words offset b) (map (λ (x : Entry). x .attr) es)))

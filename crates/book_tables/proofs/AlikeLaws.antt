@@ -19,7 +19,6 @@ use Rattle.chains.proofs.SlotLaws.{slot-lowered}
 use Rattle.book_tables.specs.declared.BookCounts.{BookCounts}
 use Rattle.book_tables.specs.declared.NameRule.{NameRule}
 use Rattle.book_tables.specs.declared.NameRule.the-variants.{Exact, AnyCase}
-use Rattle.book_tables.specs.Listed.{listed}
 use Rattle.book_tables.specs.Layout as layout
 use Rattle.book_tables.specs.View.{nameOf, namesAt, bookAt}
 use Rattle.book_tables.specs.Fits.{Fits}

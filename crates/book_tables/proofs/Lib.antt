@@ -1,4 +1,5 @@
 pub mod ListedLaws
+pub mod MemberLaws
 pub mod NameLaws
 pub mod AlikeLaws
 pub mod RelationshipLaws

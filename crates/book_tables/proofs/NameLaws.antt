@@ -19,7 +19,7 @@ use Rattle.book_tables.specs.declared.BookCounts.{BookCounts}
 use Rattle.book_tables.specs.Layout as layout
 use Rattle.book_tables.specs.View.{wordAt, nameIn, nameOf, namesAt, attrOf, attrsAt, nodeOf, bookAt}
 use Rattle.book_tables.specs.Fits.{Inside, NamesFit}
-use Rattle.book_tables.proofs.ListedLaws.{listed-more, length-listed, map-listed, getD-listed, scan-all, scan-found, scan-place, scan-absent}
+use Rattle.book_tables.proofs.ListedLaws.{listed-more, length-listed, map-listed, getD-listed, scan-found, scan-place, scan-absent}
 use Rattle.book_tables.proofs.ListedLaws.{place-inside, place-none, place-passes}
 
 true→T : (b : Bool) → b ≡ true → T b

@@ -21,7 +21,7 @@ use Rattle.book_tables.specs.declared.BookCounts.{BookCounts}
 use Rattle.book_tables.specs.declared.Owner.{Owner}
 use Rattle.book_tables.specs.declared.Owner.the-variants.{Node, Relationship}
 use Rattle.book_tables.specs.declared.OwnerTables.{OwnerTables}
-use Rattle.book_tables.specs.Layout.{vattrNames, eattrNames, labelNames, nodeNames as nodesAt, nodeEntries, relationships, relationshipEntries}
+use Rattle.book_tables.specs.Layout.{vattrNames, eattrNames, labelNames, nodeNames as nodesAt, relationships}
 use Rattle.book_tables.specs.Layout.{entries, nodeHeads, nodeLinks, fromHeads, fromLinks, keys}
 use Rattle.book_tables.specs.View.{wordAt, nameIn, slotIn, nameOf, entriesFrom, nodeOf, labelPart, fromPart, toPart, nodeSlot, relFrom, relOf, bookAt}
 use Rattle.book_tables.specs.Fits.{EntriesFit, Holds}

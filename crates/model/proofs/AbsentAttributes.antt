@@ -6,7 +6,7 @@ use mathlib.Core.List.{List, [], _∷_}
 use mathlib.Core.Bool.{false}
 use lib.Dec.{T}
 use Rattle.model.specs.Bytes.{Bytes, same}
-use Rattle.model.specs.Choice.{nothing, just}
+use Rattle.model.specs.Choice.{nothing}
 use Rattle.model.specs.Names.{mem}
 use Rattle.model.specs.Values.{Value, Entry}
 use Rattle.model.specs.Book.{Book}

@@ -14,14 +14,14 @@ use Rattle.model.specs.Names.{mem}
 pub use Rattle.model.specs.Rules.{Reaches, itself, over}
 use Rattle.model.specs.Rules.{Category, Policy, Rules, categoryNames, stepDown, stepsDown, downFrom, enforced}
 use Rattle.model.specs.Refusal.{accepted, refusal, onAccept}
-use Rattle.model.specs.Lines.{Line, linesOf, Step, known, readLines}
+use Rattle.model.specs.Lines.{linesOf, readLines}
 use Rattle.model.specs.Forms.{formOf}
 use Rattle.model.specs.Book.{Book}
 use Rattle.model.specs.ReadRules.{RulesLine, category, policy, rulesLine, hasPolicy, rulesFault, addRule, rulesStep, covered, readRules}
 use Rattle.model.specs.Request.{Request, readRequest}
 use Rattle.model.proofs.AcceptedRequest.{category-declared}
 use Rattle.model.proofs.Decides.{and-iff, each-all, same→eq, same-refl, not-e, or-l, or-r, or-cases}
-use Rattle.model.proofs.Members.{_∈_, test, is-true, is-false, each-e, map-i, map-e, any-e, any-i, keep-e, keep-i, joined-e, joined-i, mem-e, mem-i}
+use Rattle.model.proofs.Members.{_∈_, each-e, map-i, map-e, any-e, any-i, keep-e, keep-i, joined-e, joined-i, mem-e, mem-i}
 use Rattle.model.proofs.Places.{map-keep}
 use Rattle.model.proofs.Faults.{step-known}
 use Rattle.model.proofs.Closures.{Within, step, steps, holds-after, steps-keep, closed}

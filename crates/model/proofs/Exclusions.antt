@@ -9,7 +9,7 @@ use Rattle.model.specs.Lists.{joined}
 use Rattle.model.specs.Names.{mem}
 use Rattle.model.specs.QueryText.{Condition, differ, demand}
 use Rattle.model.specs.Query.{vertexNames, edgeNames, conditionsOf}
-use Rattle.model.specs.Pattern.{Clause, clauseOf, patternOf}
+use Rattle.model.specs.Pattern.{clauseOf, patternOf}
 use Rattle.model.specs.Graph.{Each}
 use Rattle.model.specs.Weave.{Asked, WovenVertex, noVertex, placeVertex, weaveVertex, named, moved, movedClause, movedClauses, weave}
 use Rattle.model.proofs.Members.{_∈_, test, is-true, is-false, each-i, map-i, map-e, place-map}

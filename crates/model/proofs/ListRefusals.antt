@@ -22,7 +22,7 @@ use Rattle.model.proofs.Members.{_∈_, test, below-i, below-e}
 use Rattle.model.proofs.TextRefusals.{book-is-text-1, rules-are-text-2, query-is-text-3, request-is-text-4}
 use Rattle.model.proofs.Refusals.{found-table}
 use Rattle.model.proofs.Tied.{tied-by-path, memℕ-e, memℕ-i}
-use Rattle.model.specs.Tied.{IsVertex, TiedTo, Untied}
+use Rattle.model.specs.Tied.{Untied}
 use Rattle.model.specs.Refused.{returned, Exactly, memory-short, in-book, book-first, in-rules, AllRead, ListTable, rules-first, in-query}
 use Rattle.model.specs.Refused.{in-request, in-woven, no-room, woven, wovenNumber, rowsFor}
 

@@ -2,12 +2,12 @@
 use Prim.Native.Nat.{ℕ, _<_, _≤_, _*_}
 use mathlib.Core.Path.{_≡_, refl, sym, ap, subst, _∙_}
 use mathlib.Core.Logic.{_⊎_, inl, inr, ⊎-elim, _↔_}
-use mathlib.Core.List.{List, _∷_}
+use mathlib.Core.List.{List}
 use mathlib.Core.Bool.{_||_}
 use lib.ListN.{length}
 use lib.Dec.{ltb, ltb→lt, lt→ltb, nltb→le, not-T}
 use Rattle.model.specs.Bytes.{Bytes}
-use Rattle.model.specs.Choice.{pick, Maybe, nothing, just}
+use Rattle.model.specs.Choice.{pick, nothing, just}
 use Rattle.model.specs.Refusal.{Refusal, Outcome, accepted, refused, onAccept, refusal, refusedIf}
 use Rattle.model.specs.Book.{Book}
 use Rattle.model.specs.ReadBook.{readBook}
@@ -18,8 +18,6 @@ use Rattle.model.specs.Writing.{writtenQuery}
 use Rattle.model.specs.Rules.{Rules}
 use Rattle.model.specs.ReadRules.{readRules}
 use Rattle.model.specs.Request.{Request, readRequest}
-use Rattle.model.specs.Weave.{askedQuery, askedPolicies, weave, wovenFault}
-use Rattle.model.specs.Rows.{rowsOf}
 use Rattle.model.specs.Service.{withWork, bookService, rulesService, queryService, requestService, writerText, writerService, FoundRows}
 use Rattle.model.specs.Service.{listFound, listRows, listService}
 use Rattle.model.specs.Refused.{returned, Exactly, BookTable, memory-short, in-book, BookRead, RulesTable, book-first, in-rules, RulesRead}

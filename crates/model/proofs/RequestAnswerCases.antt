@@ -4,7 +4,7 @@ use Prim.Native.String.{String}
 use mathlib.Core.Path.{_≡_, refl}
 use mathlib.Core.List.{List, [], _∷_, map}
 use Rattle.model.specs.Bytes.{bytesOf}
-use Rattle.model.specs.RequestPlaces.{noIdentity, slots}
+use Rattle.model.specs.RequestPlaces.{noIdentity}
 use Rattle.model.specs.RequestAnswer.{requestRead}
 use Rattle.model.specs.Computing.{computing}
 use Rattle.model.specs.declared.Identity.{Identity as IdentityData}

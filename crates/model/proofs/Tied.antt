@@ -10,12 +10,12 @@ use lib.Dec.{T, eqb, eqb→eq, eqb-refl}
 use Rattle.model.specs.Lists.{any, memℕ, upTo, below}
 use Rattle.model.specs.Pattern.{Edge}
 use Rattle.model.specs.Request.{Identity}
-use Rattle.model.specs.Weave.{WovenPattern, actor, noVertex, identifiedBy, withIdentity, stepAlong, stepsAlong, tied}
+use Rattle.model.specs.Weave.{WovenPattern, noVertex, identifiedBy, withIdentity, stepAlong, stepsAlong, tied}
 use Rattle.model.proofs.Decides.{and-iff, or-l, or-r, or-cases}
 use Rattle.model.proofs.Members.{_∈_, any-e, any-i, keep-e, keep-i, below-i, below-e}
 use Rattle.model.proofs.WovenVertices.{identified-exactly}
 use Rattle.model.proofs.Closures.{Within, steps, holds-after, steps-keep, closed}
-use Rattle.model.specs.Tied.{IsVertex, Joins, Path, here, along, HasIdentity, TiedTo}
+use Rattle.model.specs.Tied.{Joins, Path, here, along, HasIdentity, TiedTo}
 
 -- the test of membership says that a number is one of a list
 pub memℕ-e : (n : ℕ) (ns : List ℕ) → T (memℕ n ns) → n ∈ ns

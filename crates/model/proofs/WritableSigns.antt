@@ -15,7 +15,6 @@ use Rattle.model.specs.Words.{isText, textAt}
 use Rattle.model.specs.Lines.{isAllowed}
 use Rattle.model.specs.Values.{str}
 use Rattle.model.specs.Signs.{Sign, word, whole, text, mark, broken, marks, begins, markAt, orBroken, digitNext, signAt, wordy, signs}
-use Rattle.model.specs.Grammar.{inChain}
 use Rattle.model.specs.Graph.{Each}
 use Rattle.model.proofs.Decides.{and-iff, pick-iff, or-l}
 use Rattle.model.proofs.Members.{test, is-true, is-false}

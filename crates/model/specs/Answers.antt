@@ -1,6 +1,6 @@
 -- What each case of an answer's data says, in document 01's numbers and values. Promises about answers use these definitions.
 use Prim.Native.Nat.{ℕ}
-use mathlib.Core.List.{List, [], map}
+use mathlib.Core.List.{[], map}
 use lib.ListN.{getD, take, drop}
 use Rattle.model.specs.Bytes.{Bytes}
 use Rattle.model.specs.Names.{Name}
@@ -22,7 +22,6 @@ use Rattle.model.specs.declared.Part.{Part}
 use Rattle.model.specs.declared.Edge.{Edge as EdgeData}
 use Rattle.model.specs.declared.Condition.{Condition as ConditionData}
 use Rattle.model.specs.declared.Condition.the-variants.{Excluded, OfVertex, OfEdge}
-use Rattle.model.specs.declared.Clause.{Clause as ClauseData}
 use Rattle.model.specs.declared.Pattern.{Pattern as PatternData}
 use Rattle.model.specs.declared.Identity.{Identity as IdentityData}
 use Rattle.model.specs.declared.BookRead.{BookRead}

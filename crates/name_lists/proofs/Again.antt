@@ -11,7 +11,7 @@ use Rattle.model.specs.Answers.{partOf, nameAt}
 use Rattle.items.specs.declared.ItemAt.the-variants as piece
 use Rattle.items.specs.Pieces.{nameNext, namePlaces}
 use Rattle.names_met.specs.Table.{Names, namesMet, Holds}
-use Rattle.names_met.proofs.MemberLaws.{twice-end}
+use Rattle.book_tables.proofs.MemberLaws.{twice-end}
 use Rattle.name_lists.specs.Names.{NamesRead, namesBehind, Left}
 use Rattle.name_lists.proofs.Behind.{left-next, left-found, left-done}
 

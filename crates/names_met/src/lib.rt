@@ -3,7 +3,6 @@
 ghost use mathlib.Core.Path.{_≡_};
 ghost use mathlib.Core.List.{[], _∷_, _++_};
 ghost use Prim.Native.Nat.{_≤_};
-ghost use Rattle.model.specs.Bytes.{Bytes};
 ghost use Rattle.model.specs.Names.{mem};
 ghost use Rattle.model.specs.Answers.{nameAt};
 ghost use Rattle.names_met.specs.Table.{Names, wordsFrom, namesMet, Entries, Holds};

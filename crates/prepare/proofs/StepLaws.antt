@@ -20,7 +20,6 @@ use Rattle.book_tables.specs.View.{bookAt}
 use Rattle.book_tables.specs.Fits.{Fits}
 use Rattle.rules_tables.specs.declared.RulesCounts.{RulesCounts}
 use Rattle.rules_tables.specs.View.{treeOf, rulesAt}
-use Rattle.rules_tables.specs.Fits.{Fits as RulesFit}
 use Rattle.rules.specs.declared.RulesLoad.{RulesLoad}
 use Rattle.rules.specs.declared.RulesLoad.the-variants as rules-load
 use Rattle.book.specs.declared.BookLoad.{BookLoad}
@@ -30,7 +29,7 @@ use Rattle.request.specs.RequestReads.{ByVerdict as RequestBy}
 use Rattle.prepare.specs.declared.Needs.{Needs}
 use Rattle.prepare.specs.declared.Ready.{Ready}
 use Rattle.prepare.specs.Texts.{Texts, rulesIf, queryIf, requestIf, afterRules, afterBook, through}
-use Rattle.prepare.specs.Ready.{noneBeside, refusedReady, RulesGiven, QueryGiven, RequestGiven, RulesReady, ByVerdict, Prepared}
+use Rattle.prepare.specs.Ready.{refusedReady, RulesGiven, QueryGiven, RequestGiven, RulesReady, ByVerdict, Prepared}
 
 module _ (n : Needs) (book rules query request : Bytes) (words table : List ℕ) where
   abbrev Is : Outcome Texts → Ready → Type 0

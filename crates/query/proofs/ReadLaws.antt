@@ -4,12 +4,8 @@ use mathlib.Core.Path.{_≡_, refl, sym, ap, subst, _∙_}
 use mathlib.Core.List.{List, [], _∷_}
 use mathlib.Core.Bool.{Bool, true, false}
 use native.Mathlib.Omega.{arith}
-use lib.ListN.{length}
-use lib.Dec.{T, ltb}
 use Rattle.model.specs.Bytes.{Bytes}
-use Rattle.model.specs.Choice.{pick, Maybe, nothing, just}
-use Rattle.model.specs.Lists.{all}
-use Rattle.model.specs.Lines.{isAllowed, badLine}
+use Rattle.model.specs.Choice.{Maybe, nothing, just}
 use Rattle.model.specs.Refusal.{accepted, refused, refusal, refusedIf, lowest, _if_}
 use Rattle.model.specs.Book.{Book}
 use Rattle.model.specs.QueryText.{QueryText}
@@ -23,7 +19,7 @@ use Rattle.model.proofs.AcceptedQuery.{query-accepted}
 use Rattle.book_tables.specs.declared.BookCounts.{BookCounts}
 use Rattle.book_tables.specs.View.{bookAt}
 use Rattle.book_tables.specs.Fits.{Fits}
-use Rattle.text.specs.Lines.{onLine, bytesOf, onBytes}
+use Rattle.text.specs.Lines.{bytesOf, onBytes}
 use Rattle.text.specs.declared.BytesRead.{BytesRead}
 use Rattle.text.specs.declared.BytesRead.the-variants.{Allowed, TooLong, BadLine}
 use Rattle.text.proofs.LineLaws.{bytes-first}

@@ -23,7 +23,7 @@ use Rattle.logic.specs.Tests.{below-or-not}
 use mathlib.Core.Logic.{⊎-elim}
 use borrow.Author.Tests.{eq-eqb, ne-eqb, lt-ltb, le-ltb}
 use Rattle.book_tables.proofs.ListedLaws.{any-end}
-use Rattle.names_met.proofs.MemberLaws.{mem-more, same-symmetric, more, twice-end}
+use Rattle.book_tables.proofs.MemberLaws.{mem-end, same-symmetric, more, twice-end}
 use Rattle.query_faults.specs.Names.{textStart, textPieces}
 use Rattle.query_faults.specs.Counting.{countWhere, newVertex, anEdge, anExclusion, aRequirement, aReturn, pastLimits}
 use Rattle.query_faults.specs.Tests.{pieceFault}
@@ -147,7 +147,7 @@ module _ (b : Book) (text : List Piece) where
 meets-more : (vs : List Bytes) (v : Bytes) (es : List Bytes) → any (λ e. mem e (vs ++ (v ∷ []))) es ≡ (any (λ e. mem e vs) es || mem v es)
 unfolding mem any
 meets-more vs v [] = refl
-meets-more vs v (e ∷ es) = rw (mem-more e v vs, meets-more vs v es, same-symmetric e v) (more (mem e vs) (same v e) (any (λ e. mem e vs) es) (mem v es))
+meets-more vs v (e ∷ es) = rw (mem-end e v vs, meets-more vs v es, same-symmetric e v) (more (mem e vs) (same v e) (any (λ e. mem e vs) es) (mem v es))
 
 -- 5 in whole pieces: an edge variable twice, an edge variable that is a vertex, a returned name twice
 abbrev hasRepeat : List Bytes → List Bytes → List Bytes → Bool

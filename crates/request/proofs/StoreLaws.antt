@@ -22,7 +22,7 @@ use Rattle.model.specs.declared.Identity.{Identity as IdentityData}
 use Rattle.text.proofs.PlaceLaws.{part-in-part}
 use Rattle.items.specs.Forms.{claimNext}
 use Rattle.model.proofs.Places.{map-append}
-use Rattle.names_met.proofs.MemberLaws.{twice-end}
+use Rattle.book_tables.proofs.MemberLaws.{twice-end}
 use Rattle.name_lists.proofs.Again.{again, twice-again}
 use Rattle.book_tables.specs.Listed.{listed}
 use Rattle.book_tables.proofs.ListedLaws.{listed-more, listed-same, map-end}

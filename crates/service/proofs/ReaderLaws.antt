@@ -1,15 +1,15 @@
 -- The answers of the readers: what is ready as each service answers it.
 use Prim.Native.Nat.{ℕ, _<_}
 use mathlib.Core.Path.{_≡_, refl, sym, ap, _∙_}
-use mathlib.Core.List.{List, map}
+use mathlib.Core.List.{List}
 use mathlib.Core.Bool.{true, false}
 use native.Mathlib.Omega.{arith}
-use lib.ListN.{length, take}
+use lib.ListN.{length}
 use lib.Dec.{ltb}
 use borrow.Author.Tests.{ltb-true}
 use Rattle.model.specs.Bytes.{Bytes}
 use Rattle.model.specs.Names.{place}
-use Rattle.model.specs.Refusal.{Outcome, accepted, refused, onAccept}
+use Rattle.model.specs.Refusal.{Outcome, accepted, onAccept}
 use Rattle.model.specs.ReadBook.{readBook}
 use Rattle.model.specs.Pattern.{Pattern, patternOf}
 use Rattle.model.specs.Rules.{categoryNames}
@@ -25,7 +25,6 @@ use Rattle.model.specs.declared.Verdict.the-variants.{Accepted, Refused}
 use Rattle.model.specs.declared.Pattern.{Pattern as PatternData}
 use Rattle.model.specs.declared.RulesRead.the-variants as rules-answer
 use Rattle.model.specs.declared.QueryRead.{QueryRead}
-use Rattle.model.specs.declared.RequestRead.{RequestRead}
 use Rattle.model.proofs.AcceptedQuery.{query-accepted}
 use Rattle.book_tables.specs.View.{nameOf, namesAt, bookAt}
 use Rattle.book_tables.proofs.ListedLaws.{length-listed}

@@ -1,14 +1,13 @@
 -- The answer of the query writer, and what it leaves in the text buffer.
 use Prim.Native.Nat.{ℕ}
-use mathlib.Core.Path.{_≡_, refl, sym, ap, subst, _∙_}
-use mathlib.Core.Bool.{Bool, true, false, _||_}
+use mathlib.Core.Path.{_≡_, refl, sym, ap, _∙_}
+use mathlib.Core.Bool.{Bool, true, false}
 use mathlib.Core.List.{List, _++_}
 use native.Mathlib.Omega.{arith}
 use lib.ListN.{length, drop}
-use lib.Dec.{ltb}
 use Rattle.model.specs.Bytes.{Bytes}
 use Rattle.model.specs.Choice.{pick}
-use Rattle.model.specs.Refusal.{Outcome, accepted, refused, onAccept, refusal}
+use Rattle.model.specs.Refusal.{Outcome, accepted, onAccept, refusal}
 use Rattle.model.specs.Book.{Book}
 use Rattle.model.specs.Pattern.{patternOf}
 use Rattle.model.specs.Writing.{writtenQuery}

@@ -5,7 +5,7 @@ use Rattle.model.specs.Names.{mem}
 use Rattle.model.specs.Answers.{nameAt}
 use mathlib.Core.List.{[], _∷_, _++_}
 use mathlib.Core.Bool.{_||_}
-use Rattle.names_met.proofs.MemberLaws.{mem-more}
+use Rattle.book_tables.proofs.MemberLaws.{mem-end}
 use Rattle.query_faults.proofs.SeenLaws.{stays-seen, by-test}
 use borrow.Author.Needs.{needs}
 use Rattle.query_faults.proofs.links.link_twice.Statement.{statement}
@@ -40,7 +40,7 @@ returns-4 c =
     let at-if2 = c .before .before .before .before in
     let at-stands-before = at-if2 .before in
     rw (
-      mem-more,
+      mem-end,
       ← at-stands-before .stands-before .ensures,
       at-if2 .if2 .left,
       ← c .before .before .before .stands-before2 .ensures,
@@ -56,7 +56,7 @@ returns-5 c =
     let at-stands-before = at-if2 .before in
     let at-if1 = at-stands-before .before in
     rw (
-      mem-more,
+      mem-end,
       ← at-stands-before .stands-before .ensures,
       at-if2 .if2 .left,
       ← at-stands-before2 .stands-before2 .ensures,

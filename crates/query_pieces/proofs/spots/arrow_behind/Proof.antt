@@ -1,4 +1,4 @@
-use borrow.Author.Tests.{eq-eqb, ne-eqb}
+use borrow.Author.Tests.{ne-eqb}
 use Rattle.query_pieces.proofs.spots.arrow_behind.Statement.{statement}
 use Rattle.query_pieces.proofs.spots.arrow_behind.Tie as tie
 

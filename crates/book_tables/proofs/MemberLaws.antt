@@ -8,11 +8,11 @@ use Rattle.model.specs.Choice.{pick}
 use Rattle.model.specs.Lists.{any}
 use Rattle.model.specs.Names.{mem, twice}
 use Rattle.model.proofs.Decides.{same→eq, same-refl}
 use Rattle.book_tables.proofs.ListedLaws.{any-end}
 
-pub mem-more : (v e : Bytes) (es : List Bytes) → mem v (es ++ (e ∷ [])) ≡ (mem v es || same v e)
+pub mem-end : (v e : Bytes) (es : List Bytes) → mem v (es ++ (e ∷ [])) ≡ (mem v es || same v e)
 unfolding mem
-mem-more v e es = any-end (same v) es e
+mem-end v e es = any-end (same v) es e
 
 pub same-symmetric : (a b : Bytes) → same a b ≡ same b a
 same-symmetric a b = same-test (same a b) (same b a) (λ t. rw (same→eq a b t) (same-refl b)) (λ t. rw (same→eq b a t) (same-refl a))
@@ -27,4 +27,4 @@ more false false c d = refl
 pub twice-end : (xs : List Bytes) (x : Bytes) → twice (xs ++ (x ∷ [])) ≡ (twice xs || mem x xs)
 unfolding twice mem any
 twice-end [] x = refl
-twice-end (y ∷ xs) x = rw (mem-more y x xs, twice-end xs x, same-symmetric y x) (more (mem y xs) (same x y) (twice xs) (mem x xs))
+twice-end (y ∷ xs) x = rw (mem-end y x xs, twice-end xs x, same-symmetric y x) (more (mem y xs) (same x y) (twice xs) (mem x xs))
