@@ -1,5 +1,5 @@
 -- The entries at the end of a line, one after another.
-use Prim.Native.Nat.{ℕ, _+_, _-_, _≤_}
+use Prim.Native.Nat.{ℕ, _≤_}
 use mathlib.Core.Path.{_≡_, refl, sym, ap, _∙_, subst}
 use mathlib.Core.List.{List, [], _∷_, _++_, append-assoc, append-nil}
 use mathlib.Core.Bool.{Bool, true, false}
@@ -14,7 +14,8 @@ use Rattle.model.specs.Values.{Entry}
 use Rattle.model.specs.Forms.{entryOf}
 use Rattle.model.specs.BookLines.{BookLine}
 use Rattle.model.specs.ReadBook.{undeclared}
-use Rattle.model.specs.Answers.{partOf, nameAt, valueOf}
+use Rattle.model.specs.Answers.{nameAt, valueOf}
+use Rattle.model.specs.declared.Part.{Part}
 use Rattle.model.specs.declared.Value.{Value}
 use Rattle.items.specs.declared.EntryRead.{EntryRead}
 use Rattle.items.specs.declared.EntryRead.the-variants as entry
@@ -32,18 +33,19 @@ use Rattle.book_entries.specs.declared.EntriesRead.{EntriesRead}
 use Rattle.book_entries.specs.Faults.{entriesFault}
 use Rattle.book_entries.specs.Known.{EntriesKnown, EntryAdded, entryRead}
 use Rattle.book_lines.specs.Forms.{FormAsked}
+use Rattle.book_lines.specs.Names.{movedPart}
 use Rattle.book_lines.specs.Entries.{shift, entriesForm, EntriesGot}
-use Rattle.book_lines.proofs.PieceLaws.{part-moved, value-moved}
+use Rattle.book_lines.proofs.PieceLaws.{name-moved, value-moved}
 
 -- the rest of a form, by the next entry
 abbrev restForm : Form → Bytes → ℕ → (List Entry → Maybe BookLine) → Maybe BookLine
 restForm within line at k = formAt within true at line (λ is. andThen (each entryOf is) k)
 
 module _ (within : Form) (line : Bytes) (at : ℕ) (r : EntryRead) (e : NextEntry (within .inner) line at r) where
-  entry-on : (k : List Entry → Maybe BookLine) (a b : ℕ) (v : Value) (q : ℕ) → r ≡ entry.Entry a b v q
-      → restForm within line at k ≡ restForm within line q (λ es. k (record { attr = partOf line a (b - a); value = valueOf line v } ∷ es))
+  entry-on : (k : List Entry → Maybe BookLine) (w : Part) (v : Value) (q : ℕ) → r ≡ entry.Entry w v q
+      → restForm within line at k ≡ restForm within line q (λ es. k (record { attr = nameAt line w; value = valueOf line v } ∷ es))
   unfolding onEntry
-  entry-on k a b v q h = form-entries line within true at k ∙ rw (sym (e .is) ∙ h)
+  entry-on k w v q h = form-entries line within true at k ∙ rw (sym (e .is) ∙ h)
 
   entry-close : (k : List Entry → Maybe BookLine) (z : ℕ) → r ≡ entry.Close z → restForm within line at k ≡ pick (formEnds within line z) (k []) nothing
   unfolding onEntry
@@ -54,8 +56,8 @@ module _ (within : Form) (line : Bytes) (at : ℕ) (r : EntryRead) (e : NextEntr
   entry-none k h = form-entries line within true at k ∙ rw (sym (e .is) ∙ h)
 
 pub entry-stands : {d : ℕ} (line : Bytes) (at : ℕ) (r : EntryRead) → NextEntry d line at r
-    → (a b : ℕ) (v : Value) (q : ℕ) → r ≡ entry.Entry a b v q → EntryPlaces line at a b v q
-entry-stands line at r e a b v q h = subst (EntryPlaced line at) h (e .placed)
+    → (w : Part) (v : Value) (q : ℕ) → r ≡ entry.Entry w v q → EntryPlaces line at w v q
+entry-stands line at r e w v q h = subst (EntryPlaced line at) h (e .placed)
 
 -- where reading the entries stands: those read, and that the line goes on behind them
 pub record Reading (within : Form) (text line : Bytes) (words words′ : List ℕ) (c : BookCounts) (offset declared from at : ℕ)
@@ -92,22 +94,20 @@ module _ {within : Form} (text line : Bytes) (words : List ℕ) (c : BookCounts)
   module _ (words′ : List ℕ) (at : ℕ) (known : EntriesRead) (reading : Reading within text line words words′ c offset declared from at known)
       (r : EntryRead) (e : NextEntry (within .inner) line at r) where
     -- with one entry more
-    pub reading-on : (base : ℕ) → FormAsked text line words c base → (words″ : List ℕ) (known′ : EntriesRead) (a b : ℕ) (v : Value) (q : ℕ)
-        → r ≡ entry.Entry a b v q
-        → EntryAdded text words′ words″ c offset declared (record { start = base + a; length = b - a }) (shift base v) known known′
+    pub reading-on : (base : ℕ) → FormAsked text line words c base → (words″ : List ℕ) (known′ : EntriesRead) (w : Part) (v : Value) (q : ℕ)
+        → r ≡ entry.Entry w v q
+        → EntryAdded text words′ words″ c offset declared (movedPart base w) (shift base v) known known′
         → Reading within text line words words″ c offset declared from q known′
-    unfolding nameAt
-    reading-on base f words″ known′ a b v q h added =
-        let s = entry-stands line at r e a b v q h in
-        let x : Entry = entryRead text (record { start = base + a; length = b - a }) (shift base v) in
-        let y : Entry = record { attr = partOf line a (b - a); value = valueOf line v } in
-        let named : nameAt text (record { start = base + a; length = b - a })
-        ≡ partOf line a (b - a) = part-moved text line base (f .is) (f .inside) a (b - a) (omega (arith, s .inside, s .name)) in
+    reading-on base f words″ known′ w v q h added =
+        let s = entry-stands line at r e w v q h in
+        let x : Entry = entryRead text (movedPart base w) (shift base v) in
+        let y : Entry = record { attr = nameAt line w; value = valueOf line v } in
+        let named = name-moved text line base (f .is) (f .inside) w (s .inside) in
         let same : x ≡ y = λ t. record { attr = named t; value = value-moved text line base (f .is) (f .inside) v (s .ends) t } in
         record {
           got = reading .got ++ (x ∷ []);
           form = λ k. reading .form k
-              ∙ entry-on within line at r e (λ es. k (reading .got ++ es)) a b v q h
+              ∙ entry-on within line at r e (λ es. k (reading .got ++ es)) w v q h
               ∙ (λ t. restForm within line q (λ es. k (reading .got ++ (sym same t ∷ es))))
               ∙ (λ t. restForm within line q (λ es. k (sym (append-assoc (reading .got) (x ∷ []) es) t)));
           after = added .after (reading .got) (reading .after);

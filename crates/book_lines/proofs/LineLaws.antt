@@ -1,5 +1,5 @@
 -- Lines by their forms: what was read makes the line, or breaks the grammar.
-use Prim.Native.Nat.{ℕ, _-_}
+use Prim.Native.Nat.{ℕ}
 use mathlib.Core.Path.{_≡_, refl, sym, ap, _∙_, fun-ext}
 use mathlib.Core.List.{List, [], _∷_}
 use mathlib.Core.Bool.{Bool, true, false}
@@ -11,7 +11,8 @@ use Rattle.model.specs.Values.{Kind}
 use Rattle.model.specs.Forms.{asWord, kindOf, first, atEnd}
 use Rattle.model.specs.Book.{Book}
 use Rattle.model.specs.BookLines.{BookLine, label, attrLine, labelLine, bookLine}
-use Rattle.model.specs.Answers.{partOf}
+use Rattle.model.specs.Answers.{nameAt}
+use Rattle.model.specs.declared.Part.{Part}
 use Rattle.text.specs.declared.End.{End}
 use Rattle.text.specs.declared.End.the-variants as end
 use Rattle.items.specs.declared.ItemAt.{ItemAt}
@@ -19,7 +20,7 @@ use Rattle.items.specs.declared.ItemAt.the-variants as piece
 use Rattle.items.specs.declared.Form.{Form}
 use Rattle.items.specs.Rest.{formDepth, formEnds, formAt, lineAt}
 use Rattle.items.specs.Places.{NextWord, NextName}
-use Rattle.items.specs.Pieces.{wordNext, onPiece, onPlace}
+use Rattle.items.specs.Pieces.{behind, wordNext, onPiece, onPlace}
 use Rattle.items.specs.Forms.{formOpens, formCloses}
 use Rattle.items.proofs.RestLaws.{rest-same, rest-nothing}
 use Rattle.items.proofs.FormLaws.{line-form, form-word, form-end}
@@ -55,11 +56,11 @@ opens-none line r e h = line-form bookLine line ∙ rw (sym e ∙ h)
 
 -- the first word, or none
 module _ (within : Form) (line : Bytes) (from : ℕ) (r : ItemAt) (e : NextWord (within .inner) true line from r) where
-  pub headed : (p q : ℕ) → r ≡ piece.At p q → formAt within true from line bookLine ≡ formAt within false q line (lineOf (headOf (partOf line p (q - p))))
+  pub headed : (w : Part) → r ≡ piece.At w → formAt within true from line bookLine ≡ formAt within false (behind w) line (lineOf (headOf (nameAt line w)))
   unfolding bookLine onPiece
-  headed p q h =
+  headed w h =
       form-word within true from line (within .inner) _ ∙ rw (sym (e .is) ∙ h)
-      (ap (λ (f : List Item → Maybe BookLine). formAt within false q line f) (fun-ext (line-head (partOf line p (q - p)))))
+      (ap (λ (f : List Item → Maybe BookLine). formAt within false (behind w) line f) (fun-ext (line-head (nameAt line w))))
 
   pub headless : r ≡ piece.None → formAt within true from line bookLine ≡ nothing
   unfolding bookLine onPiece
@@ -100,10 +101,10 @@ kind-form within line i k =
     ∙ form-word within false i line (within .inner) (λ w is. andThen (kindOf w) (λ t. k t is))
     ∙ go (wordNext (within .inner) false line i)
   where
-    go : (r : ItemAt) → onPiece r (λ p q. formAt within false q line (λ is. andThen (kindOf (partOf line p (q - p))) (λ t. k t is)))
+    go : (r : ItemAt) → onPiece r (λ w. formAt within false (behind w) line (λ is. andThen (kindOf (nameAt line w)) (λ t. k t is)))
         ≡ onKind (kindPiece line r) (λ t q. formAt within false q line (k t))
-    go (piece.At p q) = form-then within false q line (kindOf (partOf line p (q - p))) k
-        ∙ kind-word line i (partOf line p (q - p)) q (λ t q. formAt within false q line (k t))
+    go (piece.At w) = form-then within false (behind w) line (kindOf (nameAt line w)) k
+        ∙ kind-word line i (nameAt line w) (behind w) (λ t q. formAt within false q line (k t))
     go piece.None = refl
 
 -- NAME TYPE
@@ -112,37 +113,37 @@ module _ (within : Form) (line : Bytes) (from : ℕ) (make : Bytes → Kind → 
   unfolding attrLine onPiece
   attr-nameless h = name-form within line from _ ∙ rw (sym (e .is) ∙ h)
 
-  module _ (p q : ℕ) (h : r ≡ piece.At p q) (t : KindRead) (te : t ≡ kindPiece line (wordNext (within .inner) false line q)) where
-    attr-typed : formAt within false from line (attrLine make) ≡ onKind t (λ k z. formAt within false z line (λ is. atEnd is (make (partOf line p (q - p)) k)))
+  module _ (w : Part) (h : r ≡ piece.At w) (t : KindRead) (te : t ≡ kindPiece line (wordNext (within .inner) false line (behind w))) where
+    attr-typed : formAt within false from line (attrLine make) ≡ onKind t (λ k z. formAt within false z line (λ is. atEnd is (make (nameAt line w) k)))
     unfolding attrLine onPiece
     attr-typed =
         let named : formAt within false from line (attrLine make)
-        ≡ formAt within false q line (λ is. first (λ x. andThen (asWord x) kindOf) is (λ k is. atEnd is (make (partOf line p (q - p)) k))) =
+        ≡ formAt within false (behind w) line (λ is. first (λ x. andThen (asWord x) kindOf) is (λ k is. atEnd is (make (nameAt line w) k))) =
         name-form within line from _ ∙ rw (sym (e .is) ∙ h) in
-        named ∙ kind-form within line q (λ k is. atEnd is (make (partOf line p (q - p)) k))
-        ∙ ap (λ (x : KindRead). onKind x (λ k z. formAt within false z line (λ is. atEnd is (make (partOf line p (q - p)) k)))) (sym te)
+        named ∙ kind-form within line (behind w) (λ k is. atEnd is (make (nameAt line w) k))
+        ∙ ap (λ (x : KindRead). onKind x (λ k z. formAt within false z line (λ is. atEnd is (make (nameAt line w) k)))) (sym te)
 
     pub attr-kindless : t ≡ kind.None → formAt within false from line (attrLine make) ≡ nothing
     unfolding onKind
     attr-kindless k = attr-typed ∙ rw k
 
     pub attr-ends : (k z : ℕ) → t ≡ kind.Kind k z → (c : Bool) → c ≡ formCloses (within .closes) line z
-        → formAt within false from line (attrLine make) ≡ pick c (just (make (partOf line p (q - p)) (kindIn k))) nothing
+        → formAt within false from line (attrLine make) ≡ pick c (just (make (nameAt line w) (kindIn k))) nothing
     unfolding onKind
     attr-ends k z th c ce =
         let typed : formAt within false from line (attrLine make)
-        ≡ formAt within false z line (λ is. atEnd is (make (partOf line p (q - p)) (kindIn k))) = attr-typed
+        ≡ formAt within false z line (λ is. atEnd is (make (nameAt line w) (kindIn k))) = attr-typed
         ∙ rw th in
-        typed ∙ form-end within false z line (make (partOf line p (q - p)) (kindIn k))
-        ∙ ap (λ (x : Bool). pick {A = Maybe BookLine} x (just (make (partOf line p (q - p)) (kindIn k))) nothing) (sym ce)
+        typed ∙ form-end within false z line (make (nameAt line w) (kindIn k))
+        ∙ ap (λ (x : Bool). pick {A = Maybe BookLine} x (just (make (nameAt line w) (kindIn k))) nothing) (sym ce)
 
 -- what was read of an attribute's line
 module _ (within : Form) (line : Bytes) (from : ℕ) (r : AttrRead)
     (form : (make : Bytes → Kind → BookLine) → formAt within false from line (attrLine make) ≡ onAttr line r (λ n k. just (make n k)))
     (make : Bytes → Kind → BookLine) where
-  pub attr-got : (p q k : ℕ) → r ≡ attr.Attr p q k → formAt within false from line (attrLine make) ≡ just (make (partOf line p (q - p)) (kindIn k))
+  pub attr-got : (w : Part) (k : ℕ) → r ≡ attr.Attr w k → formAt within false from line (attrLine make) ≡ just (make (nameAt line w) (kindIn k))
   unfolding onAttr
-  attr-got p q k e = form make ∙ rw e
+  attr-got w k e = form make ∙ rw e
 
   pub attr-none : r ≡ attr.None → formAt within false from line (attrLine make) ≡ nothing
   unfolding onAttr
@@ -154,14 +155,14 @@ module _ (within : Form) (line : Bytes) (from : ℕ) (r : ItemAt) (e : NextName 
   unfolding labelLine onPiece
   label-nameless h = name-form within line from _ ∙ rw (sym (e .is) ∙ h)
 
-  pub label-ends : (p q : ℕ) → r ≡ piece.At p q → (c : Bool) → c ≡ formCloses (within .closes) line q
-      → formAt within false from line labelLine ≡ pick c (just (label (partOf line p (q - p)))) nothing
+  pub label-ends : (w : Part) → r ≡ piece.At w → (c : Bool) → c ≡ formCloses (within .closes) line (behind w)
+      → formAt within false from line labelLine ≡ pick c (just (label (nameAt line w))) nothing
   unfolding labelLine onPiece
-  label-ends p q h c ce =
-      let named : formAt within false from line labelLine ≡ formAt within false q line (λ is. atEnd is (label (partOf line p (q - p)))) =
+  label-ends w h c ce =
+      let named : formAt within false from line labelLine ≡ formAt within false (behind w) line (λ is. atEnd is (label (nameAt line w))) =
       name-form within line from _ ∙ rw (sym (e .is) ∙ h) in
-      named ∙ form-end within false q line (label (partOf line p (q - p)))
-      ∙ ap (λ (x : Bool). pick {A = Maybe BookLine} x (just (label (partOf line p (q - p)))) nothing) (sym ce)
+      named ∙ form-end within false (behind w) line (label (nameAt line w))
+      ∙ ap (λ (x : Bool). pick {A = Maybe BookLine} x (just (label (nameAt line w))) nothing) (sym ce)
 
 -- a first word that is none of the five
 pub form-other : (within : Form) (line : Bytes) (i : ℕ) (h : Head) → h ≡ head.Other → formAt within false i line (lineOf h) ≡ nothing

@@ -1,10 +1,8 @@
 -- What each kind of line gives after the book: the step of the line that was read, in the whole text's parts.
-use Prim.Native.Nat.{ℕ, _+_, _-_}
+use Prim.Native.Nat.{ℕ}
 use mathlib.Core.Path.{_≡_, sym, ap, _∙_, subst}
 use mathlib.Core.List.{List}
 use mathlib.Core.Bool.{Bool, true, false}
-use native.Mathlib.Omega.{arith}
-use lib.ListN.{length}
 use Rattle.model.specs.Bytes.{Bytes}
 use Rattle.model.specs.Choice.{just, andThen}
 use Rattle.model.specs.Lists.{each}
@@ -13,14 +11,14 @@ use Rattle.model.specs.Values.{Kind}
 use Rattle.model.specs.Forms.{entryOf}
 use Rattle.model.specs.Book.{Book}
 use Rattle.model.specs.BookLines.{BookLine, label, node, rel, attrLine, labelLine, nodeLine, relLine}
-use Rattle.model.specs.Answers.{partOf, nameAt}
+use Rattle.model.specs.Answers.{nameAt}
 use Rattle.model.specs.declared.Part.{Part}
 use Rattle.items.specs.declared.ItemAt.{ItemAt}
 use Rattle.items.specs.declared.ItemAt.the-variants as piece
 use Rattle.items.specs.declared.Form.{Form}
 use Rattle.items.specs.Rest.{formAt}
 use Rattle.items.specs.Places.{WordPlaces, NextName}
-use Rattle.items.specs.Pieces.{onPiece}
+use Rattle.items.specs.Pieces.{behind, onPiece}
 use Rattle.items.proofs.PlacedLaws.{placed-at}
 use Rattle.items.specs.Forms.{formCloses}
 use Rattle.book_tables.specs.declared.BookCounts.{BookCounts}
@@ -34,16 +32,16 @@ use Rattle.book_lines.specs.declared.EntriesAnswer.{EntriesAnswer}
 use Rattle.book_lines.specs.declared.EntriesAnswer.the-variants as answer
 use Rattle.book_lines.specs.declared.RelNames.{RelNames}
 use Rattle.book_lines.specs.declared.RelNames.the-variants as names
-use Rattle.book_lines.specs.Steps.{stepOf, NameAsked}
+use Rattle.book_lines.specs.Steps.{stepOf}
 use Rattle.book_lines.specs.Forms.{formStepOf, FormAsked, onAttr}
-use Rattle.book_lines.specs.Names.{AttrFits, movedPart, PartFits, NamesGot, NamesTold}
+use Rattle.book_lines.specs.Names.{AttrFits, movedPart, NamesGot, NamesTold}
 use Rattle.book_lines.specs.Entries.{entriesForm, EntriesGot, EntriesTold, EntriesDone}
-use Rattle.book_lines.proofs.PieceLaws.{name-form, name-moved, piece-named}
+use Rattle.book_lines.proofs.PieceLaws.{name-form, name-moved}
 use Rattle.book_lines.proofs.LineLaws.{step-form, step-broken, attr-got, attr-none, label-nameless, label-ends}
 
 -- the places of an attribute's name
-pub attr-stands : (line : Bytes) (from : ℕ) (r : AttrRead) (p q k : ℕ) → AttrFits line from r → r ≡ attr.Attr p q k → WordPlaces line from p q
-attr-stands line from r p q k h e = subst (AttrFits line from) e h
+pub attr-stands : (line : Bytes) (from : ℕ) (r : AttrRead) (w : Part) (k : ℕ) → AttrFits line from r → r ≡ attr.Attr w k → WordPlaces line from w
+attr-stands line from r w k h e = subst (AttrFits line from) e h
 
 -- the names that were read
 pub names-got : {within : Form} (line : Bytes) (from : ℕ) (r : RelNames) → NamesTold within line from r
@@ -57,12 +55,13 @@ module _ (rule : NameRule) (within : Form) (text line : Bytes) (words : List ℕ
   -- (vattr NAME TYPE), (eattr NAME TYPE)
   module _ (r : AttrRead) (form : (make : Bytes → Kind → BookLine) → formAt within false from line (attrLine make) ≡ onAttr line r (λ n k. just (make n k)))
       (fits : AttrFits line from r) (make : Bytes → Kind → BookLine) where
-    pub attr-step : (p q k : ℕ) → r ≡ attr.Attr p q k
+    pub attr-step : (w : Part) (k : ℕ) → r ≡ attr.Attr w k
         → formStepOf rule book (formAt within false from line (attrLine make))
-        ≡ stepOf rule book (make (nameAt text (record { start = base + p; length = q - p })) (kindIn k))
-    attr-step p q k e =
-        step-form rule book _ _ (attr-got within line from r form make p q k e)
-        ∙ ap (λ (n : Bytes). stepOf rule book (make n (kindIn k))) (sym (piece-named text line words c base from p q f (attr-stands line from r p q k fits e)))
+        ≡ stepOf rule book (make (nameAt text (movedPart base w)) (kindIn k))
+    attr-step w k e =
+        step-form rule book _ _ (attr-got within line from r form make w k e)
+        ∙ ap (λ (n : Bytes). stepOf rule book (make n (kindIn k)))
+        (sym (name-moved text line base (f .is) (f .inside) w (attr-stands line from r w k fits e .inside)))
 
     pub attr-broken : r ≡ attr.None → formStepOf rule book (formAt within false from line (attrLine make)) ≡ fault 3
     attr-broken e = step-broken rule book _ (attr-none within line from r form make e)
@@ -72,15 +71,15 @@ module _ (rule : NameRule) (within : Form) (text line : Bytes) (words : List ℕ
     pub label-broken : r ≡ piece.None → formStepOf rule book (formAt within false from line labelLine) ≡ fault 3
     label-broken h = step-broken rule book _ (label-nameless within line from r e h)
 
-    pub label-open : (p q : ℕ) → r ≡ piece.At p q → (t : Bool) → t ≡ formCloses (within .closes) line q → t ≡ false
+    pub label-open : (w : Part) → r ≡ piece.At w → (t : Bool) → t ≡ formCloses (within .closes) line (behind w) → t ≡ false
         → formStepOf rule book (formAt within false from line labelLine) ≡ fault 3
-    label-open p q h t te th = step-broken rule book _ (label-ends within line from r e p q h t te ∙ rw th)
+    label-open w h t te th = step-broken rule book _ (label-ends within line from r e w h t te ∙ rw th)
 
-    pub label-step : (p q : ℕ) → r ≡ piece.At p q → (t : Bool) → t ≡ formCloses (within .closes) line q → t ≡ true
-        → formStepOf rule book (formAt within false from line labelLine) ≡ stepOf rule book (label (nameAt text (record { start = base + p; length = q - p })))
-    label-step p q h t te th =
-        step-form rule book _ _ (label-ends within line from r e p q h t te ∙ rw th)
-        ∙ ap (λ (n : Bytes). stepOf rule book (label n)) (sym (piece-named text line words c base from p q f (placed-at line from r h (e .placed))))
+    pub label-step : (w : Part) → r ≡ piece.At w → (t : Bool) → t ≡ formCloses (within .closes) line (behind w) → t ≡ true
+        → formStepOf rule book (formAt within false from line labelLine) ≡ stepOf rule book (label (nameAt text (movedPart base w)))
+    label-step w h t te th =
+        step-form rule book _ _ (label-ends within line from r e w h t te ∙ rw th)
+        ∙ ap (λ (n : Bytes). stepOf rule book (label n)) (sym (name-moved text line base (f .is) (f .inside) w (placed-at line from r h (e .placed) .inside)))
 
   -- (node NAME (ATTR VALUE)...)
   module _ (r : ItemAt) (e : NextName (within .inner) line from r) where
@@ -88,24 +87,25 @@ module _ (rule : NameRule) (within : Form) (text line : Bytes) (words : List ℕ
     unfolding nodeLine onPiece
     node-broken h = step-broken rule book _ (name-form within line from _ ∙ rw (sym (e .is) ∙ h))
 
-    module _ (p q : ℕ) (h : r ≡ piece.At p q) (words′ : List ℕ) (offset declared : ℕ) (a : EntriesAnswer)
-        (done : EntriesDone within text line words words′ c offset declared q a) where
-      node-named : formAt within false from line nodeLine ≡ entriesForm within line q (λ es. just (node (partOf line p (q - p)) es))
+    module _ (w : Part) (h : r ≡ piece.At w) (words′ : List ℕ) (offset declared : ℕ) (a : EntriesAnswer)
+        (done : EntriesDone within text line words words′ c offset declared (behind w) a) where
+      node-named : formAt within false from line nodeLine ≡ entriesForm within line (behind w) (λ es. just (node (nameAt line w) es))
       unfolding nodeLine onPiece
       node-named = name-form within line from _ ∙ rw (sym (e .is) ∙ h)
 
       pub node-spoilt : a ≡ answer.None → formStepOf rule book (formAt within false from line nodeLine) ≡ fault 3
       node-spoilt n =
-          let told = subst (EntriesTold within text line words′ c offset declared q) n (done .told) in
-          step-broken rule book _ (node-named ∙ told (λ es. just (node (partOf line p (q - p)) es)))
+          let told = subst (EntriesTold within text line words′ c offset declared (behind w)) n (done .told) in
+          step-broken rule book _ (node-named ∙ told (λ es. just (node (nameAt line w) es)))
 
-      pub node-step : (known : EntriesRead) → a ≡ answer.Read known → (got : EntriesGot within text line words′ c offset declared q known)
+      pub node-step : (known : EntriesRead) → a ≡ answer.Read known → (got : EntriesGot within text line words′ c offset declared (behind w) known)
           → formStepOf rule book (formAt within false from line nodeLine)
-          ≡ stepOf rule (bookAt text words′ c) (node (nameAt text (record { start = base + p; length = q - p })) (got .got))
+          ≡ stepOf rule (bookAt text words′ c) (node (nameAt text (movedPart base w)) (got .got))
       node-step known n got =
-          step-form rule book _ _ (node-named ∙ got .form (λ es. just (node (partOf line p (q - p)) es)))
-          ∙ ap (λ (x : Bytes). stepOf rule book (node x (got .got))) (sym (piece-named text line words c base from p q f (placed-at line from r h (e .placed))))
-          ∙ ap (λ (b : Book). stepOf rule b (node (nameAt text (record { start = base + p; length = q - p })) (got .got)))
+          step-form rule book _ _ (node-named ∙ got .form (λ es. just (node (nameAt line w) es)))
+          ∙ ap (λ (x : Bytes). stepOf rule book (node x (got .got)))
+          (sym (name-moved text line base (f .is) (f .inside) w (placed-at line from r h (e .placed) .inside)))
+          ∙ ap (λ (b : Book). stepOf rule b (node (nameAt text (movedPart base w)) (got .got)))
           (sym (book-kept text words words′ c (done .agrees .tables) (f .fits)))
 
   -- (rel LABEL FROM TO (ATTR VALUE)...)
@@ -148,40 +148,32 @@ pub entries-got : {within : Form} (text line : Bytes) (words words′ : List ℕ
 entries-got {within} text line words words′ c offset declared from a known done e =
     subst (EntriesTold within text line words′ c offset declared from) e (done .told)
 
--- what was asked before the entries, after them
-pub moved-asked : (text line : Bytes) (words : List ℕ) (c : BookCounts) (base : ℕ) (p : Part) → FormAsked text line words c base → PartFits line p
-    → NameAsked text (movedPart base p)
-moved-asked text line words c base p f s = record { inside = omega (arith, f .inside, s .inside); short = s .short; limit = f .limit }
-
 -- LABEL FROM TO
 module _ (within : Form) (line : Bytes) (from : ℕ) (r : ItemAt) (e : NextName (within .inner) line from r) where
   pub names-first : r ≡ piece.None → NamesTold within line from names.None
   unfolding onPiece
   names-first h k = name-form within line from _ ∙ rw (sym (e .is) ∙ h)
 
-  module _ (a b : ℕ) (h : r ≡ piece.At a b) (r₂ : ItemAt) (e₂ : NextName (within .inner) line b r₂) where
+  module _ (l : Part) (h : r ≡ piece.At l) (r₂ : ItemAt) (e₂ : NextName (within .inner) line (behind l) r₂) where
     pub names-second : r₂ ≡ piece.None → NamesTold within line from names.None
     unfolding onPiece
-    names-second h₂ k = name-form within line from _ ∙ rw (sym (e .is) ∙ h) (name-form within line b _ ∙ rw (sym (e₂ .is) ∙ h₂))
+    names-second h₂ k = name-form within line from _ ∙ rw (sym (e .is) ∙ h) (name-form within line (behind l) _ ∙ rw (sym (e₂ .is) ∙ h₂))
 
-    module _ (c d : ℕ) (h₂ : r₂ ≡ piece.At c d) (r₃ : ItemAt) (e₃ : NextName (within .inner) line d r₃) where
+    module _ (x : Part) (h₂ : r₂ ≡ piece.At x) (r₃ : ItemAt) (e₃ : NextName (within .inner) line (behind x) r₃) where
       pub names-third : r₃ ≡ piece.None → NamesTold within line from names.None
       unfolding onPiece
       names-third h₃ k = name-form within line from _
-          ∙ rw (sym (e .is) ∙ h) (name-form within line b _ ∙ rw (sym (e₂ .is) ∙ h₂) (name-form within line d _ ∙ rw (sym (e₃ .is) ∙ h₃)))
+          ∙ rw (sym (e .is) ∙ h) (name-form within line (behind l) _ ∙ rw (sym (e₂ .is) ∙ h₂) (name-form within line (behind x) _ ∙ rw (sym (e₃ .is) ∙ h₃)))
 
-      pub names-all : (x y : ℕ) → r₃ ≡ piece.At x y
-          → NamesGot within line from (record { start = a; length = b - a }) (record { start = c; length = d - c }) (record { start = x; length = y - x }) y
-      unfolding onPiece nameAt
-      names-all x y h₃ =
-          let s = placed-at line from r h (e .placed) in
-          let t = placed-at line b r₂ h₂ (e₂ .placed) in
-          let u = placed-at line d r₃ h₃ (e₃ .placed) in
+      pub names-all : (y : Part) → r₃ ≡ piece.At y → NamesGot within line from l x y (behind y)
+      unfolding onPiece
+      names-all y h₃ =
+          let u = placed-at line (behind x) r₃ h₃ (e₃ .placed) in
           record {
             form = λ k. name-form within line from _ ∙ rw (sym (e .is) ∙ h)
-                (name-form within line b _ ∙ rw (sym (e₂ .is) ∙ h₂) (name-form within line d _ ∙ rw (sym (e₃ .is) ∙ h₃)));
-            label = record { inside = omega (arith, s .some, s .inside); short = omega (arith, s .short) };
-            start = record { inside = omega (arith, t .some, t .inside); short = omega (arith, t .short) };
-            end = record { inside = omega (arith, u .some, u .inside); short = omega (arith, u .short) };
+                (name-form within line (behind l) _ ∙ rw (sym (e₂ .is) ∙ h₂) (name-form within line (behind x) _ ∙ rw (sym (e₃ .is) ∙ h₃)));
+            label = placed-at line from r h (e .placed);
+            start = placed-at line (behind l) r₂ h₂ (e₂ .placed);
+            end = u;
             inside = u .inside;
           }

@@ -1,5 +1,5 @@
 -- The pieces of a line and the rest behind them; parts of the line as parts of the whole text.
-use Prim.Native.Nat.{ℕ, _+_, _-_, _≤_}
+use Prim.Native.Nat.{ℕ, _+_, _≤_}
 use mathlib.Core.Path.{_≡_, refl, sym, ap, _∙_}
 use mathlib.Core.List.{List}
 use mathlib.Core.Bool.{Bool, true, false}
@@ -21,7 +21,7 @@ use Rattle.items.specs.declared.NameItem.the-variants as name
 use Rattle.items.specs.declared.Form.{Form}
 use Rattle.items.specs.Rest.{formAt}
 use Rattle.items.specs.Places.{WordPlaces, ValueInside}
-use Rattle.items.specs.Pieces.{namePlaces, nameNext, onPiece, onName}
+use Rattle.items.specs.Pieces.{behind, namePlaces, nameNext, onPiece, onName}
 use Rattle.items.proofs.FormLaws.{form-name}
 use Rattle.book_tables.specs.declared.BookCounts.{BookCounts}
 use Rattle.book_tables.specs.View.{kindIn}
@@ -40,13 +40,13 @@ use Rattle.book_lines.specs.Entries.{shift}
 module _ {B : Type 0} (within : Form) (line : Bytes) (i : ℕ) where
   pub name-form : (k : Bytes → List Item → Maybe B)
       → formAt within false i line (λ is. first asName is k)
-      ≡ onPiece (namePlaces (nameNext (within .inner) false line i)) (λ p q. formAt within false q line (k (partOf line p (q - p))))
+      ≡ onPiece (namePlaces (nameNext (within .inner) false line i)) (λ w. formAt within false (behind w) line (k (nameAt line w)))
   unfolding onName onPiece
   name-form k = form-name within false i line (within .inner) k ∙ go (nameNext (within .inner) false line i)
     where
       go : (r : NameItem) → onName line r (λ n q. formAt within false q line (k n)) (λ e. nothing)
-          ≡ onPiece (namePlaces r) (λ p q. formAt within false q line (k (partOf line p (q - p))))
-      go (name.Name p q) = refl
+          ≡ onPiece (namePlaces r) (λ w. formAt within false (behind w) line (k (nameAt line w)))
+      go (name.Name w) = refl
       go (name.Close e) = refl
       go name.None = refl
 
@@ -92,19 +92,10 @@ module _ (text line : Bytes) (base : ℕ) (is : line ≡ partOf text base (lengt
   ends-moved (Text start size) h = omega arith
   ends-moved (Truth t) h = h
 
--- the part that a piece of the line is, in the text
-pub piece-asked : (text line : Bytes) (words : List ℕ) (c : BookCounts) (base i p q : ℕ) → FormAsked text line words c base → WordPlaces line i p q
-    → NameAsked text (record { start = base + p; length = q - p })
-piece-asked text line words c base i p q f s = record {
-  inside = omega (arith, f .inside, s .inside, s .some);
-  short = omega (arith, s .short, s .some);
-  limit = f .limit;
-}
-
-pub piece-named : (text line : Bytes) (words : List ℕ) (c : BookCounts) (base i p q : ℕ) → FormAsked text line words c base → WordPlaces line i p q
-    → nameAt text (record { start = base + p; length = q - p }) ≡ partOf line p (q - p)
-unfolding nameAt
-piece-named text line words c base i p q f s = part-moved text line base (f .is) (f .inside) p (q - p) (omega (arith, s .inside, s .some))
+-- a name of the line, as a name of the text
+pub moved-asked : (text line : Bytes) (words : List ℕ) (c : BookCounts) (base i : ℕ) (p : Part) → FormAsked text line words c base → WordPlaces line i p
+    → NameAsked text (movedPart base p)
+moved-asked text line words c base i p f s = record { inside = omega (arith, f .inside, s .inside); short = omega (arith, s .short); limit = f .limit }
 
 -- a line goes on by its first word
 pub line-head : (w : Bytes) (is : List Item)

@@ -1,5 +1,5 @@
 -- The form of a line, read by places of the line.
-use Prim.Native.Nat.{ℕ, _+_, _-_, _≤_}
+use Prim.Native.Nat.{ℕ, _+_, _≤_}
 use mathlib.Core.Path.{_≡_}
 use mathlib.Core.List.{List}
 use lib.ListN.{length}
@@ -10,9 +10,10 @@ use Rattle.model.specs.Lines.{Step, formStep}
 use Rattle.model.specs.Values.{Kind}
 use Rattle.model.specs.Book.{Book}
 use Rattle.model.specs.BookLines.{BookLine, attrLine, labelLine, nodeLine, relLine}
-use Rattle.model.specs.Answers.{partOf}
+use Rattle.model.specs.Answers.{partOf, nameAt}
 use Rattle.items.specs.declared.ItemAt.{ItemAt}
 use Rattle.items.specs.declared.ItemAt.the-variants as piece
+use Rattle.items.specs.Pieces.{behind}
 use Rattle.book_tables.specs.declared.BookCounts.{BookCounts}
 use Rattle.book_tables.specs.declared.Owner.the-variants.{Node, Relationship}
 use Rattle.book_tables.specs.Owners.{declares}
@@ -64,7 +65,7 @@ kindRead w q =
 
 -- the type that a piece of the line is
 unfoldable pub kindPiece : Bytes → ItemAt → KindRead
-kindPiece line (piece.At p q) = kindRead (partOf line p (q - p)) q
+kindPiece line (piece.At w) = kindRead (nameAt line w) (behind w)
 kindPiece line piece.None = kind.None
 
 -- go on with a type, or with an attribute
@@ -73,5 +74,5 @@ onKind (kind.Kind k q) f = f (kindIn k) q
 onKind kind.None f = nothing
 
 unfoldable pub onAttr : {B : Type 0} → Bytes → AttrRead → (Bytes → Kind → Maybe B) → Maybe B
-onAttr line (attr.Attr p q k) f = f (partOf line p (q - p)) (kindIn k)
+onAttr line (attr.Attr w k) f = f (nameAt line w) (kindIn k)
 onAttr line attr.None f = nothing

@@ -1,5 +1,5 @@
 -- The names of a line by their places in the line.
-use Prim.Native.Nat.{ℕ, _+_, _≤_, _<_}
+use Prim.Native.Nat.{ℕ, _+_, _≤_}
 use mathlib.Core.Path.{_≡_}
 use mathlib.Core.List.{List}
 use mathlib.Core.Bool.{false}
@@ -14,7 +14,7 @@ use Rattle.model.specs.declared.Part.{Part}
 use Rattle.items.specs.declared.Form.{Form}
 use Rattle.items.specs.Rest.{formAt}
 use Rattle.items.specs.Places.{WordPlaces}
-use Rattle.book_tables.specs.Fits.{Inside}
+use Rattle.items.specs.Pieces.{behind}
 use Rattle.book_lines.specs.declared.AttrRead.{AttrRead}
 use Rattle.book_lines.specs.declared.AttrRead.the-variants as attr
 use Rattle.book_lines.specs.declared.RelNames.{RelNames}
@@ -26,13 +26,8 @@ movedPart base p = record { start = base + p .start; length = p .length }
 
 -- the name of an attribute that was read stands in the line
 abbrev pub AttrFits : Bytes → ℕ → AttrRead → Type 0
-AttrFits line from (attr.Attr p q k) = WordPlaces line from p q
+AttrFits line from (attr.Attr w k) = WordPlaces line from w
 AttrFits line from attr.None = Unit {0}
-
--- a name's part stands in the line, and is short
-pub record PartFits (line : Bytes) (p : Part) : Type 0 where
-  pub inside : Inside line (p .start) (p .length)
-  pub short : p .length < 32
 
 -- three names, and then the rest of the form
 abbrev pub namesForm : Form → Bytes → ℕ → (Bytes → Bytes → Bytes → List Item → Maybe BookLine) → Maybe BookLine
@@ -42,9 +37,9 @@ namesForm within line from k = formAt within false from line (λ is. first asNam
 pub record NamesGot (within : Form) (line : Bytes) (from : ℕ) (l x y : Part) (q : ℕ) : Type 0 where
   pub form : (k : Bytes → Bytes → Bytes → List Item → Maybe BookLine)
       → namesForm within line from k ≡ formAt within false q line (k (nameAt line l) (nameAt line x) (nameAt line y))
-  pub label : PartFits line l
-  pub start : PartFits line x
-  pub end : PartFits line y
+  pub label : WordPlaces line from l
+  pub start : WordPlaces line (behind l) x
+  pub end : WordPlaces line (behind x) y
   pub inside : q ≤ length line
 
 abbrev pub NamesTold : Form → Bytes → ℕ → RelNames → Type 0

@@ -28,9 +28,9 @@ use items::ItemAt;
 use items::forms::LINE_CLOSES;
 use items::forms::LIST_DEPTH;
 use items::places;
-use model::Part;
 use model::refusal_numbers::BROKEN;
 use text::End;
+use text::parts;
 
 // Reads a line, which begins at the base in the text, and adds it; a node is given a second time by the rule for names.
 pub fn read_line(
@@ -79,13 +79,13 @@ pub fn read_head(
         (formStepOf rule (bookAt (now (text .entry)) (now (words .entry)) counts) (formAt form true from (now (line .entry)) bookLine)) ⌝ }
 {
     match places::next_word(line, from, true, form.inner) {
-        ItemAt::At(p, q) => read_rest(
+        ItemAt::At(word) => read_rest(
             text,
             line,
             base,
-            q,
+            word.start + word.length,
             form,
-            pieces::head(&line[p..q]),
+            pieces::head(parts::part_of(line, word)),
             words,
             counts,
             rule,
@@ -126,10 +126,10 @@ fn read_attr(line: &[u8], from: usize, form: Form) -> AttrRead
     ensures fits { λ r. ⌜ AttrFits (now (line .entry)) from r ⌝ }
 {
     match places::next_name(line, from, form.inner) {
-        ItemAt::At(p, q) => match pieces::next_kind(line, q, form.inner) {
+        ItemAt::At(name) => match pieces::next_kind(line, name.start + name.length, form.inner) {
             KindRead::Kind(kind, end) => {
                 if items::forms::form_closes(line, end, form.closes) {
-                    return AttrRead::Attr(p, q, kind);
+                    return AttrRead::Attr(name, kind);
                 }
                 AttrRead::None
             }
@@ -155,15 +155,12 @@ fn attr_line(
         (formStepOf rule (bookAt (now (text .entry)) (now (words .entry)) counts) (formAt form false from (now (line .entry)) (attrLine (declares owner))))) ⌝ }
 {
     match read_attr(line, from, form) {
-        AttrRead::Attr(p, q, kind) => steps::add_attr(
+        AttrRead::Attr(name, kind) => steps::add_attr(
             text,
             words,
             counts,
             owner,
-            Part {
-                start: base + p,
-                length: q - p,
-            },
+            pieces::moved(name, base),
             kind,
         ),
         AttrRead::None => LineStep::Fault(BROKEN),
@@ -185,17 +182,9 @@ fn label_line(
         (formStepOf rule (bookAt (now (text .entry)) (now (words .entry)) counts) (formAt form false from (now (line .entry)) labelLine))) ⌝ }
 {
     match places::next_name(line, from, form.inner) {
-        ItemAt::At(p, q) => {
-            if items::forms::form_closes(line, q, form.closes) {
-                return steps::add_label(
-                    text,
-                    words,
-                    counts,
-                    Part {
-                        start: base + p,
-                        length: q - p,
-                    },
-                );
+        ItemAt::At(name) => {
+            if items::forms::form_closes(line, name.start + name.length, form.closes) {
+                return steps::add_label(text, words, counts, pieces::moved(name, base));
             }
             LineStep::Fault(BROKEN)
         }

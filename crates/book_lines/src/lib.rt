@@ -24,9 +24,9 @@ pub enum Head {
     Other,
 }
 
-// The rest of a line that declares an attribute: its name's start and end, and its type; or that the grammar is broken.
+// The rest of a line that declares an attribute: where its name stands, and its type; or that the grammar is broken.
 pub enum AttrRead {
-    Attr(usize, usize, u32),
+    Attr(Part, u32),
     None,
 }
 

@@ -11,11 +11,12 @@ ghost use Rattle.book_tables.specs.Owners.{tablesOf};
 ghost use Rattle.book_lines.specs.Steps.{Stepped};
 ghost use Rattle.book_tables.specs.ValueWords.{EndsBefore};
 ghost use Rattle.book_lines.specs.Forms.{formStepOf, FormAsked};
-ghost use Rattle.book_lines.specs.Names.{movedPart, NamesTold};
+ghost use Rattle.book_lines.specs.Names.{NamesTold};
 ghost use Rattle.book_lines.specs.Entries.{shift, EntriesDone};
 use crate::EntriesAnswer;
 use crate::LineStep;
 use crate::RelNames;
+use crate::pieces;
 use crate::steps;
 use book_entries::EntriesRead;
 use book_tables::BookCounts;
@@ -25,7 +26,6 @@ use items::EntryRead;
 use items::Form;
 use items::ItemAt;
 use items::places;
-use model::Part;
 use model::Value;
 use model::refusal_numbers::BROKEN;
 
@@ -67,22 +67,14 @@ fn read_entries(
     };
     loop {
         match items::forms::entry(line, at, form.inner) {
-            EntryRead::Entry {
-                start,
-                end,
-                value,
-                next,
-            } => {
+            EntryRead::Entry { name, value, next } => {
                 known = book_entries::add_entry(
                     text,
                     words,
                     counts,
                     offset,
                     declared,
-                    Part {
-                        start: base + start,
-                        length: end - start,
-                    },
+                    pieces::moved(name, base),
                     shifted(value, base),
                     known,
                 );
@@ -98,17 +90,6 @@ fn read_entries(
                 return EntriesAnswer::None;
             }
         }
-    }
-}
-
-// A part of the line as a part of the whole text.
-fn moved(part: Part, base: usize) -> Part
-    requires { ⌜ base + part .start ≤ 65536 ⌝ }
-    ensures { λ r. ⌜ r ≡ movedPart base part ⌝ }
-{
-    Part {
-        start: base + part.start,
-        length: part.length,
     }
 }
 
@@ -128,17 +109,23 @@ pub fn node_line(
         (formStepOf rule (bookAt (now (text .entry)) (now (words .entry)) counts) (formAt form false from (now (line .entry)) nodeLine)) ⌝ }
 {
     match places::next_name(line, from, form.inner) {
-        ItemAt::At(p, q) => {
-            match read_entries(text, line, base, q, form, words, counts, Owner::Node) {
+        ItemAt::At(name) => {
+            match read_entries(
+                text,
+                line,
+                base,
+                name.start + name.length,
+                form,
+                words,
+                counts,
+                Owner::Node,
+            ) {
                 EntriesAnswer::Read(read) => steps::add_node(
                     text,
                     words,
                     counts,
                     rule,
-                    Part {
-                        start: base + p,
-                        length: q - p,
-                    },
+                    pieces::moved(name, base),
                     read,
                 ),
                 EntriesAnswer::None => LineStep::Fault(BROKEN),
@@ -153,23 +140,9 @@ fn read_names(line: &[u8], from: usize, form: Form) -> RelNames
     ensures { λ r. ⌜ NamesTold form (now (line .entry)) from r ⌝ }
 {
     match places::next_name(line, from, form.inner) {
-        ItemAt::At(a, b) => match places::next_name(line, b, form.inner) {
-            ItemAt::At(c, d) => match places::next_name(line, d, form.inner) {
-                ItemAt::At(e, f) => RelNames::Read(
-                    Part {
-                        start: a,
-                        length: b - a,
-                    },
-                    Part {
-                        start: c,
-                        length: d - c,
-                    },
-                    Part {
-                        start: e,
-                        length: f - e,
-                    },
-                    f,
-                ),
+        ItemAt::At(label) => match places::next_name(line, label.start + label.length, form.inner) {
+            ItemAt::At(x) => match places::next_name(line, x.start + x.length, form.inner) {
+                ItemAt::At(y) => RelNames::Read(label, x, y, y.start + y.length),
                 ItemAt::None => RelNames::None,
             },
             ItemAt::None => RelNames::None,
@@ -208,9 +181,9 @@ pub fn rel_line(
                     text,
                     words,
                     counts,
-                    moved(label, base),
-                    moved(x, base),
-                    moved(y, base),
+                    pieces::moved(label, base),
+                    pieces::moved(x, base),
+                    pieces::moved(y, base),
                     read,
                 ),
                 EntriesAnswer::None => LineStep::Fault(BROKEN),

@@ -1,8 +1,10 @@
-// The pieces of a book's lines: first words, types.
+// The pieces of a book's lines: first words, types, parts of the whole text.
 ghost use mathlib.Core.Path.{_≡_};
 ghost use mathlib.Core.Bool.{false};
 ghost use Rattle.items.specs.Pieces.{wordNext};
+ghost use Prim.Native.Nat.{_+_, _≤_};
 ghost use Rattle.book_lines.specs.Forms.{headOf, kindRead, kindPiece};
+ghost use Rattle.book_lines.specs.Names.{movedPart};
 use crate::Head;
 use crate::KindRead;
 use book_tables::Owner;
@@ -11,7 +13,9 @@ use book_tables::values::INT;
 use book_tables::values::STR;
 use items::ItemAt;
 use items::places;
+use model::Part;
 use text::compare::same_bytes;
+use text::parts;
 
 // Which of the five first words a word is.
 pub fn head(word: &[u8]) -> Head
@@ -56,7 +60,18 @@ pub fn next_kind(line: &[u8], from: usize, depth: usize) -> KindRead
     ensures { λ r. ⌜ r ≡ kindPiece (now (line .entry)) (wordNext depth false (now (line .entry)) from) ⌝ }
 {
     match places::next_word(line, from, false, depth) {
-        ItemAt::At(p, q) => kind_of(&line[p..q], q),
+        ItemAt::At(word) => kind_of(parts::part_of(line, word), word.start + word.length),
         ItemAt::None => KindRead::None,
+    }
+}
+
+// A part of the line as a part of the whole text.
+pub fn moved(part: Part, base: usize) -> Part
+    requires { ⌜ base + part .start ≤ 65536 ⌝ }
+    ensures { λ r. ⌜ r ≡ movedPart base part ⌝ }
+{
+    Part {
+        start: base + part.start,
+        length: part.length,
     }
 }

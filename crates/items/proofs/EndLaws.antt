@@ -13,6 +13,7 @@ use Rattle.model.specs.Words.{Got}
 use Rattle.model.specs.Items.{Item, Items, none, onward, onwardWith, isList, listAt, itemAt, itemList}
 use Rattle.model.specs.Request.{Claim}
 use Rattle.model.specs.Forms.{asName, first, atEnd}
+use Rattle.model.specs.declared.Part.{Part}
 use Rattle.model.specs.declared.Value.{Value as ValueData}
 use Rattle.text.specs.declared.End.the-variants as end
 use Rattle.text.specs.Places.{peekAt, past, isSpace, endOf}
@@ -26,7 +27,7 @@ use Rattle.items.specs.declared.ClaimRead.{ClaimRead}
 use Rattle.items.specs.declared.ClaimRead.the-variants as claim
 use Rattle.items.specs.Reads.{nextAt, listEnd}
 use Rattle.items.specs.Rest.{restAt}
-use Rattle.items.specs.Pieces.{namePlaces, nameNext, valueNext, openNext, closeAfter, closeNext, afterEnd}
+use Rattle.items.specs.Pieces.{behind, namePlaces, nameNext, valueNext, openNext, closeAfter, closeNext, afterEnd}
 use Rattle.items.specs.Forms.{entryNext, onEntry, claimRest, onClaim}
 use Rattle.items.proofs.RestLaws.{rest-same}
 use Rattle.items.proofs.ListLaws.{entryItems, entry-items, at-entry, entry-close, first-then, claim-rest, at-shut}
@@ -150,9 +151,9 @@ module _ (s : Bytes) (q z : ℕ) (h : peekAt s (z - 1) ≡ 41) (l : 0 < z) where
 -- (ATTR VALUE), p being the place behind its opening bracket
 module _ (d : ℕ) (s : Bytes) (i p : ℕ) (e : next.Item p ≡ openNext s i) where
   -- an entry that is read ends where the list reader says
-  entry-ends : (a b : ℕ) (v : ValueData) (q : ℕ) → entry.Entry a b v q ≡ entryNext d s i → end.At q ≡ listEnd d true s p
+  entry-ends : (a : Part) (v : ValueData) (q : ℕ) → entry.Entry a v q ≡ entryNext d s i → end.At q ≡ listEnd d true s p
   unfolding onEntry
-  entry-ends a b v q h =
+  entry-ends a v q h =
       ends-there d true s p entryItems q
       (entry-items s d p (λ x e. just e) (λ e. nothing)
       ∙ ap (λ (r : EntryRead). onEntry s r (λ x e. just e) (λ e. nothing)) (at-entry d s i p e _ refl ∙ sym h))
@@ -167,22 +168,22 @@ module _ (d : ℕ) (s : Bytes) (i p : ℕ) (e : next.Item p ≡ openNext s i) wh
       ∙ ends-nowhere d true s p (λ e is. andThen (entryItems is) (λ x. just e)) n)
     where
       go : (r : EntryRead) → onEntry s r (λ x e. just e) (λ e. just e) ≡ nothing → entry.None ≡ r
-      go (entry.Entry a b v q) h = none-is (cc)
+      go (entry.Entry a v q) h = none-is (cc)
       go (entry.Close q) h = none-is (cc)
       go entry.None h = refl
 
-  module _ (a b : ℕ) (n : piece.At a b ≡ namePlaces (nameNext d true s p)) (v : ValueData) (q : ℕ) (w : read.Value v q ≡ valueNext d false s b)
+  module _ (a : Part) (n : piece.At a ≡ namePlaces (nameNext d true s p)) (v : ValueData) (q : ℕ) (w : read.Value v q ≡ valueNext d false s (behind a))
       (z : ℕ) (l : end.At z ≡ listEnd d true s p) where
-    pub entry-there : true ≡ eqb (past isSpace s q) (z - 1) → entry.Entry a b v z ≡ entryNext d s i
+    pub entry-there : true ≡ eqb (past isSpace s q) (z - 1) → entry.Entry a v z ≡ entryNext d s i
     unfolding afterEnd
-    entry-there t = let h = ends-shut d true s p z l in entry-close d s i p e a b n v q w (end.At z) (closes-there s q z (h .1) (h .0) t)
+    entry-there t = let h = ends-shut d true s p z l in entry-close d s i p e a n v q w (end.At z) (closes-there s q z (h .1) (h .0) t)
 
     pub entry-past : false ≡ eqb (past isSpace s q) (z - 1) → entry.None ≡ entryNext d s i
     unfolding afterEnd
     entry-past t =
         let h = ends-shut d true s p z l in
-        entry-close d s i p e a b n v q w end.None
-        (closes-nowhere s q z (h .1) (h .0) (λ x k. entry-ends a b v x (entry-close d s i p e a b n v q w (end.At x) k) ∙ sym l) t)
+        entry-close d s i p e a n v q w end.None
+        (closes-nowhere s q z (h .1) (h .0) (λ x k. entry-ends a v x (entry-close d s i p e a n v q w (end.At x) k) ∙ sym l) t)
 
 -- ACTOR NODE behind the first word of an (id ACTOR NODE)
 module _ (d : ℕ) (s : Bytes) (i : ℕ) where
@@ -199,9 +200,9 @@ module _ (d : ℕ) (s : Bytes) (i : ℕ) where
       ∙ claim-rest d s k g i
 
   -- an identity that is read ends where the list reader says
-  claim-ends : (a b x y q : ℕ) → claim.Claim a b x y q ≡ claimRest d s i → end.At q ≡ listEnd d false s i
+  claim-ends : (a x : Part) (q : ℕ) → claim.Claim a x q ≡ claimRest d s i → end.At q ≡ listEnd d false s i
   unfolding onClaim
-  claim-ends a b x y q h =
+  claim-ends a x q h =
       ends-there d false s i claimNames q
       (claim-made (λ x e. just e) (λ e. nothing) ∙ ap (λ (r : ClaimRead). onClaim s r (λ x e. just e) (λ e. nothing)) (sym h))
 
@@ -213,19 +214,19 @@ module _ (d : ℕ) (s : Bytes) (i : ℕ) where
       (sym (claim-made (λ x e. just e) (λ e. just e)) ∙ ends-nowhere d false s i (λ e is. andThen (claimNames is) (λ x. just e)) n)
     where
       go : (r : ClaimRead) → onClaim s r (λ x e. just e) (λ e. just e) ≡ nothing → claim.None ≡ r
-      go (claim.Claim a b x y q) h = none-is (cc)
+      go (claim.Claim a x q) h = none-is (cc)
       go (claim.Close q) h = none-is (cc)
       go claim.None h = refl
 
-  module _ (a b : ℕ) (n : piece.At a b ≡ namePlaces (nameNext d false s i)) (x y : ℕ) (w : piece.At x y ≡ namePlaces (nameNext d false s b))
+  module _ (a : Part) (n : piece.At a ≡ namePlaces (nameNext d false s i)) (x : Part) (w : piece.At x ≡ namePlaces (nameNext d false s (behind a)))
       (z : ℕ) (l : end.At z ≡ listEnd d false s i) where
-    pub claim-there : true ≡ eqb (past isSpace s y) (z - 1) → claim.Claim a b x y z ≡ claimRest d s i
+    pub claim-there : true ≡ eqb (past isSpace s (behind x)) (z - 1) → claim.Claim a x z ≡ claimRest d s i
     unfolding afterEnd
-    claim-there t = let h = ends-shut d false s i z l in at-shut d s i a b n x y w (end.At z) (closes-there s y z (h .1) (h .0) t)
+    claim-there t = let h = ends-shut d false s i z l in at-shut d s i a n x w (end.At z) (closes-there s (behind x) z (h .1) (h .0) t)
 
-    pub claim-past : false ≡ eqb (past isSpace s y) (z - 1) → claim.None ≡ claimRest d s i
+    pub claim-past : false ≡ eqb (past isSpace s (behind x)) (z - 1) → claim.None ≡ claimRest d s i
     unfolding afterEnd
     claim-past t =
         let h = ends-shut d false s i z l in
-        at-shut d s i a b n x y w end.None
-        (closes-nowhere s y z (h .1) (h .0) (λ u k. claim-ends a b x y u (at-shut d s i a b n x y w (end.At u) k) ∙ sym l) t)
+        at-shut d s i a n x w end.None
+        (closes-nowhere s (behind x) z (h .1) (h .0) (λ u k. claim-ends a x u (at-shut d s i a n x w (end.At u) k) ∙ sym l) t)

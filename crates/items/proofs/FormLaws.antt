@@ -15,7 +15,7 @@ use Rattle.model.specs.Words.{Got, run}
 use Rattle.model.specs.Items.{Item, Items, plainAt, asList, listAt, itemAt, itemList, itemsOf, lineItems}
 use Rattle.model.specs.Values.{Value}
 use Rattle.model.specs.Forms.{asWord, asQuoted, asName, asValue, first, atEnd, formOf}
-use Rattle.model.specs.Answers.{partOf}
+use Rattle.model.specs.Answers.{nameAt}
 use Rattle.text.specs.declared.End.{End}
 use Rattle.text.specs.declared.End.the-variants as end
 use Rattle.text.specs.Places.{peekAt, past, isSpace}
@@ -23,7 +23,7 @@ use Rattle.items.specs.declared.ItemAt.{ItemAt}
 use Rattle.items.specs.declared.NameItem.{NameItem}
 use Rattle.items.specs.declared.Form.{Form}
 use Rattle.items.specs.Rest.{restAt, spacesFrom, endsAfter, formDepth, formEnds, formAt, lineAt, onNext}
-use Rattle.items.specs.Pieces.{wordNext, quotedNext, nameNext, valueNext, openNext, closeNext, afterEnd, onPiece, onName, onValue, onPlace}
+use Rattle.items.specs.Pieces.{behind, wordNext, quotedNext, nameNext, valueNext, openNext, closeNext, afterEnd, onPiece, onName, onValue, onPlace}
 use Rattle.items.specs.Forms.{formOpens, formCloses}
 use Rattle.items.proofs.SizeLaws.{kindOr, plain-kind}
 use Rattle.items.proofs.RestLaws.{rest-same}
@@ -114,16 +114,16 @@ module _ {A B : Type 0} (form : Form) (free : Bool) (i : ℕ) (s : Bytes) where
 module _ {B : Type 0} (form : Form) (free : Bool) (i : ℕ) (s : Bytes) where
   -- a word and a name are read alike at every depth d
   pub form-word : (d : ℕ) (k : Bytes → ListOf Item → Maybe B)
-      → formAt form free i s (λ is. first asWord is k) ≡ onPiece (wordNext d free s i) (λ p q. formAt form false q s (k (partOf s p (q - p))))
+      → formAt form free i s (λ is. first asWord is k) ≡ onPiece (wordNext d free s i) (λ w. formAt form false (behind w) s (k (nameAt s w)))
   unfolding formAt
   form-word d k =
       form-first form free i s asWord k
       ∙ first-word (formDepth form) free s i (λ e w is. pick (formEnds form s e) (k w is) nothing)
-      ∙ ap (λ (r : ItemAt). onPiece r (λ p q. formAt form false q s (k (partOf s p (q - p))))) (word-depth (formDepth form) d free s i)
+      ∙ ap (λ (r : ItemAt). onPiece r (λ w. formAt form false (behind w) s (k (nameAt s w)))) (word-depth (formDepth form) d free s i)
 
   pub form-quoted : (k : Bytes → ListOf Item → Maybe B)
       → formAt form free i s (λ is. first asQuoted is k)
-      ≡ onPiece (quotedNext (formDepth form) free s i) (λ p q. formAt form false (q + 1) s (k (partOf s p (q - p))))
+      ≡ onPiece (quotedNext (formDepth form) free s i) (λ w. formAt form false (behind w + 1) s (k (nameAt s w)))
   unfolding formAt
   form-quoted k = form-first form free i s asQuoted k ∙ first-quoted (formDepth form) free s i (λ e w is. pick (formEnds form s e) (k w is) nothing)
 

@@ -14,7 +14,7 @@ use Rattle.model.specs.Words.{Got}
 use Rattle.model.specs.Items.{Item, word, whole, text, quoted, list, Items, isList, plainAt, asList, listAt, itemAt, itemList, itemsOf}
 use Rattle.model.specs.Values.{Value, int, str, bool}
 use Rattle.model.specs.Forms.{asWord, asQuoted, neverNames, nameOf, asName, truthOf, asValue}
-use Rattle.model.specs.Answers.{partOf, valueOf}
+use Rattle.model.specs.Answers.{partOf, nameAt, valueOf}
 use Rattle.model.specs.declared.Value.the-variants as value
 use Rattle.text.specs.declared.End.the-variants as end
 use Rattle.text.specs.Places.{peekAt, past, isSpace}
@@ -29,9 +29,10 @@ use Rattle.items.specs.declared.NameItem.the-variants as name
 use Rattle.items.specs.declared.ValueItem.the-variants as read
 use Rattle.items.specs.Reads.{endRead, nextAt, itemTo}
 use Rattle.items.specs.Rest.{restAt, onNext, onItem}
-use Rattle.items.specs.Pieces.{afterEnd, openAfter, wordPiece, quotedPiece, namePiece, truthPiece, valuePiece, readAt, openNext, onPiece, onName, onValue}
+use Rattle.items.specs.Pieces.{behind, afterEnd, openAfter, wordPiece, quotedPiece, namePiece, truthPiece}
+use Rattle.items.specs.Pieces.{valuePiece, readAt, openNext, onPiece, onName, onValue}
 use Rattle.items.proofs.SizeLaws.{kindOr, plain-kind}
-use Rattle.items.proofs.ReadLaws.{item-told, item-plain, item-opened, read-within}
+use Rattle.items.proofs.ReadLaws.{item-told, item-plain, item-opened, read-within, quoted-within}
 
 -- what is made of each item is all that counts
 pub on-item-same : {B : Type 0} (p : ℕ) (o : Maybe (Got Item)) (f g : Item → ℕ → Maybe B) → ((x : Item) (q : ℕ) → f x q ≡ g x q) → onItem p o f ≡ onItem p o g
@@ -50,19 +51,19 @@ no-items (quoted w) h = refl
 no-items (list w) h = let z : _≡_ {A = ℕ} 0 1 = cc in absurd (omega arith)
 
 -- the place behind an item of a known end
-behind : (d : ℕ) (s : Bytes) (p q : ℕ) (r : ItemRead) → r ≡ readAt d s p → endRead r ≡ end.At q → p + (q - p) ≡ q
-behind d s p q r e h = omega (arith, read-within d s p q r e h .after)
+ends-behind : (d : ℕ) (s : Bytes) (p q : ℕ) (r : ItemRead) → r ≡ readAt d s p → endRead r ≡ end.At q → p + (q - p) ≡ q
+ends-behind d s p q r e h = omega (arith, read-within d s p q r e h .after)
 
 module _ {B : Type 0} (d : ℕ) (s : Bytes) (p : ℕ) where
   pub word-item : (f : Bytes → Bool → ℕ → Maybe B)
       → onItem p (itemAt d (drop p s)) (λ x q. andThen (asWord x) (λ a. f a (isList x) q))
-      ≡ onPiece (wordPiece p (readAt d s p)) (λ p q. f (partOf s p (q - p)) false q)
-  unfolding onItem itemTo asWord isList andThen wordPiece afterEnd onPiece
+      ≡ onPiece (wordPiece p (readAt d s p)) (λ w. f (nameAt s w) false (behind w))
+  unfolding onItem itemTo asWord isList andThen wordPiece afterEnd onPiece nameAt
   word-item f = ap (λ (o : Maybe (Got Item)). onItem p o (λ x q. andThen (asWord x) (λ a. f a (isList x) q))) (item-told d s p) ∙ go (readAt d s p) refl
     where
       go : (r : ItemRead) → r ≡ readAt d s p → onItem p (itemTo d s p r) (λ x q. andThen (asWord x) (λ a. f a (isList x) q))
-          ≡ onPiece (wordPiece p r) (λ p q. f (partOf s p (q - p)) false q)
-      go (Word q) e = ap (f (partOf s p (q - p)) false) (behind d s p q (Word q) e refl)
+          ≡ onPiece (wordPiece p r) (λ w. f (nameAt s w) false (behind w))
+      go (Word q) e = refl
       go (Number n q) e = refl
       go (Text q) e = refl
       go (Quoted q) e = refl
@@ -71,20 +72,19 @@ module _ {B : Type 0} (d : ℕ) (s : Bytes) (p : ℕ) where
 
   pub quoted-item : (f : Bytes → Bool → ℕ → Maybe B)
       → onItem p (itemAt d (drop p s)) (λ x q. andThen (asQuoted x) (λ a. f a (isList x) q))
-      ≡ onPiece (quotedPiece p (readAt d s p)) (λ p q. f (partOf s p (q - p)) false (q + 1))
-  unfolding onItem itemTo asQuoted isList andThen quotedPiece afterEnd onPiece
+      ≡ onPiece (quotedPiece p (readAt d s p)) (λ w. f (nameAt s w) false (behind w + 1))
+  unfolding onItem itemTo asQuoted isList andThen quotedPiece afterEnd onPiece nameAt
   quoted-item f = ap (λ (o : Maybe (Got Item)). onItem p o (λ x q. andThen (asQuoted x) (λ a. f a (isList x) q))) (item-told d s p) ∙ go (readAt d s p) refl
     where
       go : (r : ItemRead) → r ≡ readAt d s p
           → onItem p (itemTo d s p r) (λ x q. andThen (asQuoted x) (λ a. f a (isList x) q))
-          ≡ onPiece (quotedPiece p r) (λ p q. f (partOf s p (q - p)) false (q + 1))
+          ≡ onPiece (quotedPiece p r) (λ w. f (nameAt s w) false (behind w + 1))
       go (Word q) e = refl
       go (Number n q) e = refl
       go (Text q) e = refl
       go (Quoted q) e =
-          let a : p + (q - p) ≡ q - 1 + 1 = omega (arith, behind d s p q (Quoted q) e refl, read-within d s p q (Quoted q) e refl .after) in
-          let b : q - p - 2 ≡ q - 1 - (p + 1) = omega arith in
-          rw (a, b)
+          let a : p + (q - p) ≡ p + 1 + (q - p - 2) + 1 = omega (arith, quoted-within d s p q e .0) in
+          rw a
       go (List q) e = refl
       go None e = refl
 
@@ -103,22 +103,21 @@ module _ {B : Type 0} (d : ℕ) (s : Bytes) (p : ℕ) where
 
       go : (r : ItemRead) → r ≡ readAt d s p → onItem p (itemTo d s p r) (λ x q. andThen (asValue x) (λ a. f a (isList x) q))
           ≡ onValue s (valuePiece s p r) (λ v q. f v false q)
-      go (Word q) e = truth q (same (partOf s p (q - p)) (bytesOf "true")) (same (partOf s p (q - p)) (bytesOf "false")) (behind d s p q (Word q) e refl)
-      go (Number n q) e = ap (f (int n) false) (behind d s p q (Number n q) e refl)
-      go (Text q) e = ap (f (str (partOf s (p + 1) (q - p - 2))) false) (behind d s p q (Text q) e refl)
+      go (Word q) e = truth q (same (partOf s p (q - p)) (bytesOf "true")) (same (partOf s p (q - p)) (bytesOf "false")) (ends-behind d s p q (Word q) e refl)
+      go (Number n q) e = ap (f (int n) false) (ends-behind d s p q (Number n q) e refl)
+      go (Text q) e = ap (f (str (partOf s (p + 1) (q - p - 2))) false) (ends-behind d s p q (Text q) e refl)
       go (Quoted q) e = refl
       go (List q) e = refl
       go None e = refl
 
 -- a word as a name
 name-piece : {B : Type 0} (s : Bytes) (w : ItemAt) (f : Bytes → ℕ → Maybe B) (g : ℕ → Maybe B)
-    → onPiece w (λ p q. andThen (nameOf (partOf s p (q - p))) (λ n. f n q)) ≡ onName s (namePiece s w) f g
+    → onPiece w (λ x. andThen (nameOf (nameAt s x)) (λ n. f n (behind x))) ≡ onName s (namePiece s w) f g
 unfolding onPiece onName namePiece andThen
 name-piece s piece.None f g = refl
-name-piece {B} s (piece.At p q) f g = rw (name-of (partOf s p (q - p))) (go (not (mem (partOf s p (q - p)) neverNames)))
+name-piece {B} s (piece.At x) f g = rw (name-of (nameAt s x)) (go (not (mem (nameAt s x) neverNames)))
   where
-    go : (x : Bool) → andThen (pick x (just (partOf s p (q - p))) nothing) (λ n. f n q)
-        ≡ onName s (pick x (name.Name p q) name.None) f g
+    go : (b : Bool) → andThen (pick b (just (nameAt s x)) nothing) (λ n. f n (behind x)) ≡ onName s (pick b (name.Name x) name.None) f g
     go true = refl
     go false = refl
 

@@ -1,5 +1,5 @@
 -- Laws of the lists of a known form: entries and identities.
-use Prim.Native.Nat.{ℕ, _-_}
+use Prim.Native.Nat.{ℕ}
 use mathlib.Core.Path.{_≡_, refl, ap, _∙_}
 use mathlib.Core.List.{List as ListOf, [], _∷_}
 use mathlib.Core.Bool.{Bool, true, false}
@@ -10,7 +10,8 @@ use Rattle.model.specs.Items.{Item}
 use Rattle.model.specs.Values.{Value, Entry}
 use Rattle.model.specs.Request.{Claim, claimOf}
 use Rattle.model.specs.Forms.{asWord, asName, asValue, first, atEnd, entryOf}
-use Rattle.model.specs.Answers.{partOf, valueOf}
+use Rattle.model.specs.Answers.{nameAt, valueOf}
+use Rattle.model.specs.declared.Part.{Part}
 use Rattle.model.specs.declared.Value.{Value as ValueData}
 use Rattle.text.specs.declared.End.{End}
 use Rattle.text.specs.declared.End.the-variants as end
@@ -26,7 +27,7 @@ use Rattle.items.specs.declared.ClaimRead.the-variants as claim
 use Rattle.items.specs.declared.EntryRead.the-variants as entry
 use Rattle.items.specs.declared.Form.{Form}
 use Rattle.items.specs.Rest.{restAt, formEnds, formAt, onNext}
-use Rattle.items.specs.Pieces.{wordNext, nameNext, valueNext, openNext, closeNext, onPiece, onName, onValue, onPlace, afterEnd, namePlaces}
+use Rattle.items.specs.Pieces.{behind, wordNext, nameNext, valueNext, openNext, closeNext, onPiece, onName, onValue, onPlace, afterEnd, namePlaces}
 use Rattle.items.specs.Forms.{claimNode, claimActor, claimRest, claimHead, claimAfter, claimNext, onClaim, entryValued, entryNamed, entryAfter}
 use Rattle.items.specs.Forms.{entryNext, onEntry}
 use Rattle.items.proofs.RestLaws.{rest-same, rest-nothing}
@@ -48,16 +49,16 @@ first-then reading (i ∷ is) k c = go (reading i)
     go (just a) = refl
 
 module _ {B : Type 0} (s : Bytes) where
-  entry-shut : (d : ℕ) (a b : ℕ) (r : ValueItem) (k : Entry → ℕ → Maybe B) (g : ℕ → Maybe B)
-      → onValue s r (λ v q. restAt d false q s (λ e is. andThen (atEnd is (record { attr = partOf s a (b - a); value = v })) (λ x. k x e)))
-      ≡ onEntry s (entryValued s a b r) k g
+  entry-shut : (d : ℕ) (a : Part) (r : ValueItem) (k : Entry → ℕ → Maybe B) (g : ℕ → Maybe B)
+      → onValue s r (λ v q. restAt d false q s (λ e is. andThen (atEnd is (record { attr = nameAt s a; value = v })) (λ x. k x e)))
+      ≡ onEntry s (entryValued s a r) k g
   unfolding onValue entryValued onEntry onPlace afterEnd
-  entry-shut d a b read.None k g = refl
-  entry-shut d a b (read.Value v q) k g =
-      end-next d false s q (record { attr = partOf s a (b - a); value = valueOf s v }) (λ e x. k x e) ∙ go (closeNext s q)
+  entry-shut d a read.None k g = refl
+  entry-shut d a (read.Value v q) k g =
+      end-next d false s q (record { attr = nameAt s a; value = valueOf s v }) (λ e x. k x e) ∙ go (closeNext s q)
     where
-      go : (r : End) → onPlace r (λ e. k (record { attr = partOf s a (b - a); value = valueOf s v }) e)
-          ≡ onEntry s (afterEnd r (λ e. entry.Entry a b v e) entry.None) k g
+      go : (r : End) → onPlace r (λ e. k (record { attr = nameAt s a; value = valueOf s v }) e)
+          ≡ onEntry s (afterEnd r (λ e. entry.Entry a v e) entry.None) k g
       go (end.At e) = refl
       go end.None = refl
 
@@ -67,9 +68,9 @@ module _ {B : Type 0} (s : Bytes) where
   unfolding onName entryNamed onEntry
   entry-named d (name.Close e) k g = refl
   entry-named d name.None k g = refl
-  entry-named d (name.Name a b) k g =
-      first-value d false s b (λ e v is. andThen (atEnd is (record { attr = partOf s a (b - a); value = v })) (λ x. k x e))
-      ∙ entry-shut d a b (valueNext d false s b) k g
+  entry-named d (name.Name a) k g =
+      first-value d false s (behind a) (λ e v is. andThen (atEnd is (record { attr = nameAt s a; value = v })) (λ x. k x e))
+      ∙ entry-shut d a (valueNext d false s (behind a)) k g
 
   -- the items of an entry, and what is made of it and of the place behind
   pub entry-items : (d : ℕ) (p : ℕ) (k : Entry → ℕ → Maybe B) (g : ℕ → Maybe B)
@@ -117,17 +118,17 @@ first-nothing {A} {B} reading (i ∷ is) = go (reading i)
     go (just a) = refl
 
 module _ {B : Type 0} (d : ℕ) (s : Bytes) (k : Claim → ℕ → Maybe B) (g : ℕ → Maybe B) where
-  claim-node : (a b : ℕ) (n : NameItem)
-      → onName s n (λ w q. restAt d false q s (λ e is. andThen (atEnd is (record { actor = partOf s a (b - a); node = w })) (λ x. k x e))) (λ e. nothing)
-      ≡ onClaim s (claimNode s a b (namePlaces n)) k g
+  claim-node : (a : Part) (n : NameItem)
+      → onName s n (λ w q. restAt d false q s (λ e is. andThen (atEnd is (record { actor = nameAt s a; node = w })) (λ x. k x e))) (λ e. nothing)
+      ≡ onClaim s (claimNode s a (namePlaces n)) k g
   unfolding onName claimNode onClaim onPlace afterEnd
-  claim-node a b (name.Close e) = refl
-  claim-node a b name.None = refl
-  claim-node a b (name.Name x y) =
-      end-next d false s y (record { actor = partOf s a (b - a); node = partOf s x (y - x) }) (λ e x. k x e) ∙ go (closeNext s y)
+  claim-node a (name.Close e) = refl
+  claim-node a name.None = refl
+  claim-node a (name.Name x) =
+      end-next d false s (behind x) (record { actor = nameAt s a; node = nameAt s x }) (λ e x. k x e) ∙ go (closeNext s (behind x))
     where
-      go : (r : End) → onPlace r (λ e. k (record { actor = partOf s a (b - a); node = partOf s x (y - x) }) e)
-          ≡ onClaim s (afterEnd r (λ e. claim.Claim a b x y e) claim.None) k g
+      go : (r : End) → onPlace r (λ e. k (record { actor = nameAt s a; node = nameAt s x }) e)
+          ≡ onClaim s (afterEnd r (λ e. claim.Claim a x e) claim.None) k g
       go (end.At e) = refl
       go end.None = refl
 
@@ -137,9 +138,9 @@ module _ {B : Type 0} (d : ℕ) (s : Bytes) (k : Claim → ℕ → Maybe B) (g :
   unfolding onName claimActor onClaim
   claim-actor (name.Close e) = refl
   claim-actor name.None = refl
-  claim-actor (name.Name a b) =
-      first-name d false s b (λ e m is. andThen (atEnd is (record { actor = partOf s a (b - a); node = m })) (λ x. k x e))
-      ∙ claim-node a b (nameNext d false s b)
+  claim-actor (name.Name a) =
+      first-name d false s (behind a) (λ e m is. andThen (atEnd is (record { actor = nameAt s a; node = m })) (λ x. k x e))
+      ∙ claim-node a (nameNext d false s (behind a))
 
   pub claim-rest : (i : ℕ) → restAt d false i s
       (λ e is. first asName is (λ a is. first asName is (λ n is. andThen (atEnd is (record { actor = a; node = n })) (λ x. k x e))))
@@ -149,21 +150,21 @@ module _ {B : Type 0} (d : ℕ) (s : Bytes) (k : Claim → ℕ → Maybe B) (g :
       ∙ claim-actor (nameNext d false s i)
 
   claim-head : (w : ItemAt)
-      → onPiece w (λ p q. restAt d false q s (λ e is. first asName is
-      (λ a is. first asName is (λ n is. andThen (pick (same (partOf s p (q - p)) (bytesOf "id")) (atEnd is (record { actor = a; node = n })) nothing)
+      → onPiece w (λ h. restAt d false (behind h) s (λ e is. first asName is
+      (λ a is. first asName is (λ n is. andThen (pick (same (nameAt s h) (bytesOf "id")) (atEnd is (record { actor = a; node = n })) nothing)
       (λ x. k x e)))))
       ≡ onClaim s (claimHead d s w) k g
   unfolding onPiece claimHead onClaim andThen
   claim-head piece.None = refl
-  claim-head (piece.At p q) = go (same (partOf s p (q - p)) (bytesOf "id"))
+  claim-head (piece.At h) = go (same (nameAt s h) (bytesOf "id"))
     where
-      go : (x : Bool) → restAt d false q s (λ e is. first asName is
+      go : (x : Bool) → restAt d false (behind h) s (λ e is. first asName is
           (λ a is. first asName is (λ n is. andThen (pick x (atEnd is (record { actor = a; node = n })) nothing) (λ x. k x e))))
-          ≡ onClaim s (pick x (claimRest d s q) claim.None) k g
-      go true = claim-rest q
+          ≡ onClaim s (pick x (claimRest d s (behind h)) claim.None) k g
+      go true = claim-rest (behind h)
       go false =
-          rest-same d false q s _ _ (λ e is. (λ t. first asName is (λ a is. first-nothing asName is t)) ∙ first-nothing asName is)
-          ∙ rest-nothing d false q s
+          rest-same d false (behind h) s _ _ (λ e is. (λ t. first asName is (λ a is. first-nothing asName is t)) ∙ first-nothing asName is)
+          ∙ rest-nothing d false (behind h) s
 
   claim-items : (p : ℕ) → restAt d true p s (λ e is. andThen (claimItems is) (λ x. k x e)) ≡ onClaim s (claimHead d s (wordNext d true s p)) k g
   unfolding claimItems
@@ -203,35 +204,35 @@ module _ (d : ℕ) (s : Bytes) (i p : ℕ) (e : next.Item p ≡ openNext s i) wh
   unfolding entryNext entryAfter
   at-entry w h = ap (entryNamed d s) h ∙ ap (entryAfter d s) e
 
-  module _ (a b : ℕ) (n : piece.At a b ≡ namePlaces (nameNext d true s p)) where
-    pub entry-value : (r : ValueItem) → r ≡ valueNext d false s b → entryValued s a b r ≡ entryNext d s i
+  module _ (a : Part) (n : piece.At a ≡ namePlaces (nameNext d true s p)) where
+    pub entry-value : (r : ValueItem) → r ≡ valueNext d false s (behind a) → entryValued s a r ≡ entryNext d s i
     unfolding entryNamed
-    entry-value r h = ap (entryValued s a b) h ∙ at-entry (piece.At a b) n
+    entry-value r h = ap (entryValued s a) h ∙ at-entry (piece.At a) n
 
-    pub entry-close : (v : ValueData) (q : ℕ) → read.Value v q ≡ valueNext d false s b → (x : End) → x ≡ closeNext s q
-        → afterEnd x (λ e. entry.Entry a b v e) entry.None ≡ entryNext d s i
+    pub entry-close : (v : ValueData) (q : ℕ) → read.Value v q ≡ valueNext d false s (behind a) → (x : End) → x ≡ closeNext s q
+        → afterEnd x (λ e. entry.Entry a v e) entry.None ≡ entryNext d s i
     unfolding entryValued
-    entry-close v q h x k = ap (λ (x : End). afterEnd x (λ e. entry.Entry a b v e) entry.None) k ∙ entry-value (read.Value v q) h
+    entry-close v q h x k = ap (λ (x : End). afterEnd x (λ e. entry.Entry a v e) entry.None) k ∙ entry-value (read.Value v q) h
 
 -- what the tests of `claim` and `claim_rest` say
-module _ (d : ℕ) (s : Bytes) (i a b : ℕ) (n : piece.At a b ≡ namePlaces (nameNext d false s i)) where
-  pub at-node : (w : ItemAt) → w ≡ namePlaces (nameNext d false s b) → claimNode s a b w ≡ claimRest d s i
+module _ (d : ℕ) (s : Bytes) (i : ℕ) (a : Part) (n : piece.At a ≡ namePlaces (nameNext d false s i)) where
+  pub at-node : (w : ItemAt) → w ≡ namePlaces (nameNext d false s (behind a)) → claimNode s a w ≡ claimRest d s i
   unfolding claimRest claimActor
-  at-node w h = ap (claimNode s a b) h ∙ ap (claimActor d s) n
+  at-node w h = ap (claimNode s a) h ∙ ap (claimActor d s) n
 
-  pub at-shut : (x y : ℕ) → piece.At x y ≡ namePlaces (nameNext d false s b) → (r : End) → r ≡ closeNext s y
-      → afterEnd r (λ e. claim.Claim a b x y e) claim.None ≡ claimRest d s i
+  pub at-shut : (x : Part) → piece.At x ≡ namePlaces (nameNext d false s (behind a)) → (r : End) → r ≡ closeNext s (behind x)
+      → afterEnd r (λ e. claim.Claim a x e) claim.None ≡ claimRest d s i
   unfolding claimNode
-  at-shut x y h r k = ap (λ (r : End). afterEnd r (λ e. claim.Claim a b x y e) claim.None) k ∙ at-node (piece.At x y) h
+  at-shut x h r k = ap (λ (r : End). afterEnd r (λ e. claim.Claim a x e) claim.None) k ∙ at-node (piece.At x) h
 
 pub at-claim : (d : ℕ) (s : Bytes) (i p : ℕ) → next.Item p ≡ openNext s i → (w : ItemAt) → w ≡ wordNext d true s p → claimHead d s w ≡ claimNext d s i
 unfolding claimNext claimAfter
 at-claim d s i p e w h = ap (claimHead d s) h ∙ ap (claimAfter d s) e
 
-pub claim-yes : (d : ℕ) (s : Bytes) (p q : ℕ) → same (partOf s p (q - p)) (bytesOf "id") ≡ true → claimRest d s q ≡ claimHead d s (piece.At p q)
+pub claim-yes : (d : ℕ) (s : Bytes) (w : Part) → same (nameAt s w) (bytesOf "id") ≡ true → claimRest d s (behind w) ≡ claimHead d s (piece.At w)
 unfolding claimHead
-claim-yes d s p q h = rw h
+claim-yes d s w h = rw h
 
-pub claim-no : (d : ℕ) (s : Bytes) (p q : ℕ) → same (partOf s p (q - p)) (bytesOf "id") ≡ false → claim.None ≡ claimHead d s (piece.At p q)
+pub claim-no : (d : ℕ) (s : Bytes) (w : Part) → same (nameAt s w) (bytesOf "id") ≡ false → claim.None ≡ claimHead d s (piece.At w)
 unfolding claimHead
-claim-no d s p q h = rw h
+claim-no d s w h = rw h

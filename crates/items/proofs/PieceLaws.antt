@@ -1,5 +1,5 @@
 -- Laws of the next piece: a list that is asked for a piece goes on behind it, or is none.
-use Prim.Native.Nat.{ℕ, suc, _+_, _-_}
+use Prim.Native.Nat.{ℕ, suc, _+_}
 use mathlib.Core.Path.{_≡_, refl, _∙_}
 use mathlib.Core.List.{List as ListOf, [], _∷_}
 use mathlib.Core.Bool.{Bool, true, false, _||_}
@@ -12,7 +12,8 @@ use Rattle.model.specs.Words.{Got}
 use Rattle.model.specs.Items.{Item, isList, itemAt, itemsOf}
 use Rattle.model.specs.Values.{Value}
 use Rattle.model.specs.Forms.{asWord, asQuoted, asName, asValue, first, atEnd}
-use Rattle.model.specs.Answers.{partOf}
+use Rattle.model.specs.Answers.{nameAt}
+use Rattle.model.specs.declared.Part.{Part}
 use Rattle.text.specs.Places.{peekAt, past, isSpace}
 use Rattle.items.specs.declared.ItemRead.the-variants.{None}
 use Rattle.items.specs.declared.Next.{Next}
@@ -23,7 +24,7 @@ use Rattle.items.specs.declared.ValueItem.{ValueItem}
 use Rattle.items.specs.declared.ValueItem.the-variants as read
 use Rattle.items.specs.Reads.{nextAt}
 use Rattle.items.specs.Rest.{restAt, onNext, onItem}
-use Rattle.items.specs.Pieces.{itemPlace, afterEnd, nameAfter, closeAfter, wordPiece, quotedPiece, namePiece, valuePiece, readAt, wordNext}
+use Rattle.items.specs.Pieces.{behind, itemPlace, afterEnd, nameAfter, closeAfter, wordPiece, quotedPiece, namePiece, valuePiece, readAt, wordNext}
 use Rattle.items.specs.Pieces.{quotedNext, nameNext, valueNext, openNext, closeNext, onPiece, onName, onValue, onPlace}
 use Rattle.items.proofs.ItemLaws.{on-item-same, on-next-same, word-item, quoted-item, value-item, name-item, list-item}
 use Rattle.items.proofs.RestLaws.{rest-nothing, rest-then}
@@ -105,7 +106,7 @@ module _ {A B : Type 0} (d : ℕ) (free : Bool) (s : Bytes) (i : ℕ) where
       ∙ close-item free s i (λ e. k e a)
 
 -- a list that is asked for a word, a name, a value, a policy text, a list
-after-piece : {B : Type 0} (n : Next) (f : ℕ → ItemAt) (g : ℕ → ℕ → Maybe B)
+after-piece : {B : Type 0} (n : Next) (f : ℕ → ItemAt) (g : Part → Maybe B)
     → onNext n (λ p. onPiece (f p) g) (λ e. nothing) ≡ onPiece (afterEnd (itemPlace n) f piece.None) g
 unfolding onNext afterEnd onPiece
 after-piece (next.Item p) f g = refl
@@ -128,21 +129,21 @@ after-value s next.None f g = refl
 
 module _ {B : Type 0} (d : ℕ) (free : Bool) (s : Bytes) (i : ℕ) where
   pub first-word : (k : ℕ → Bytes → ListOf Item → Maybe B)
-      → restAt d free i s (λ e is. first asWord is (k e)) ≡ onPiece (wordNext d free s i) (λ p q. restAt d false q s (λ e is. k e (partOf s p (q - p)) is))
+      → restAt d free i s (λ e is. first asWord is (k e)) ≡ onPiece (wordNext d free s i) (λ w. restAt d false (behind w) s (λ e is. k e (nameAt s w) is))
   unfolding wordNext
   first-word k =
       first-next asWord d free s i k
       ∙ on-next-same (nextAt free s i) _ _ (λ e. nothing) (λ p. word-item d s p (λ w x q. restAt d x q s (λ e is. k e w is)))
-      ∙ after-piece (nextAt free s i) (λ p. wordPiece p (readAt d s p)) (λ p q. restAt d false q s (λ e is. k e (partOf s p (q - p)) is))
+      ∙ after-piece (nextAt free s i) (λ p. wordPiece p (readAt d s p)) (λ w. restAt d false (behind w) s (λ e is. k e (nameAt s w) is))
 
   pub first-quoted : (k : ℕ → Bytes → ListOf Item → Maybe B)
       → restAt d free i s (λ e is. first asQuoted is (k e))
-      ≡ onPiece (quotedNext d free s i) (λ p q. restAt d false (q + 1) s (λ e is. k e (partOf s p (q - p)) is))
+      ≡ onPiece (quotedNext d free s i) (λ w. restAt d false (behind w + 1) s (λ e is. k e (nameAt s w) is))
   unfolding quotedNext
   first-quoted k =
       first-next asQuoted d free s i k
       ∙ on-next-same (nextAt free s i) _ _ (λ e. nothing) (λ p. quoted-item d s p (λ w x q. restAt d x q s (λ e is. k e w is)))
-      ∙ after-piece (nextAt free s i) (λ p. quotedPiece p (readAt d s p)) (λ p q. restAt d false (q + 1) s (λ e is. k e (partOf s p (q - p)) is))
+      ∙ after-piece (nextAt free s i) (λ p. quotedPiece p (readAt d s p)) (λ w. restAt d false (behind w + 1) s (λ e is. k e (nameAt s w) is))
 
   pub first-name : (k : ℕ → Bytes → ListOf Item → Maybe B)
       → restAt d free i s (λ e is. first asName is (k e)) ≡ onName s (nameNext d free s i) (λ n q. restAt d false q s (λ e is. k e n is)) (λ e. nothing)

@@ -1,9 +1,9 @@
 -- What the tests of the readers of pieces say, and that a piece lies in the text.
-use Prim.Native.Nat.{ℕ, zero, suc, _+_, _-_}
+use Prim.Native.Nat.{ℕ, zero, suc, _+_, _-_, _≤_}
 use mathlib.Core.Path.{_≡_, refl, sym, ap, _∙_}
 use mathlib.Core.Bool.{Bool, true, false, not, _||_}
 use native.Mathlib.Omega.{arith}
-use lib.ListN.{drop}
+use lib.ListN.{length, drop}
 use lib.Dec.{eqb}
 use borrow.Author.Tests.{eq-eqb, ne-eqb, eqb-true, eqb-false}
 use Rattle.model.specs.Bytes.{Bytes, bytesOf, same}
@@ -13,7 +13,8 @@ use Rattle.model.specs.Words.{Got, isLetter, isDigit, between, wordAt, wholeAt,
 use Rattle.model.specs.Items.{Item, word, whole, text, quoted, Items, plainAt, asList, listAt, itemAt}
 use Rattle.model.specs.Values.{Value}
 use Rattle.model.specs.Forms.{neverNames}
-use Rattle.model.specs.Answers.{partOf}
+use Rattle.model.specs.Answers.{partOf, nameAt}
+use Rattle.model.specs.declared.Part.{Part}
 use Rattle.model.specs.declared.Value.the-variants as value
 use Rattle.text.specs.declared.End.{End}
 use Rattle.text.specs.declared.End.the-variants as end
@@ -26,9 +27,10 @@ use Rattle.items.specs.declared.ItemAt.the-variants as piece
 use Rattle.items.specs.declared.NameItem.the-variants as name
 use Rattle.items.specs.declared.ValueItem.the-variants as read
 use Rattle.items.specs.Reads.{kindAt, readOf, nextAt}
-use Rattle.items.specs.Pieces.{itemPlace, wordEnd, wordOf, quotedEnd, afterEnd, nameAfter, openAfter, wordPiece, quotedPiece, namePiece}
+use Rattle.items.specs.Pieces.{fromTo, itemPlace, wordEnd, wordOf, quotedEnd, afterEnd, nameAfter, openAfter, wordPiece, quotedPiece, namePiece}
 use Rattle.items.specs.Pieces.{truthPiece, valuePiece, readAt, wordNext, quotedNext, nameNext, valueNext}
 use Rattle.items.proofs.ReadLaws.{plain-word, plain-whole, plain-text, plain-quoted, plain-none, item-opened, item-deep, read-plain, Within, read-within}
+use Rattle.items.proofs.ReadLaws.{quoted-within as quoted-fits}
 
 -- an item of a known kind lies in the text
 never : {A : Type 0} {q : ℕ} → end.At q ≡ end.None → A
@@ -46,14 +48,14 @@ module _ (d : ℕ) (s : Bytes) (p q : ℕ) where
       go (List x) w e = never e
       go None w e = never e
 
-  pub quoted-within : end.At q ≡ quotedEnd (readAt d s p) → Within s p q
+  pub quoted-within : end.At q ≡ quotedEnd (readAt d s p) → (p + 2 ≤ q) × (q ≤ length s)
   quoted-within e = go (readAt d s p) refl e
     where
-      go : (r : ItemRead) → r ≡ readAt d s p → end.At q ≡ quotedEnd r → Within s p q
+      go : (r : ItemRead) → r ≡ readAt d s p → end.At q ≡ quotedEnd r → (p + 2 ≤ q) × (q ≤ length s)
       go (Word x) w e = never e
       go (Number n x) w e = never e
       go (Text x) w e = never e
-      go (Quoted x) w e = read-within d s p q (Quoted x) w (sym e)
+      go (Quoted x) w e = let z : q ≡ x = cc in quoted-fits d s p q (ap Quoted z ∙ w)
       go (List x) w e = never e
       go None w e = never e
 
@@ -107,7 +109,7 @@ module _ (s : Bytes) (p : ℕ) where
 module _ (d d′ : ℕ) where
   piece-depth : (s : Bytes) (p : ℕ) → wordPiece p (readAt d s p) ≡ wordPiece p (readAt d′ s p)
   unfolding wordPiece
-  piece-depth s p = ap (λ (x : End). afterEnd x (λ q. piece.At p q) piece.None) (sym (word-of s p d) ∙ word-of s p d′)
+  piece-depth s p = ap (λ (x : End). afterEnd x (λ q. piece.At (fromTo p q)) piece.None) (sym (word-of s p d) ∙ word-of s p d′)
 
   pub word-depth : (free : Bool) (s : Bytes) (i : ℕ) → wordNext d free s i ≡ wordNext d′ free s i
   unfolding wordNext
@@ -138,13 +140,15 @@ module _ (d : ℕ) (free : Bool) (s : Bytes) (i : ℕ) where
     no-value = ap (λ (x : End). afterEnd x (λ p. valuePiece s p (readAt d s p)) read.None) e
 
   module _ (p : ℕ) (e : end.At p ≡ itemPlace (nextAt free s i)) where
-    pub at-word : (x : End) → x ≡ wordEnd (readAt d s p) → afterEnd x (λ q. piece.At p q) piece.None ≡ wordNext d free s i
+    pub at-word : (x : End) → x ≡ wordEnd (readAt d s p) → afterEnd x (λ q. piece.At (fromTo p q)) piece.None ≡ wordNext d free s i
     unfolding wordNext wordPiece afterEnd
-    at-word x w = ap (λ (x : End). afterEnd x (λ q. piece.At p q) piece.None) w ∙ ap (λ (x : End). afterEnd x (λ p. wordPiece p (readAt d s p)) piece.None) e
+    at-word x w = ap (λ (x : End). afterEnd x (λ q. piece.At (fromTo p q)) piece.None) w
+        ∙ ap (λ (x : End). afterEnd x (λ p. wordPiece p (readAt d s p)) piece.None) e
 
-    pub at-quoted : (x : End) → x ≡ quotedEnd (readAt d s p) → afterEnd x (λ q. piece.At (p + 1) (q - 1)) piece.None ≡ quotedNext d free s i
+    pub at-quoted : (x : End) → x ≡ quotedEnd (readAt d s p) → afterEnd x (λ q. piece.At (record { start = p + 1; length = q - p - 2 })) piece.None
+        ≡ quotedNext d free s i
     unfolding quotedNext quotedPiece afterEnd
-    at-quoted x w = ap (λ (x : End). afterEnd x (λ q. piece.At (p + 1) (q - 1)) piece.None) w
+    at-quoted x w = ap (λ (x : End). afterEnd x (λ q. piece.At (record { start = p + 1; length = q - p - 2 })) piece.None) w
         ∙ ap (λ (x : End). afterEnd x (λ p. quotedPiece p (readAt d s p)) piece.None) e
 
     pub at-value : valuePiece s p (readAt d s p) ≡ valueNext d free s i
@@ -153,17 +157,17 @@ module _ (d : ℕ) (free : Bool) (s : Bytes) (i : ℕ) where
 
   -- what follows, to a name
   pub at-name : (p : ℕ) → next.Item p ≡ nextAt free s i → (x : End) → x ≡ wordEnd (readAt d s p)
-      → namePiece s (afterEnd x (λ q. piece.At p q) piece.None) ≡ nameNext d free s i
+      → namePiece s (afterEnd x (λ q. piece.At (fromTo p q)) piece.None) ≡ nameNext d free s i
   unfolding nameNext nameAfter wordPiece
-  at-name p e x w = ap (λ (x : End). namePiece s (afterEnd x (λ q. piece.At p q) piece.None)) w ∙ ap (nameAfter d s) e
+  at-name p e x w = ap (λ (x : End). namePiece s (afterEnd x (λ q. piece.At (fromTo p q)) piece.None)) w ∙ ap (nameAfter d s) e
 
-pub name-yes : (s : Bytes) (p q : ℕ) → not (mem (partOf s p (q - p)) neverNames) ≡ true → name.Name p q ≡ namePiece s (piece.At p q)
+pub name-yes : (s : Bytes) (w : Part) → not (mem (nameAt s w) neverNames) ≡ true → name.Name w ≡ namePiece s (piece.At w)
 unfolding namePiece
-name-yes s p q h = rw h
+name-yes s w h = rw h
 
-pub name-no : (s : Bytes) (p q : ℕ) → not (mem (partOf s p (q - p)) neverNames) ≡ false → name.None ≡ namePiece s (piece.At p q)
+pub name-no : (s : Bytes) (w : Part) → not (mem (nameAt s w) neverNames) ≡ false → name.None ≡ namePiece s (piece.At w)
 unfolding namePiece
-name-no s p q h = rw h
+name-no s w h = rw h
 
 module _ (s : Bytes) (p q : ℕ) where
   pub truth-true : same (partOf s p (q - p)) (bytesOf "true") ≡ true → read.Value (value.Truth true) q ≡ truthPiece s p q

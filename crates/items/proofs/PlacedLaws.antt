@@ -10,7 +10,8 @@ use Rattle.model.specs.Bytes.{Bytes, bytesOf, same}
 use Rattle.model.specs.Choice.{pick}
 use Rattle.model.specs.Names.{mem}
 use Rattle.model.specs.Forms.{neverNames}
-use Rattle.model.specs.Answers.{partOf}
+use Rattle.model.specs.Answers.{partOf, nameAt}
+use Rattle.model.specs.declared.Part.{Part}
 use Rattle.model.specs.declared.Value.{Value as ValueData}
 use Rattle.model.specs.declared.Value.the-variants as value
 use Rattle.text.specs.declared.End.{End}
@@ -29,14 +30,14 @@ use Rattle.items.specs.declared.ValueItem.the-variants as read
 use Rattle.items.specs.declared.EntryRead.{EntryRead}
 use Rattle.items.specs.declared.EntryRead.the-variants as entry
 use Rattle.items.specs.Reads.{nextAt}
-use Rattle.items.specs.Pieces.{itemPlace, afterEnd, wordPiece, quotedPiece, namePiece, namePlaces, truthPiece, valuePiece, readAt, wordNext}
+use Rattle.items.specs.Pieces.{behind, itemPlace, afterEnd, wordPiece, quotedPiece, namePiece, namePlaces, truthPiece, valuePiece, readAt, wordNext}
 use Rattle.items.specs.Pieces.{quotedNext, nameAfter, nameNext, valueNext, openAfter, openNext, closeAfter, closeNext}
 use Rattle.items.specs.Forms.{entryValued, entryNamed, entryAfter, entryNext}
 use Rattle.items.specs.Places.{WordPlaces, Placed, NextWord, NextName, QuotedPlaced, NextQuoted, ValueInside, EntryPlaced, NextEntry}
 use Rattle.items.proofs.ReadLaws.{read-within, text-within, quoted-within, word-small}
 
 -- where a piece that was read stands
-pub placed-at : (s : Bytes) (i : ℕ) {p q : ℕ} (r : ItemAt) → r ≡ piece.At p q → Placed s i r → WordPlaces s i p q
+pub placed-at : (s : Bytes) (i : ℕ) {w : Part} (r : ItemAt) → r ≡ piece.At w → Placed s i r → WordPlaces s i w
 placed-at s i r e h = subst (Placed s i) e h
 
 -- what follows in a list stands behind the place
@@ -65,7 +66,9 @@ module _ (d : ℕ) (free : Bool) (s : Bytes) (i : ℕ) where
   word-piece p l = go (readAt d s p) refl
     where
       go : (r : ItemRead) → r ≡ readAt d s p → Placed s i (wordPiece p r)
-      go (Word q) e = let w = read-within d s p q (Word q) e refl in record { after = l; some = w .after; inside = w .inside; short = word-small d s p q e }
+      go (Word q) e =
+          let w = read-within d s p q (Word q) e refl in
+          record { after = l; some = omega (arith, w .after); inside = omega (arith, w .after, w .inside); short = word-small d s p q e }
       go (Number n q) e = tt
       go (Text q) e = tt
       go (Quoted q) e = tt
@@ -86,9 +89,9 @@ module _ (d : ℕ) (free : Bool) (s : Bytes) (i : ℕ) where
   name-placed = go (nextAt free s i) (follows free s i)
     where
       named : (w : ItemAt) → Placed s i w → Placed s i (namePlaces (namePiece s w))
-      named (piece.At p q) h = by (not (mem (partOf s p (q - p)) neverNames))
+      named (piece.At w) h = by (not (mem (nameAt s w) neverNames))
         where
-          by : (b : Bool) → Placed s i (namePlaces (pick b (name.Name p q) name.None))
+          by : (b : Bool) → Placed s i (namePlaces (pick b (name.Name w) name.None))
           by true = h
           by false = tt
       named piece.None h = tt
@@ -106,7 +109,7 @@ module _ (d : ℕ) (free : Bool) (s : Bytes) (i : ℕ) where
       at p (Word q) e = tt
       at p (Number z q) e = tt
       at p (Text q) e = tt
-      at p (Quoted q) e = let w = quoted-within d s p q e in record { some = omega (arith, w .0); inside = omega (arith, w .0, w .1) }
+      at p (Quoted q) e = let w = quoted-within d s p q e in omega (arith, w .0, w .1)
       at p (List q) e = tt
       at p None e = tt
 
@@ -180,20 +183,20 @@ module _ (s : Bytes) (i : ℕ) where
 
 -- (ATTR VALUE)
 module _ (d : ℕ) (s : Bytes) (i : ℕ) where
-  entry-valued : (a b : ℕ) → WordPlaces s i a b → (r : ValueItem) → ValuePlaced s b r → EntryPlaced s i (entryValued s a b r)
+  entry-valued : (a : Part) → WordPlaces s i a → (r : ValueItem) → ValuePlaced s (behind a) r → EntryPlaced s i (entryValued s a r)
   unfolding entryValued afterEnd
-  entry-valued a b w (read.Value v q) h = go (closeNext s q) (close-placed s q)
+  entry-valued a w (read.Value v q) h = go (closeNext s q) (close-placed s q)
     where
-      go : (e : End) → ClosePlaced s q e → EntryPlaced s i (afterEnd e (λ z. entry.Entry a b v z) entry.None)
-      go (end.At z) k = record { name = w .some; inside = w .inside; ends = h .ends; behind = omega (arith, w .after, w .some, h .behind, k .0); next = k .1 }
+      go : (e : End) → ClosePlaced s q e → EntryPlaced s i (afterEnd e (λ z. entry.Entry a v z) entry.None)
+      go (end.At z) k = record { inside = w .inside; ends = h .ends; behind = omega (arith, w .after, w .some, h .behind, k .0); next = k .1 }
       go end.None k = tt
-  entry-valued a b w read.None h = tt
+  entry-valued a w read.None h = tt
 
   entry-named : (p : ℕ) → i ≤ p → (r : ItemAt) → Placed s p r → EntryPlaced s i (entryNamed d s r)
   unfolding entryNamed
-  entry-named p l (piece.At a b) w =
-      entry-valued a b (record { after = omega (arith, w .after); some = w .some; inside = w .inside; short = w .short }) (valueNext d false s b)
-      (value-placed s b d)
+  entry-named p l (piece.At a) w =
+      entry-valued a (record { after = omega (arith, w .after); some = w .some; inside = w .inside; short = w .short }) (valueNext d false s (behind a))
+      (value-placed s (behind a) d)
   entry-named p l piece.None w = tt
 
   entry-placed : EntryPlaced s i (entryNext d s i)

@@ -1,12 +1,13 @@
 -- Lists of a known form among the items of a form, and where a form opens and closes.
-use Prim.Native.Nat.{ℕ, suc, _+_, _-_}
+use Prim.Native.Nat.{ℕ, suc, _+_}
 use mathlib.Core.Bool.{Bool, true, false}
 use lib.Dec.{eqb}
 use Rattle.model.specs.Bytes.{Bytes, bytesOf, same}
 use Rattle.model.specs.Choice.{pick, Maybe, nothing}
 use Rattle.model.specs.Values.{Entry}
 use Rattle.model.specs.Request.{Claim}
-use Rattle.model.specs.Answers.{partOf, valueOf}
+use Rattle.model.specs.Answers.{nameAt, valueOf}
+use Rattle.model.specs.declared.Part.{Part}
 use Rattle.text.specs.declared.End.{End}
 use Rattle.text.specs.declared.End.the-variants as end
 use Rattle.text.specs.Places.{peekAt, past, isSpace}
@@ -21,15 +22,15 @@ use Rattle.items.specs.declared.EntryRead.the-variants as entry
 use Rattle.items.specs.declared.ClaimRead.{ClaimRead}
 use Rattle.items.specs.declared.ClaimRead.the-variants as claim
 use Rattle.items.specs.Rest.{endsAfter}
-use Rattle.items.specs.Pieces.{afterEnd, namePlaces, wordNext, nameNext, valueNext, openNext, closeNext}
+use Rattle.items.specs.Pieces.{behind, afterEnd, namePlaces, wordNext, nameNext, valueNext, openNext, closeNext}
 
 -- the next (ATTR VALUE), step by step
-unfoldable pub entryValued : Bytes → ℕ → ℕ → ValueItem → EntryRead
-entryValued s a b (read.Value v q) = afterEnd (closeNext s q) (λ e. entry.Entry a b v e) entry.None
-entryValued s a b read.None = entry.None
+unfoldable pub entryValued : Bytes → Part → ValueItem → EntryRead
+entryValued s w (read.Value v q) = afterEnd (closeNext s q) (λ e. entry.Entry w v e) entry.None
+entryValued s w read.None = entry.None
 
 unfoldable pub entryNamed : ℕ → Bytes → ItemAt → EntryRead
-entryNamed d s (piece.At a b) = entryValued s a b (valueNext d false s b)
+entryNamed d s (piece.At w) = entryValued s w (valueNext d false s (behind w))
 entryNamed d s piece.None = entry.None
 
 unfoldable pub entryAfter : ℕ → Bytes → Next → EntryRead
@@ -42,7 +43,7 @@ entryNext d s i = entryAfter d s (openNext s i)
 
 -- go on with an entry, or with the closing bracket
 unfoldable pub onEntry : {B : Type 0} → Bytes → EntryRead → (Entry → ℕ → Maybe B) → (ℕ → Maybe B) → Maybe B
-onEntry s (entry.Entry a b v q) f g = f (record { attr = partOf s a (b - a); value = valueOf s v }) q
+onEntry s (entry.Entry w v q) f g = f (record { attr = nameAt s w; value = valueOf s v }) q
 onEntry s (entry.Close e) f g = g e
 onEntry s entry.None f g = nothing
 
@@ -55,12 +56,12 @@ abbrev pub formCloses : ℕ → Bytes → ℕ → Bool
 formCloses closes s i = endsAfter (suc closes) s i
 
 -- the two names of an (id ACTOR NODE) behind its first word, step by step
-unfoldable pub claimNode : Bytes → ℕ → ℕ → ItemAt → ClaimRead
-claimNode s a b (piece.At x y) = afterEnd (closeNext s y) (λ e. claim.Claim a b x y e) claim.None
-claimNode s a b piece.None = claim.None
+unfoldable pub claimNode : Bytes → Part → ItemAt → ClaimRead
+claimNode s a (piece.At n) = afterEnd (closeNext s (behind n)) (λ e. claim.Claim a n e) claim.None
+claimNode s a piece.None = claim.None
 
 unfoldable pub claimActor : ℕ → Bytes → ItemAt → ClaimRead
-claimActor d s (piece.At a b) = claimNode s a b (namePlaces (nameNext d false s b))
+claimActor d s (piece.At a) = claimNode s a (namePlaces (nameNext d false s (behind a)))
 claimActor d s piece.None = claim.None
 
 unfoldable pub claimRest : ℕ → Bytes → ℕ → ClaimRead
@@ -68,7 +69,7 @@ claimRest d s i = claimActor d s (namePlaces (nameNext d false s i))
 
 -- the next (id ACTOR NODE), or the closing bracket
 unfoldable pub claimHead : ℕ → Bytes → ItemAt → ClaimRead
-claimHead d s (piece.At p q) = pick (same (partOf s p (q - p)) (bytesOf "id")) (claimRest d s q) claim.None
+claimHead d s (piece.At w) = pick (same (nameAt s w) (bytesOf "id")) (claimRest d s (behind w)) claim.None
 claimHead d s piece.None = claim.None
 
 unfoldable pub claimAfter : ℕ → Bytes → Next → ClaimRead
@@ -81,6 +82,6 @@ claimNext d s i = claimAfter d s (openNext s i)
 
 -- go on with an identity, or with the closing bracket
 unfoldable pub onClaim : {B : Type 0} → Bytes → ClaimRead → (Claim → ℕ → Maybe B) → (ℕ → Maybe B) → Maybe B
-onClaim s (claim.Claim a b x y q) f g = f (record { actor = partOf s a (b - a); node = partOf s x (y - x) }) q
+onClaim s (claim.Claim a n q) f g = f (record { actor = nameAt s a; node = nameAt s n }) q
 onClaim s (claim.Close e) f g = g e
 onClaim s claim.None f g = nothing

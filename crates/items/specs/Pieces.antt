@@ -10,7 +10,8 @@ use Rattle.model.specs.Words.{isLetter, wordAt}
 use Rattle.model.specs.Items.{itemAt}
 use Rattle.model.specs.Values as values
 use Rattle.model.specs.Forms.{neverNames}
-use Rattle.model.specs.Answers.{partOf, valueOf}
+use Rattle.model.specs.Answers.{partOf, nameAt, valueOf}
+use Rattle.model.specs.declared.Part.{Part}
 use Rattle.model.specs.declared.Value.the-variants as value
 use Rattle.text.specs.declared.End.{End}
 use Rattle.text.specs.declared.End.the-variants as end
@@ -26,6 +27,13 @@ use Rattle.items.specs.declared.NameItem.the-variants as name
 use Rattle.items.specs.declared.ValueItem.{ValueItem}
 use Rattle.items.specs.declared.ValueItem.the-variants as read
 use Rattle.items.specs.Reads.{readOf, nextAt}
+
+-- the part of a text from a place to another, and the place behind a part
+abbrev pub fromTo : ℕ → ℕ → Part
+fromTo p q = record { start = p; length = q - p }
+
+abbrev pub behind : Part → ℕ
+behind w = w .start + w .length
 
 -- the place of an item that follows
 abbrev pub itemPlace : Next → End
@@ -61,19 +69,19 @@ afterEnd end.None f x = x
 
 -- an item at a place as a word, or as what stands between the quotes of a policy text
 unfoldable pub wordPiece : ℕ → ItemRead → ItemAt
-wordPiece p r = afterEnd (wordEnd r) (λ q. piece.At p q) piece.None
+wordPiece p r = afterEnd (wordEnd r) (λ q. piece.At (fromTo p q)) piece.None
 
 unfoldable pub quotedPiece : ℕ → ItemRead → ItemAt
-quotedPiece p r = afterEnd (quotedEnd r) (λ q. piece.At (p + 1) (q - 1)) piece.None
+quotedPiece p r = afterEnd (quotedEnd r) (λ q. piece.At (record { start = p + 1; length = q - p - 2 })) piece.None
 
 -- a word as a name
 unfoldable pub namePiece : Bytes → ItemAt → NameItem
-namePiece s (piece.At p q) = pick (not (mem (partOf s p (q - p)) neverNames)) (name.Name p q) name.None
+namePiece s (piece.At w) = pick (not (mem (nameAt s w) neverNames)) (name.Name w) name.None
 namePiece s piece.None = name.None
 
--- the start and end of a name that was read
+-- where a name that was read stands
 abbrev pub namePlaces : NameItem → ItemAt
-namePlaces (name.Name p q) = piece.At p q
+namePlaces (name.Name w) = piece.At w
 namePlaces (name.Close e) = piece.None
 namePlaces name.None = piece.None
 
@@ -133,12 +141,12 @@ unfoldable pub closeNext : Bytes → ℕ → End
 closeNext s i = closeAfter (nextAt true s i)
 
 -- go on with a piece, with a name or the closing bracket, with a value, with an end
-unfoldable pub onPiece : {B : Type 0} → ItemAt → (ℕ → ℕ → Maybe B) → Maybe B
-onPiece (piece.At p q) f = f p q
+unfoldable pub onPiece : {B : Type 0} → ItemAt → (Part → Maybe B) → Maybe B
+onPiece (piece.At w) f = f w
 onPiece piece.None f = nothing
 
 unfoldable pub onName : {B : Type 0} → Bytes → NameItem → (Bytes → ℕ → Maybe B) → (ℕ → Maybe B) → Maybe B
-onName s (name.Name p q) f g = f (partOf s p (q - p)) q
+onName s (name.Name w) f g = f (nameAt s w) (behind w)
 onName s (name.Close e) f g = g e
 onName s name.None f g = nothing
 

@@ -14,6 +14,7 @@ use crate::read;
 use text::End;
 use text::bytes;
 use text::compare;
+use text::parts;
 use text::words;
 
 // "lists nest to depth 4": in the one list of a line three may still be opened, in a list of it two.
@@ -70,20 +71,15 @@ pub fn entry(s: &[u8], from: usize, depth: usize) -> EntryRead
             let End::At(next) = read::list(s, i, true, depth) else {
                 return EntryRead::None;
             };
-            let ItemAt::At(start, end) = pieces::name_places(pieces::next_name(s, i, true, depth))
-            else {
+            let ItemAt::At(name) = pieces::name_places(pieces::next_name(s, i, true, depth)) else {
                 return EntryRead::None;
             };
+            let end = name.start + name.length;
             let ValueItem::Value(value, q) = pieces::next_value(s, end, false, depth) else {
                 return EntryRead::None;
             };
             if pieces::only_closes(s, q, next) {
-                return EntryRead::Entry {
-                    start,
-                    end,
-                    value,
-                    next,
-                };
+                return EntryRead::Entry { name, value, next };
             }
             EntryRead::None
         }
@@ -99,20 +95,14 @@ pub fn claim_rest(s: &[u8], from: usize, depth: usize) -> ClaimRead
     let End::At(next) = read::list(s, from, false, depth) else {
         return ClaimRead::None;
     };
-    let ItemAt::At(actor_start, actor_end) = places::next_name(s, from, depth) else {
+    let ItemAt::At(actor) = places::next_name(s, from, depth) else {
         return ClaimRead::None;
     };
-    let ItemAt::At(node_start, node_end) = places::next_name(s, actor_end, depth) else {
+    let ItemAt::At(node) = places::next_name(s, actor.start + actor.length, depth) else {
         return ClaimRead::None;
     };
-    if pieces::only_closes(s, node_end, next) {
-        return ClaimRead::Claim {
-            actor_start,
-            actor_end,
-            node_start,
-            node_end,
-            next,
-        };
+    if pieces::only_closes(s, node.start + node.length, next) {
+        return ClaimRead::Claim { actor, node, next };
     }
     ClaimRead::None
 }
@@ -123,11 +113,11 @@ pub fn claim(s: &[u8], from: usize, depth: usize) -> ClaimRead
 {
     match pieces::open_list(s, from) {
         Next::Item(i) => {
-            let ItemAt::At(p, q) = places::next_word(s, i, true, depth) else {
+            let ItemAt::At(word) = places::next_word(s, i, true, depth) else {
                 return ClaimRead::None;
             };
-            if compare::same_bytes(&s[p..q], b"id") {
-                return claim_rest(s, q, depth);
+            if compare::same_bytes(parts::part_of(s, word), b"id") {
+                return claim_rest(s, word.start + word.length, depth);
             }
             ClaimRead::None
         }

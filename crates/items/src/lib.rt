@@ -4,6 +4,7 @@ pub mod pieces;
 pub mod places;
 pub mod read;
 
+use model::Part;
 use model::Value;
 
 // Where a form stands among the lists of a text: in each list of it `inner` lists may still be opened, and behind it `closes` lists close.
@@ -29,15 +30,15 @@ pub enum Next {
     None,
 }
 
-// A part of a text from its first byte to the place behind its last one; or that it cannot be read there.
+// Where a word, a name or a policy text stands; or that none can be read there.
 pub enum ItemAt {
-    At(usize, usize),
+    At(Part),
     None,
 }
 
-// A name by its start and end, the closing bracket with the place behind it, or neither.
+// Where a name stands, the closing bracket with the place behind it, or neither.
 pub enum NameItem {
-    Name(usize, usize),
+    Name(Part),
     Close(usize),
     None,
 }
@@ -48,11 +49,10 @@ pub enum ValueItem {
     None,
 }
 
-// (ATTR VALUE): the name's start and end, the value, and the place behind; the closing bracket of the form; or neither.
+// (ATTR VALUE): where the name stands, the value, and the place behind; the closing bracket of the form; or neither.
 pub enum EntryRead {
     Entry {
-        start: usize,
-        end: usize,
+        name: Part,
         value: Value,
         next: usize,
     },
@@ -60,13 +60,11 @@ pub enum EntryRead {
     None,
 }
 
-// (id ACTOR NODE): the starts and ends of the two names, and the place behind; the closing bracket of the form; or neither.
+// (id ACTOR NODE): where the two names stand, and the place behind; the closing bracket of the form; or neither.
 pub enum ClaimRead {
     Claim {
-        actor_start: usize,
-        actor_end: usize,
-        node_start: usize,
-        node_end: usize,
+        actor: Part,
+        node: Part,
         next: usize,
     },
     Close(usize),

@@ -14,10 +14,12 @@ use crate::NameItem;
 use crate::Next;
 use crate::ValueItem;
 use crate::read;
+use model::Part;
 use model::Value;
 use text::End;
 use text::bytes;
 use text::compare;
+use text::parts;
 use text::words;
 
 // The place of an item that follows.
@@ -64,8 +66,12 @@ pub fn next_name(s: &[u8], from: usize, free: bool, depth: usize) -> NameItem
             let End::At(q) = word_at(s, p) else {
                 return NameItem::None;
             };
-            if compare::is_name(&s[p..q]) {
-                return NameItem::Name(p, q);
+            let name = Part {
+                start: p,
+                length: q - p,
+            };
+            if compare::is_name(parts::part_of(s, name)) {
+                return NameItem::Name(name);
             }
             NameItem::None
         }
@@ -74,12 +80,12 @@ pub fn next_name(s: &[u8], from: usize, free: bool, depth: usize) -> NameItem
     }
 }
 
-// The start and end of a name that was read.
+// Where a name that was read stands.
 pub fn name_places(n: NameItem) -> ItemAt
     ensures { λ r. ⌜ r ≡ namePlaces n ⌝ }
 {
     match n {
-        NameItem::Name(p, q) => ItemAt::At(p, q),
+        NameItem::Name(name) => ItemAt::At(name),
         NameItem::Close(_) => ItemAt::None,
         NameItem::None => ItemAt::None,
     }

@@ -3,6 +3,7 @@ ghost use Rattle.items.specs.Places.{NextWord, NextName, NextQuoted};
 use crate::ItemAt;
 use crate::pieces;
 use crate::read;
+use model::Part;
 use text::End;
 
 // The next item, if it is a word.
@@ -15,7 +16,10 @@ pub fn next_word(s: &[u8], from: usize, free: bool, depth: usize) -> ItemAt
     let End::At(q) = pieces::word_at(s, p) else {
         return ItemAt::None;
     };
-    ItemAt::At(p, q)
+    ItemAt::At(Part {
+        start: p,
+        length: q - p,
+    })
 }
 
 // The next item behind a word, if it is a name.
@@ -35,5 +39,8 @@ pub fn next_quoted(s: &[u8], from: usize, depth: usize) -> ItemAt
     let End::At(q) = pieces::quoted_end(read::item(s, p, depth)) else {
         return ItemAt::None;
     };
-    ItemAt::At(p + 1, q - 1)
+    ItemAt::At(Part {
+        start: p + 1,
+        length: q - p - 2,
+    })
 }

@@ -1,5 +1,5 @@
 -- Names looked up among those before them: one stands twice exactly if one is met again. Assumes nothing.
-use Prim.Native.Nat.{ℕ, _-_, _<_}
+use Prim.Native.Nat.{ℕ, _<_}
 use mathlib.Core.Path.{_≡_, refl, sym, ap, _∙_}
 use mathlib.Core.List.{List, [], _∷_, _++_, append-assoc, append-nil}
 use mathlib.Core.Bool.{Bool, true, false, _||_}
@@ -7,9 +7,10 @@ use lib.ListN.{length}
 use Rattle.model.specs.Bytes.{Bytes}
 use Rattle.model.specs.Choice.{pick, just}
 use Rattle.model.specs.Names.{mem, twice}
-use Rattle.model.specs.Answers.{partOf, nameAt}
+use Rattle.model.specs.Answers.{nameAt}
+use Rattle.model.specs.declared.Part.{Part}
 use Rattle.items.specs.declared.ItemAt.the-variants as piece
-use Rattle.items.specs.Pieces.{nameNext, namePlaces}
+use Rattle.items.specs.Pieces.{behind, nameNext, namePlaces}
 use Rattle.names_met.specs.Table.{Names, namesMet, Holds}
 use Rattle.book_tables.proofs.MemberLaws.{twice-end}
 use Rattle.name_lists.specs.Names.{NamesRead, namesBehind, Left}
@@ -53,21 +54,21 @@ module _ (s : Bytes) (table : List ℕ) (from n i : ℕ) (m : MetBefore s table 
   met-done e = left-done twice (again (m .done)) s from i (m .left) e
 
   -- r is what the look-up of the name that follows says
-  module _ (p q : ℕ) (e : piece.At p q ≡ namePlaces (nameNext 2 false s i)) (room : n < length table) (r : Bool)
-      (is : r ≡ mem (partOf s p (q - p)) (namesMet s table n)) where
-    looked : mem (partOf s p (q - p)) (m .done) ≡ r
-    looked = sym (is ∙ ap (mem (partOf s p (q - p))) (m .held .lists room .are))
+  module _ (w : Part) (e : piece.At w ≡ namePlaces (nameNext 2 false s i)) (room : n < length table) (r : Bool)
+      (is : r ≡ mem (nameAt s w) (namesMet s table n)) where
+    looked : mem (nameAt s w) (m .done) ≡ r
+    looked = sym (is ∙ ap (mem (nameAt s w)) (m .held .lists room .are))
 
     pub met-again : r ≡ true → (x : NamesRead) → namesBehind s from ≡ just x → true ≡ twice (x .names)
     unfolding again
-    met-again t = left-found twice (again (m .done)) s from i true p q (m .left) e (λ y _. rw (looked ∙ t))
+    met-again t = left-found twice (again (m .done)) s from i true w (m .left) e (λ y _. rw (looked ∙ t))
 
     pub met-more : r ≡ false → (table′ : List ℕ) (n′ : ℕ)
-        → ((names : Names) → Holds s table n names → Holds s table′ n′ (names ++ (nameAt s (record { start = p; length = q - p }) ∷ [])))
-        → MetBefore s table′ from n′ q
-    unfolding again nameAt
+        → ((names : Names) → Holds s table n names → Holds s table′ n′ (names ++ (nameAt s w ∷ [])))
+        → MetBefore s table′ from n′ (behind w)
+    unfolding again
     met-more f table′ n′ h = record {
-      done = m .done ++ (partOf s p (q - p) ∷ []);
+      done = m .done ++ (nameAt s w ∷ []);
       held = h (m .done) (m .held);
-      left = left-next twice (again (m .done)) s from i (again (m .done ++ (partOf s p (q - p) ∷ []))) p q (m .left) e (λ y _. rw (looked ∙ f));
+      left = left-next twice (again (m .done)) s from i (again (m .done ++ (nameAt s w ∷ []))) w (m .left) e (λ y _. rw (looked ∙ f));
     }

@@ -14,7 +14,8 @@ use Rattle.model.specs.Words.{Got}
 use Rattle.model.specs.Items.{Item, Items, listAt, itemAt, itemList}
 use Rattle.model.specs.Forms.{neverNames, asWord, asName, first}
 use Rattle.model.specs.ReadRules.{namesAfter}
-use Rattle.model.specs.Answers.{partOf}
+use Rattle.model.specs.Answers.{nameAt}
+use Rattle.model.specs.declared.Part.{Part}
 use Rattle.model.proofs.Outcomes.{then-e, no-just}
 use Rattle.text.specs.declared.End.{End}
 use Rattle.text.specs.declared.End.the-variants as end
@@ -27,7 +28,7 @@ use Rattle.items.specs.declared.NameItem.{NameItem}
 use Rattle.items.specs.declared.NameItem.the-variants as name
 use Rattle.items.specs.Reads.{nextAt, listEnd}
 use Rattle.items.specs.Rest.{restAt, lineForm, lineAt, onNext}
-use Rattle.items.specs.Pieces.{itemPlace, afterEnd, wordPiece, namePiece, readAt, namePlaces, wordNext, nameAfter, nameNext, openNext, closeAfter}
+use Rattle.items.specs.Pieces.{behind, itemPlace, afterEnd, wordPiece, namePiece, readAt, namePlaces, wordNext, nameAfter, nameNext, openNext, closeAfter}
 use Rattle.items.specs.Pieces.{closeNext, onPiece, onName, onPlace}
 use Rattle.items.proofs.RestLaws.{rest-same, rest-nothing, rest-end}
 use Rattle.items.proofs.PieceLaws.{first-word, each-name}
@@ -69,26 +70,24 @@ module _ (s : Bytes) (i : ℕ) where
       go : (r : NameItem) → onName s r (λ n q. restAt 2 false q s (λ e is. andThen (each asName is) (λ ns. just (record { names = n ∷ ns; end = e }))))
           (λ e. just (record { names = []; end = e }))
           ≡ onName s r (λ n q. oneMore n (namesBehind s q)) (λ e. just (record { names = []; end = e }))
-      go (name.Name p q) = rest-names s q (λ e ns. just (record { names = partOf s p (q - p) ∷ ns; end = e }))
+      go (name.Name w) = rest-names s (behind w) (λ e ns. just (record { names = nameAt s w ∷ ns; end = e }))
       go (name.Close e) = refl
       go name.None = refl
 
-  pub name-step : (x : NamesRead) (p q : ℕ) → piece.At p q ≡ namePlaces (nameNext 2 false s i) → namesBehind s i ≡ just x
-      → (y : NamesRead) × (namesBehind s q ≡ just y) × (x .names ≡ partOf s p (q - p) ∷ y .names)
+  pub name-step : (x : NamesRead) (w : Part) → piece.At w ≡ namePlaces (nameNext 2 false s i) → namesBehind s i ≡ just x
+      → (y : NamesRead) × (namesBehind s (behind w) ≡ just y) × (x .names ≡ nameAt s w ∷ y .names)
   unfolding onName oneMore
-  name-step x p q n e = go (nameNext 2 false s i) n (sym names-next ∙ e)
+  name-step x w n e = go (nameNext 2 false s i) n (sym names-next ∙ e)
     where
-      go : (r : NameItem) → piece.At p q ≡ namePlaces r → onName s r (λ n q. oneMore n (namesBehind s q)) (λ e. just (record { names = []; end = e })) ≡ just x
-          → (y : NamesRead) × (namesBehind s q ≡ just y) × (x .names ≡ partOf s p (q - p) ∷ y .names)
-      go (name.Name a b) n e =
-          let y = then-e (namesBehind s b) (λ (y : NamesRead). just (record { names = partOf s a (b - a) ∷ y .names; end = y .end })) x e in
-          let ea : a ≡ p = cc in
-          let eb : b ≡ q = cc in
-          let z : record { names = partOf s a (b - a) ∷ y .0 .names; end = y .0 .end } ≡ x = cc (y .2) in (
+      go : (r : NameItem) → piece.At w ≡ namePlaces r → onName s r (λ n q. oneMore n (namesBehind s q)) (λ e. just (record { names = []; end = e })) ≡ just x
+          → (y : NamesRead) × (namesBehind s (behind w) ≡ just y) × (x .names ≡ nameAt s w ∷ y .names)
+      go (name.Name a) n e =
+          let y = then-e (namesBehind s (behind a)) (λ (y : NamesRead). just (record { names = nameAt s a ∷ y .names; end = y .end })) x e in
+          let ea : a ≡ w = cc in
+          let z : record { names = nameAt s a ∷ y .0 .names; end = y .0 .end } ≡ x = cc (y .2) in (
             y .0,
-            ap (namesBehind s) (sym eb) ∙ y .1,
-            ap (λ (w : NamesRead). w .names) (sym z) ∙ ap (λ (v : ℕ). partOf s v (b - v) ∷ y .0 .names) ea
-                ∙ ap (λ (v : ℕ). partOf s p (v - p) ∷ y .0 .names) eb,
+            ap (λ (v : Part). namesBehind s (behind v)) (sym ea) ∙ y .1,
+            ap (λ (v : NamesRead). v .names) (sym z) ∙ ap (λ (v : Part). nameAt s v ∷ y .0 .names) ea,
           )
       go (name.Close a) n e = let z : _≡_ {A = ℕ} 0 1 = cc in absurd (omega arith)
       go name.None n e = let z : _≡_ {A = ℕ} 0 1 = cc in absurd (omega arith)
@@ -99,7 +98,7 @@ module _ (s : Bytes) (i : ℕ) where
     where
       go : (r : NameItem) → piece.None ≡ namePlaces r
           → onName s r (λ n q. oneMore n (namesBehind s q)) (λ e. just (record { names = []; end = e })) ≡ just x → x .names ≡ []
-      go (name.Name a b) n e = let z : _≡_ {A = ℕ} 0 1 = cc in absurd (omega arith)
+      go (name.Name a) n e = let z : _≡_ {A = ℕ} 0 1 = cc in absurd (omega arith)
       go (name.Close a) n e = let z : record { names = []; end = a } ≡ x = cc in ap (λ (w : NamesRead). w .names) (sym z)
       go name.None n e = let z : _≡_ {A = ℕ} 0 1 = cc in absurd (omega arith)
 
@@ -108,17 +107,17 @@ module _ (s : Bytes) (i : ℕ) where
   names-over x l e = no-just x (sym (rest-end 2 false s i (λ e is. andThen (each asName is) (λ ns. just (record { names = ns; end = e }))) l) ∙ e)
 
   -- a name moves the place, and not the end
-  pub end-step : {p q : ℕ} → piece.At p q ≡ namePlaces (nameNext 2 false s i) → namesEnd (namesBehind s q) ≡ namesEnd (namesBehind s i)
+  pub end-step : {w : Part} → piece.At w ≡ namePlaces (nameNext 2 false s i) → namesEnd (namesBehind s (behind w)) ≡ namesEnd (namesBehind s i)
   unfolding onName oneMore namesEnd andThen
-  end-step {p} {q} n = go (nameNext 2 false s i) n ∙ ap namesEnd (sym names-next)
+  end-step {w} n = go (nameNext 2 false s i) n ∙ ap namesEnd (sym names-next)
     where
       more : (o : Maybe NamesRead) (n : Bytes) → namesEnd o ≡ namesEnd (oneMore n o)
       more nothing n = refl
       more (just x) n = refl
 
-      go : (r : NameItem) → piece.At p q ≡ namePlaces r
-          → namesEnd (namesBehind s q) ≡ namesEnd (onName s r (λ n q. oneMore n (namesBehind s q)) (λ e. just (record { names = []; end = e })))
-      go (name.Name a b) n = let e : q ≡ b = cc in ap (λ (z : ℕ). namesEnd (namesBehind s z)) e ∙ more (namesBehind s b) (partOf s a (b - a))
+      go : (r : NameItem) → piece.At w ≡ namePlaces r
+          → namesEnd (namesBehind s (behind w)) ≡ namesEnd (onName s r (λ n q. oneMore n (namesBehind s q)) (λ e. just (record { names = []; end = e })))
+      go (name.Name a) n = let e : w ≡ a = cc in ap (λ (z : Part). namesEnd (namesBehind s (behind z))) e ∙ more (namesBehind s (behind a)) (nameAt s a)
       go (name.Close a) n = let z : _≡_ {A = ℕ} 0 1 = cc in absurd (omega arith)
       go name.None n = let z : _≡_ {A = ℕ} 0 1 = cc in absurd (omega arith)
 
@@ -138,15 +137,15 @@ module _ (s : Bytes) (i : ℕ) where
           → end.None ≡ namesEnd (onName s (nameAfter 2 s o) (λ n q. oneMore n (namesBehind s q)) (λ e. just (record { names = []; end = e })))
       after (next.Item q) n q′ e = by (wordPiece q (readAt 2 s q)) n
         where
-          choose : (b : Bool) (u v : ℕ) → piece.None ≡ namePlaces (pick b (name.Name u v) name.None)
-              → end.None ≡ namesEnd (onName s (pick b (name.Name u v) name.None) (λ n q. oneMore n (namesBehind s q))
+          choose : (b : Bool) (u : Part) → piece.None ≡ namePlaces (pick b (name.Name u) name.None)
+              → end.None ≡ namesEnd (onName s (pick b (name.Name u) name.None) (λ n q. oneMore n (namesBehind s q))
               (λ e. just (record { names = []; end = e })))
-          choose true u v n = let z : _≡_ {A = ℕ} 0 1 = cc in absurd (omega arith)
-          choose false u v n = refl
+          choose true u n = let z : _≡_ {A = ℕ} 0 1 = cc in absurd (omega arith)
+          choose false u n = refl
 
           by : (w : ItemAt) → piece.None ≡ namePlaces (namePiece s w)
               → end.None ≡ namesEnd (onName s (namePiece s w) (λ n q. oneMore n (namesBehind s q)) (λ e. just (record { names = []; end = e })))
-          by (piece.At u v) n = choose (not (mem (partOf s u (v - u)) neverNames)) u v n
+          by (piece.At u) n = choose (not (mem (nameAt s u) neverNames)) u n
           by piece.None n = refl
       after (next.Close q) n q′ e = let z : _≡_ {A = ℕ} 0 1 = cc in absurd (omega arith)
       after next.None n q′ e = refl
@@ -187,18 +186,18 @@ module _ (s : Bytes) (i z : ℕ) (l : end.At z ≡ listEnd 2 false s i) (j : ℕ
 
 -- what is said of the names from a place on
 module _ {A : Type 0} (f g : List Bytes → A) (s : Bytes) (from i : ℕ) where
-  pub left-next : (h : List Bytes → A) (p q : ℕ) → Left f g s from i → piece.At p q ≡ namePlaces (nameNext 2 false s i)
-      → ((y : NamesRead) → namesBehind s q ≡ just y → g (partOf s p (q - p) ∷ y .names) ≡ h (y .names)) → Left f h s from q
-  left-next h p q left n step x e =
+  pub left-next : (h : List Bytes → A) (w : Part) → Left f g s from i → piece.At w ≡ namePlaces (nameNext 2 false s i)
+      → ((y : NamesRead) → namesBehind s (behind w) ≡ just y → g (nameAt s w ∷ y .names) ≡ h (y .names)) → Left f h s from (behind w)
+  left-next h w left n step x e =
       let y = left x e in
-      let z = name-step s i (y .0) p q n (y .1) in
+      let z = name-step s i (y .0) w n (y .1) in
       (z .0, z .1, y .2 ∙ ap g (z .2) ∙ step (z .0) (z .1))
 
-  pub left-found : (v : A) (p q : ℕ) → Left f g s from i → piece.At p q ≡ namePlaces (nameNext 2 false s i)
-      → ((y : NamesRead) → namesBehind s q ≡ just y → g (partOf s p (q - p) ∷ y .names) ≡ v) → (x : NamesRead) → namesBehind s from ≡ just x → v ≡ f (x .names)
-  left-found v p q left n step x e =
+  pub left-found : (v : A) (w : Part) → Left f g s from i → piece.At w ≡ namePlaces (nameNext 2 false s i)
+      → ((y : NamesRead) → namesBehind s (behind w) ≡ just y → g (nameAt s w ∷ y .names) ≡ v) → (x : NamesRead) → namesBehind s from ≡ just x → v ≡ f (x .names)
+  left-found v w left n step x e =
       let y = left x e in
-      let z = name-step s i (y .0) p q n (y .1) in
+      let z = name-step s i (y .0) w n (y .1) in
       sym (y .2 ∙ ap g (z .2) ∙ step (z .0) (z .1))
 
   pub left-done : Left f g s from i → piece.None ≡ namePlaces (nameNext 2 false s i) → (x : NamesRead) → namesBehind s from ≡ just x → g [] ≡ f (x .names)
@@ -228,10 +227,10 @@ module _ {B : Type 0} (head s : Bytes) (k : List Bytes → List Item → Maybe B
       by true q = rest-names s q (λ e ns. lineAt true e s (k ns))
       by false q = rest-nothing 2 false q s
 
-      go : (r : ItemAt) → onPiece r (λ a b. restAt 2 false b s
-          (λ e is. andThen (pick (same (partOf s a (b - a)) head) (each asName is) nothing) (λ ns. lineAt true e s (k ns))))
+      go : (r : ItemAt) → onPiece r (λ w. restAt 2 false (behind w) s
+          (λ e is. andThen (pick (same (nameAt s w) head) (each asName is) nothing) (λ ns. lineAt true e s (k ns))))
           ≡ onPlace (headPiece head s r) (λ a. andThen (namesBehind s a) goOn)
-      go (piece.At a b) = by (same (partOf s a (b - a)) head) b
+      go (piece.At w) = by (same (nameAt s w) head) (behind w)
       go piece.None = refl
 
   pub headed-names : (free : Bool) (i : ℕ)

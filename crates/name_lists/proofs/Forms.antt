@@ -1,5 +1,5 @@
 -- What is made of a line's form: of where it opens, of what it gives, and of a word or a name that begins it.
-use Prim.Native.Nat.{ℕ, _-_}
+use Prim.Native.Nat.{ℕ}
 use mathlib.Core.Path.{_≡_, refl, sym, ap, _∙_}
 use mathlib.Core.List.{List}
 use mathlib.Core.Bool.{Bool, true, false}
@@ -8,7 +8,8 @@ use Rattle.model.specs.Bytes.{Bytes}
 use Rattle.model.specs.Choice.{pick, Maybe, nothing, andThen}
 use Rattle.model.specs.Items.{Item, lineItems}
 use Rattle.model.specs.Forms.{asWord, asName, first}
-use Rattle.model.specs.Answers.{partOf}
+use Rattle.model.specs.Answers.{nameAt}
+use Rattle.model.specs.declared.Part.{Part}
 use Rattle.text.specs.declared.End.{End}
 use Rattle.text.specs.declared.End.the-variants as end
 use Rattle.items.specs.declared.ItemAt.{ItemAt}
@@ -16,7 +17,7 @@ use Rattle.items.specs.declared.ItemAt.the-variants as piece
 use Rattle.items.specs.declared.NameItem.{NameItem}
 use Rattle.items.specs.declared.NameItem.the-variants as name
 use Rattle.items.specs.Rest.{formAt, lineForm, lineAt, endsAfter}
-use Rattle.items.specs.Pieces.{namePlaces, wordNext, nameNext, onPiece, onName, onPlace}
+use Rattle.items.specs.Pieces.{behind, namePlaces, wordNext, nameNext, onPiece, onName, onPlace}
 use Rattle.items.specs.Forms.{formOpens}
 use Rattle.items.proofs.FormLaws.{line-form, form-word, form-name}
 use Rattle.items.proofs.RestLaws.{rest-same}
@@ -47,11 +48,11 @@ module _ {B : Type 0} (s : Bytes) (f : List Item → Maybe B) where
 module _ {B : Type 0} (free : Bool) (s : Bytes) (i : ℕ) (k : Bytes → List Item → Maybe B) where
   pub no-word : piece.None ≡ wordNext 3 free s i → lineAt free i s (λ is. first asWord is k) ≡ nothing
   unfolding onPiece
-  no-word w = form-word lineForm free i s 3 k ∙ ap (λ (r : ItemAt). onPiece r (λ p q. lineAt false q s (k (partOf s p (q - p))))) (sym w)
+  no-word w = form-word lineForm free i s 3 k ∙ ap (λ (r : ItemAt). onPiece r (λ w. lineAt false (behind w) s (k (nameAt s w)))) (sym w)
 
-  pub a-word : {p q : ℕ} → piece.At p q ≡ wordNext 3 free s i → lineAt free i s (λ is. first asWord is k) ≡ lineAt false q s (k (partOf s p (q - p)))
+  pub a-word : {w : Part} → piece.At w ≡ wordNext 3 free s i → lineAt free i s (λ is. first asWord is k) ≡ lineAt false (behind w) s (k (nameAt s w))
   unfolding onPiece
-  a-word w = form-word lineForm free i s 3 k ∙ ap (λ (r : ItemAt). onPiece r (λ p q. lineAt false q s (k (partOf s p (q - p))))) (sym w)
+  a-word w = form-word lineForm free i s 3 k ∙ ap (λ (r : ItemAt). onPiece r (λ w. lineAt false (behind w) s (k (nameAt s w)))) (sym w)
 
 -- a name that begins what follows
 module _ {B : Type 0} (s : Bytes) (i : ℕ) (k : Bytes → List Item → Maybe B) where
@@ -60,19 +61,16 @@ module _ {B : Type 0} (s : Bytes) (i : ℕ) (k : Bytes → List Item → Maybe B
   no-name n = form-name lineForm false i s 3 k ∙ go (nameNext 3 false s i) n
     where
       go : (r : NameItem) → piece.None ≡ namePlaces r → onName s r (λ n q. lineAt false q s (k n)) (λ e. nothing) ≡ nothing
-      go (name.Name p q) n = let z : _≡_ {A = ℕ} 0 1 = cc in absurd (omega arith)
+      go (name.Name w) n = let z : _≡_ {A = ℕ} 0 1 = cc in absurd (omega arith)
       go (name.Close e) n = refl
       go name.None n = refl
 
-  pub a-name : (p q : ℕ) → piece.At p q ≡ namePlaces (nameNext 3 false s i)
-      → lineAt false i s (λ is. first asName is k) ≡ lineAt false q s (k (partOf s p (q - p)))
+  pub a-name : (w : Part) → piece.At w ≡ namePlaces (nameNext 3 false s i)
+      → lineAt false i s (λ is. first asName is k) ≡ lineAt false (behind w) s (k (nameAt s w))
   unfolding onName
-  a-name p q n = form-name lineForm false i s 3 k ∙ go (nameNext 3 false s i) n
+  a-name w n = form-name lineForm false i s 3 k ∙ go (nameNext 3 false s i) n
     where
-      go : (r : NameItem) → piece.At p q ≡ namePlaces r → onName s r (λ n q. lineAt false q s (k n)) (λ e. nothing) ≡ lineAt false q s (k (partOf s p (q - p)))
-      go (name.Name a b) n =
-          let ea : a ≡ p = cc in
-          let eb : b ≡ q = cc in
-          ap (λ (v : ℕ). lineAt false b s (k (partOf s v (b - v)))) ea ∙ ap (λ (v : ℕ). lineAt false v s (k (partOf s p (v - p)))) eb
+      go : (r : NameItem) → piece.At w ≡ namePlaces r → onName s r (λ n q. lineAt false q s (k n)) (λ e. nothing) ≡ lineAt false (behind w) s (k (nameAt s w))
+      go (name.Name a) n = let e : a ≡ w = cc in ap (λ (v : Part). lineAt false (behind v) s (k (nameAt s v))) e
       go (name.Close e) n = let z : _≡_ {A = ℕ} 0 1 = cc in absurd (omega arith)
       go name.None n = let z : _≡_ {A = ℕ} 0 1 = cc in absurd (omega arith)

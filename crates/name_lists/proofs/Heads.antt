@@ -1,5 +1,5 @@
 -- The steps of the readers of names: the head of a list, the end of its names, one name among the others.
-use Prim.Native.Nat.{ℕ, _-_}
+use Prim.Native.Nat.{ℕ}
 use mathlib.Core.Path.{_≡_, refl, sym, ap, _∙_}
 use mathlib.Core.List.{List, [], _∷_}
 use mathlib.Core.Bool.{Bool, true, false}
@@ -7,12 +7,13 @@ use Rattle.model.specs.Bytes.{Bytes, same}
 use Rattle.model.specs.Choice.{pick}
 use Rattle.model.specs.Lists.{any}
 use Rattle.model.specs.Names.{mem, twice}
-use Rattle.model.specs.Answers.{partOf}
+use Rattle.model.specs.Answers.{nameAt}
+use Rattle.model.specs.declared.Part.{Part}
 use Rattle.text.specs.declared.End.{End}
 use Rattle.text.specs.declared.End.the-variants as end
 use Rattle.items.specs.declared.ItemAt.{ItemAt}
 use Rattle.items.specs.declared.ItemAt.the-variants as piece
-use Rattle.items.specs.Pieces.{itemPlace, afterEnd, wordNext, openNext}
+use Rattle.items.specs.Pieces.{behind, itemPlace, afterEnd, wordNext, openNext}
 pub use Rattle.items.proofs.PlacedLaws.{placed-at}
 use Rattle.name_lists.specs.Names.{headPiece, headedAt}
 
@@ -31,13 +32,13 @@ module _ (head s : Bytes) (i : ℕ) where
     unfolding headPiece
     headed-no-word h = headed-piece piece.None h
 
-    pub headed-is : {a b : ℕ} → piece.At a b ≡ wordNext 2 true s p → same (partOf s a (b - a)) head ≡ true → end.At b ≡ headedAt head s i
+    pub headed-is : {w : Part} → piece.At w ≡ wordNext 2 true s p → same (nameAt s w) head ≡ true → end.At (behind w) ≡ headedAt head s i
     unfolding headPiece
-    headed-is {a} {b} h t = sym (ap (λ (x : Bool). pick x (end.At b) end.None) t) ∙ headed-piece (piece.At a b) h
+    headed-is {w} h t = sym (ap (λ (x : Bool). pick x (end.At (behind w)) end.None) t) ∙ headed-piece (piece.At w) h
 
-    pub headed-other : {a b : ℕ} → piece.At a b ≡ wordNext 2 true s p → same (partOf s a (b - a)) head ≡ false → end.None ≡ headedAt head s i
+    pub headed-other : {w : Part} → piece.At w ≡ wordNext 2 true s p → same (nameAt s w) head ≡ false → end.None ≡ headedAt head s i
     unfolding headPiece
-    headed-other {a} {b} h t = sym (ap (λ (x : Bool). pick x (end.At b) end.None) t) ∙ headed-piece (piece.At a b) h
+    headed-other {w} h t = sym (ap (λ (x : Bool). pick x (end.At (behind w)) end.None) t) ∙ headed-piece (piece.At w) h
 
 -- a name in front of others
 module _ (w n : Bytes) (ns : List Bytes) where

@@ -1,5 +1,5 @@
 -- The names of a list from a place on, and the list that a head word begins.
-use Prim.Native.Nat.{ℕ, _-_}
+use Prim.Native.Nat.{ℕ}
 use mathlib.Core.Path.{_≡_}
 use mathlib.Core.List.{List, _∷_}
 use mathlib.Core.Bool.{true, false}
@@ -7,13 +7,13 @@ use Rattle.model.specs.Bytes.{Bytes, same}
 use Rattle.model.specs.Choice.{pick, Maybe, nothing, just, andThen}
 use Rattle.model.specs.Lists.{each}
 use Rattle.model.specs.Forms.{asName}
-use Rattle.model.specs.Answers.{partOf}
+use Rattle.model.specs.Answers.{nameAt}
 use Rattle.text.specs.declared.End.{End}
 use Rattle.text.specs.declared.End.the-variants as end
 use Rattle.items.specs.declared.ItemAt.{ItemAt}
 use Rattle.items.specs.declared.ItemAt.the-variants as piece
 use Rattle.items.specs.Rest.{restAt}
-use Rattle.items.specs.Pieces.{itemPlace, afterEnd, wordNext, openNext}
+use Rattle.items.specs.Pieces.{behind, itemPlace, afterEnd, wordNext, openNext}
 
 -- the names of a list, and the place behind it
 pub record NamesRead : Type 0 where
@@ -35,7 +35,7 @@ namesEnd (just x) = end.At (x .end)
 
 -- the place behind a word, if it is the head
 unfoldable pub headPiece : Bytes → Bytes → ItemAt → End
-headPiece head s (piece.At p q) = pick (same (partOf s p (q - p)) head) (end.At q) end.None
+headPiece head s (piece.At w) = pick (same (nameAt s w) head) (end.At (behind w)) end.None
 headPiece head s piece.None = end.None
 
 -- the place behind the head of the list that follows

@@ -7,6 +7,7 @@ use items::pieces;
 use items::places;
 use text::End;
 use text::compare;
+use text::parts;
 
 // The place behind the head of the next item, if it is a list that begins with that word.
 pub fn headed(s: &[u8], from: usize, head: &[u8]) -> End
@@ -15,11 +16,11 @@ pub fn headed(s: &[u8], from: usize, head: &[u8]) -> End
     let End::At(i) = pieces::item_place(pieces::open_list(s, from)) else {
         return End::None;
     };
-    let ItemAt::At(p, q) = places::next_word(s, i, true, LIST_DEPTH) else {
+    let ItemAt::At(word) = places::next_word(s, i, true, LIST_DEPTH) else {
         return End::None;
     };
-    if compare::same_bytes(&s[p..q], head) {
-        return End::At(q);
+    if compare::same_bytes(parts::part_of(s, word), head) {
+        return End::At(word.start + word.length);
     }
     End::None
 }

@@ -11,9 +11,9 @@ use items::forms::LIST_DEPTH;
 use items::pieces;
 use items::places;
 use items::read;
-use model::Part;
 use text::End;
 use text::compare;
+use text::parts;
 
 // A line of so many bytes has few names: comparing each with those behind it takes less than clearing a table.
 pub const FEW: usize = 128;
@@ -35,13 +35,13 @@ pub fn names_end(s: &[u8], from: usize) -> End
     };
     let mut i = from;
     while i < s.len() {
-        let ItemAt::At(_, q) = places::next_name(s, i, LIST_DEPTH) else {
+        let ItemAt::At(name) = places::next_name(s, i, LIST_DEPTH) else {
             if pieces::only_closes(s, i, end) {
                 return End::At(end);
             }
             return End::None;
         };
-        i = q;
+        i = name.start + name.length;
     }
     End::None
 }
@@ -52,13 +52,13 @@ pub fn has_name(s: &[u8], from: usize, name: &[u8]) -> bool
 {
     let mut i = from;
     while i < s.len() {
-        let ItemAt::At(p, q) = places::next_name(s, i, LIST_DEPTH) else {
+        let ItemAt::At(other) = places::next_name(s, i, LIST_DEPTH) else {
             return false;
         };
-        if compare::same_bytes(name, &s[p..q]) {
+        if compare::same_bytes(name, parts::part_of(s, other)) {
             return true;
         }
-        i = q;
+        i = other.start + other.length;
     }
     false
 }
@@ -93,21 +93,17 @@ fn has_twice_with(s: &[u8], from: usize, table: &mut [u32]) -> bool
     let mut n = 0;
     let mut i = from;
     while i < s.len() {
-        let ItemAt::At(p, q) = places::next_name(s, i, LIST_DEPTH) else {
+        let ItemAt::At(name) = places::next_name(s, i, LIST_DEPTH) else {
             return false;
         };
         if table.len() <= n {
             return has_again(s, from);
         }
-        if names_met::is_listed(s, table, n, &s[p..q]) {
+        if names_met::is_listed(s, table, n, parts::part_of(s, name)) {
             return true;
         }
-        let name = Part {
-            start: p,
-            length: q - p,
-        };
         n = names_met::with_name(s, table, n, name);
-        i = q;
+        i = name.start + name.length;
     }
     false
 }
@@ -118,13 +114,14 @@ fn has_again(s: &[u8], from: usize) -> bool
 {
     let mut i = from;
     while i < s.len() {
-        let ItemAt::At(p, q) = places::next_name(s, i, LIST_DEPTH) else {
+        let ItemAt::At(name) = places::next_name(s, i, LIST_DEPTH) else {
             return false;
         };
-        if has_name(s, q, &s[p..q]) {
+        let end = name.start + name.length;
+        if has_name(s, end, parts::part_of(s, name)) {
             return true;
         }
-        i = q;
+        i = end;
     }
     false
 }
@@ -136,11 +133,11 @@ pub fn count_names(s: &[u8], from: usize) -> usize
     let mut n = 0;
     let mut i = from;
     while i < s.len() {
-        let ItemAt::At(_, q) = places::next_name(s, i, LIST_DEPTH) else {
+        let ItemAt::At(name) = places::next_name(s, i, LIST_DEPTH) else {
             return n;
         };
         n += 1;
-        i = q;
+        i = name.start + name.length;
     }
     n
 }

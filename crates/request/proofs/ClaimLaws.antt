@@ -1,5 +1,5 @@
 -- The identities of a request's line, one after another.
-use Prim.Native.Nat.{ℕ, _+_, _-_, _≤_, _<_}
+use Prim.Native.Nat.{ℕ, _+_, _≤_, _<_}
 use mathlib.Core.Path.{_≡_, refl, sym, ap, subst, _∙_}
 use mathlib.Core.List.{List, [], _∷_}
 use mathlib.Core.Bool.{Bool, true, false}
@@ -11,7 +11,8 @@ use Rattle.model.specs.Choice.{pick, Maybe, nothing, just, andThen}
 use Rattle.model.specs.Lists.{each}
 use Rattle.model.specs.Items.{Item}
 use Rattle.model.specs.Request.{Claim, claimOf}
-use Rattle.model.specs.Answers.{partOf}
+use Rattle.model.specs.Answers.{nameAt}
+use Rattle.model.specs.declared.Part.{Part}
 use Rattle.model.proofs.Outcomes.{then-e, no-just}
 use Rattle.text.specs.declared.End.{End}
 use Rattle.text.specs.declared.End.the-variants as end
@@ -25,7 +26,7 @@ use Rattle.items.specs.declared.ClaimRead.{ClaimRead}
 use Rattle.items.specs.declared.ClaimRead.the-variants as claim
 use Rattle.items.specs.Reads.{nextAt}
 use Rattle.items.specs.Rest.{formAt, lineForm, lineAt, endsAfter}
-use Rattle.items.specs.Pieces.{afterEnd, namePlaces, wordNext, nameNext, openAfter, openNext, closeAfter, closeNext}
+use Rattle.items.specs.Pieces.{behind, afterEnd, namePlaces, wordNext, nameNext, openAfter, openNext, closeAfter, closeNext}
 use Rattle.items.specs.Places.{WordPlaces, Placed}
 use Rattle.items.specs.Forms.{claimNode, claimActor, claimRest, claimHead, claimAfter, claimNext, onClaim}
 use Rattle.items.proofs.RestLaws.{rest-end}
@@ -65,31 +66,31 @@ module _ (s : Bytes) where
       go next.None e h = let z : _≡_ {A = ℕ} 0 1 = cc in absurd (omega arith)
 
   module _ (i : ℕ) where
-    earlier : (j p q : ℕ) → i ≤ j → WordPlaces s j p q → WordPlaces s i p q
-    earlier j p q l h = record { after = omega (arith, h .after); some = h .some; inside = h .inside; short = h .short }
+    earlier : (j : ℕ) (w : Part) → i ≤ j → WordPlaces s j w → WordPlaces s i w
+    earlier j w l h = record { after = omega (arith, h .after); some = h .some; inside = h .inside; short = h .short }
 
-    shut-placed : (a b x y : ℕ) → WordPlaces s i a b → WordPlaces s i x y → (o : End) → closeNext s y ≡ o
-        → ClaimPlaced s i (claimAt (afterEnd o (λ e. claim.Claim a b x y e) claim.None))
+    shut-placed : (a x : Part) → WordPlaces s i a → WordPlaces s i x → (o : End) → closeNext s (behind x) ≡ o
+        → ClaimPlaced s i (claimAt (afterEnd o (λ e. claim.Claim a x e) claim.None))
     unfolding afterEnd
-    shut-placed a b x y h k (end.At e) c = record { actor = h; node = k; onward = omega (arith, close-after y e c, k .after, k .some) }
-    shut-placed a b x y h k end.None c = tt
+    shut-placed a x h k (end.At e) c = record { actor = h; node = k; onward = omega (arith, close-after (behind x) e c, k .after, k .some) }
+    shut-placed a x h k end.None c = tt
 
-    node-placed : (a b : ℕ) → WordPlaces s i a b → (w : ItemAt) → Placed s b w → ClaimPlaced s i (claimAt (claimNode s a b w))
+    node-placed : (a : Part) → WordPlaces s i a → (w : ItemAt) → Placed s (behind a) w → ClaimPlaced s i (claimAt (claimNode s a w))
     unfolding claimNode
-    node-placed a b h (piece.At x y) k = shut-placed a b x y h (earlier b x y (omega (arith, h .after, h .some)) k) (closeNext s y) refl
-    node-placed a b h piece.None k = tt
+    node-placed a h (piece.At x) k = shut-placed a x h (earlier (behind a) x (omega (arith, h .after)) k) (closeNext s (behind x)) refl
+    node-placed a h piece.None k = tt
 
     actor-placed : (j : ℕ) → i ≤ j → (w : ItemAt) → Placed s j w → ClaimPlaced s i (claimAt (claimActor 2 s w))
     unfolding claimActor
-    actor-placed j l (piece.At a b) k = node-placed a b (earlier j a b l k) (namePlaces (nameNext 2 false s b)) (name-placed 2 false s b)
+    actor-placed j l (piece.At a) k = node-placed a (earlier j a l k) (namePlaces (nameNext 2 false s (behind a))) (name-placed 2 false s (behind a))
     actor-placed j l piece.None k = tt
 
     head-placed : (j : ℕ) → i ≤ j → (w : ItemAt) → Placed s j w → ClaimPlaced s i (claimAt (claimHead 2 s w))
     unfolding claimHead claimRest
-    head-placed j l (piece.At p q) k = go (same (partOf s p (q - p)) (bytesOf "id"))
+    head-placed j l (piece.At w) k = go (same (nameAt s w) (bytesOf "id"))
       where
-        go : (b : Bool) → ClaimPlaced s i (claimAt (pick b (claimRest 2 s q) claim.None))
-        go true = actor-placed q (omega (arith, k .after, k .some)) (namePlaces (nameNext 2 false s q)) (name-placed 2 false s q)
+        go : (b : Bool) → ClaimPlaced s i (claimAt (pick b (claimRest 2 s (behind w)) claim.None))
+        go true = actor-placed (behind w) (omega (arith, k .after)) (namePlaces (nameNext 2 false s (behind w))) (name-placed 2 false s (behind w))
         go false = tt
     head-placed j l piece.None k = tt
 
@@ -117,18 +118,18 @@ module _ (s : Bytes) (i : ℕ) where
 
 module _ (s : Bytes) (i : ℕ) where
   -- what follows a piece that was read
-  abbrev behind : ClaimRead → Maybe (List Claim)
-  behind r = onClaim s r (λ x q. oneMore x (claimsFrom s q)) (λ e. pick (endsAfter 0 s e) (just []) nothing)
+  abbrev goOn : ClaimRead → Maybe (List Claim)
+  goOn r = onClaim s r (λ x q. oneMore x (claimsFrom s q)) (λ e. pick (endsAfter 0 s e) (just []) nothing)
 
-  claims-next : claimsFrom s i ≡ behind (claimNext 2 s i)
+  claims-next : claimsFrom s i ≡ goOn (claimNext 2 s i)
   unfolding claimsFrom oneMore
   claims-next =
       (λ t. lineAt true i s (λ is. then-self (each claimOf is) t))
       ∙ form-claims s lineForm true i just
       ∙ (λ t. onClaim s (claimNext 2 s i) (λ x q. claims-then s q true (λ xs. just (x ∷ xs)) t) (λ e. pick (endsAfter 0 s e) (just []) nothing))
 
-  claims-by : (r : ClaimRead) → r ≡ claimNext 2 s i → claimsFrom s i ≡ behind r
-  claims-by r e = claims-next ∙ ap behind (sym e)
+  claims-by : (r : ClaimRead) → r ≡ claimNext 2 s i → claimsFrom s i ≡ goOn r
+  claims-by r e = claims-next ∙ ap goOn (sym e)
 
   more-read : (x : Claim) (o : Maybe (List Claim)) → areRead o ≡ areRead (oneMore x o)
   unfolding areRead oneMore andThen
@@ -136,9 +137,9 @@ module _ (s : Bytes) (i : ℕ) where
   more-read x (just xs) = refl
 
   -- whether they can be read
-  pub read-on : {a b x y e : ℕ} → claim.Claim a b x y e ≡ claimNext 2 s i → areRead (claimsFrom s e) ≡ areRead (claimsFrom s i)
+  pub read-on : {a x : Part} {e : ℕ} → claim.Claim a x e ≡ claimNext 2 s i → areRead (claimsFrom s e) ≡ areRead (claimsFrom s i)
   unfolding onClaim
-  read-on {a} {b} {x} {y} {e} h = more-read (claimOn s a b x y) (claimsFrom s e) ∙ ap areRead (sym (claims-by _ h))
+  read-on {a} {x} {e} h = more-read (claimOn s a x) (claimsFrom s e) ∙ ap areRead (sym (claims-by _ h))
 
   pub read-closed : {e : ℕ} → claim.Close e ≡ claimNext 2 s i → endsAfter 0 s e ≡ areRead (claimsFrom s i)
   unfolding onClaim areRead
@@ -161,21 +162,19 @@ module _ (s : Bytes) (i : ℕ) where
   read-over l = ap areRead (sym (claims-end l))
 
   -- an identity, and those behind it
-  pub claim-step : (xs : List Claim) (a b x y e : ℕ) → at.At a b x y e ≡ claimAt (claimNext 2 s i) → claimsFrom s i ≡ just xs
-      → (ys : List Claim) × (claimsFrom s e ≡ just ys) × (xs ≡ claimOn s a b x y ∷ ys)
+  pub claim-step : (xs : List Claim) (a x : Part) (e : ℕ) → at.At a x e ≡ claimAt (claimNext 2 s i) → claimsFrom s i ≡ just xs
+      → (ys : List Claim) × (claimsFrom s e ≡ just ys) × (xs ≡ claimOn s a x ∷ ys)
   unfolding onClaim oneMore
-  claim-step xs a b x y e n h = go (claimNext 2 s i) n (sym claims-next ∙ h)
+  claim-step xs a x e n h = go (claimNext 2 s i) n (sym claims-next ∙ h)
     where
-      go : (r : ClaimRead) → at.At a b x y e ≡ claimAt r → behind r ≡ just xs → (ys : List Claim) × (claimsFrom s e ≡ just ys) × (xs ≡ claimOn s a b x y ∷ ys)
-      go (claim.Claim a′ b′ x′ y′ e′) n h =
-          let ys = then-e (claimsFrom s e′) (λ (ys : List Claim). just (claimOn s a′ b′ x′ y′ ∷ ys)) xs h in
+      go : (r : ClaimRead) → at.At a x e ≡ claimAt r → goOn r ≡ just xs → (ys : List Claim) × (claimsFrom s e ≡ just ys) × (xs ≡ claimOn s a x ∷ ys)
+      go (claim.Claim a′ x′ e′) n h =
+          let ys = then-e (claimsFrom s e′) (λ (ys : List Claim). just (claimOn s a′ x′ ∷ ys)) xs h in
           let ea : a′ ≡ a = cc in
-          let eb : b′ ≡ b = cc in
           let ex : x′ ≡ x = cc in
-          let ey : y′ ≡ y = cc in
           let ee : e′ ≡ e = cc in
-          let z : claimOn s a′ b′ x′ y′ ∷ ys .0 ≡ xs = cc (ys .2) in
-          (ys .0, ap (claimsFrom s) (sym ee) ∙ ys .1, sym z ∙ (λ t. claimOn s (ea t) (eb t) (ex t) (ey t) ∷ ys .0))
+          let z : claimOn s a′ x′ ∷ ys .0 ≡ xs = cc (ys .2) in
+          (ys .0, ap (claimsFrom s) (sym ee) ∙ ys .1, sym z ∙ (λ t. claimOn s (ea t) (ex t) ∷ ys .0))
       go (claim.Close e′) n h = let z : _≡_ {A = ℕ} 0 1 = cc in absurd (omega arith)
       go claim.None n h = let z : _≡_ {A = ℕ} 0 1 = cc in absurd (omega arith)
 
@@ -187,8 +186,8 @@ module _ (s : Bytes) (i : ℕ) where
       by true h = let z : [] ≡ xs = cc in sym z
       by false h = no-just xs h
 
-      go : (r : ClaimRead) → at.None ≡ claimAt r → behind r ≡ just xs → xs ≡ []
-      go (claim.Claim a b x y e) n h = let z : _≡_ {A = ℕ} 0 1 = cc in absurd (omega arith)
+      go : (r : ClaimRead) → at.None ≡ claimAt r → goOn r ≡ just xs → xs ≡ []
+      go (claim.Claim a x e) n h = let z : _≡_ {A = ℕ} 0 1 = cc in absurd (omega arith)
       go (claim.Close e) n h = by (endsAfter 0 s e) h
       go claim.None n h = no-just xs h
 
@@ -196,23 +195,23 @@ module _ (s : Bytes) (i : ℕ) where
   claims-over xs l h = no-just xs (sym (claims-end l) ∙ h)
 
 -- where an identity that was read stands
-pub placed-at : (s : Bytes) (i : ℕ) {a b x y e : ℕ} (r : ClaimAt) → r ≡ at.At a b x y e → ClaimPlaced s i r → ClaimPlaces s i a b x y e
+pub placed-at : (s : Bytes) (i : ℕ) {a x : Part} {e : ℕ} (r : ClaimAt) → r ≡ at.At a x e → ClaimPlaced s i r → ClaimPlaces s i a x e
 placed-at s i r e h = subst (ClaimPlaced s i) e h
 
 -- what is said of the identities from a place on
 module _ {A : Type 0} (f g : List Claim → A) (s : Bytes) (from i : ℕ) where
-  pub left-next : (h : List Claim → A) (a b x y e : ℕ) → Left f g s from i → at.At a b x y e ≡ claimAt (claimNext 2 s i)
-      → ((ys : List Claim) → claimsFrom s e ≡ just ys → g (claimOn s a b x y ∷ ys) ≡ h ys) → Left f h s from e
-  left-next h a b x y e left n step xs d =
+  pub left-next : (h : List Claim → A) (a x : Part) (e : ℕ) → Left f g s from i → at.At a x e ≡ claimAt (claimNext 2 s i)
+      → ((ys : List Claim) → claimsFrom s e ≡ just ys → g (claimOn s a x ∷ ys) ≡ h ys) → Left f h s from e
+  left-next h a x e left n step xs d =
       let ys = left xs d in
-      let zs = claim-step s i (ys .0) a b x y e n (ys .1) in
+      let zs = claim-step s i (ys .0) a x e n (ys .1) in
       (zs .0, zs .1, ys .2 ∙ ap g (zs .2) ∙ step (zs .0) (zs .1))
 
-  pub left-found : (v : A) (a b x y e : ℕ) → Left f g s from i → at.At a b x y e ≡ claimAt (claimNext 2 s i)
-      → ((ys : List Claim) → claimsFrom s e ≡ just ys → g (claimOn s a b x y ∷ ys) ≡ v) → (xs : List Claim) → claimsFrom s from ≡ just xs → v ≡ f xs
-  left-found v a b x y e left n step xs d =
+  pub left-found : (v : A) (a x : Part) (e : ℕ) → Left f g s from i → at.At a x e ≡ claimAt (claimNext 2 s i)
+      → ((ys : List Claim) → claimsFrom s e ≡ just ys → g (claimOn s a x ∷ ys) ≡ v) → (xs : List Claim) → claimsFrom s from ≡ just xs → v ≡ f xs
+  left-found v a x e left n step xs d =
       let ys = left xs d in
-      let zs = claim-step s i (ys .0) a b x y e n (ys .1) in
+      let zs = claim-step s i (ys .0) a x e n (ys .1) in
       sym (ys .2 ∙ ap g (zs .2) ∙ step (zs .0) (zs .1))
 
   pub left-done : Left f g s from i → at.None ≡ claimAt (claimNext 2 s i) → (xs : List Claim) → claimsFrom s from ≡ just xs → g [] ≡ f xs

@@ -1,5 +1,5 @@
 -- The steps of reading the form of a request's line.
-use Prim.Native.Nat.{ℕ, _-_}
+use Prim.Native.Nat.{ℕ}
 use mathlib.Core.Path.{_≡_, refl, ap, subst, _∙_}
 use mathlib.Core.List.{List}
 use mathlib.Core.Bool.{Bool, true, false}
@@ -10,12 +10,13 @@ use Rattle.model.specs.Lists.{each}
 use Rattle.model.specs.Items.{Item, lineItems}
 use Rattle.model.specs.Forms.{asName, first}
 use Rattle.model.specs.Request.{Claim, claimOf, RequestLine, requestLine}
-use Rattle.model.specs.Answers.{partOf}
+use Rattle.model.specs.Answers.{nameAt}
+use Rattle.model.specs.declared.Part.{Part}
 use Rattle.text.specs.declared.End.the-variants as end
 use Rattle.items.specs.declared.ItemAt.{ItemAt}
 use Rattle.items.specs.declared.ItemAt.the-variants as piece
 use Rattle.items.specs.Rest.{lineAt}
-use Rattle.items.specs.Pieces.{namePlaces, wordNext, nameNext}
+use Rattle.items.specs.Pieces.{behind, namePlaces, wordNext, nameNext}
 use Rattle.items.specs.Forms.{formOpens}
 use Rattle.items.specs.Places.{WordPlaces}
 use Rattle.name_lists.proofs.Forms.{line-unopened, line-opened, no-word, a-word, no-name, a-name}
@@ -45,56 +46,57 @@ module _ (s : Bytes) where
     unfolding requestLine byWord made
     wordless w = line-opened s requestLine opened ∙ no-word true s i byWord w
 
-    module _ {a b : ℕ} (w : piece.At a b ≡ wordNext 3 true s i) where
-      worded : andThen (lineItems s) requestLine ≡ lineAt false b s (byWord (partOf s a (b - a)))
+    module _ {h : Part} (w : piece.At h ≡ wordNext 3 true s i) where
+      worded : andThen (lineItems s) requestLine ≡ lineAt false (behind h) s (byWord (nameAt s h))
       unfolding requestLine byWord made
       worded = line-opened s requestLine opened ∙ a-word true s i byWord w
 
-      pub of-other : same (partOf s a (b - a)) (bytesOf "request") ≡ false → andThen (lineItems s) requestLine ≡ nothing
+      pub of-other : same (nameAt s h) (bytesOf "request") ≡ false → andThen (lineItems s) requestLine ≡ nothing
       unfolding byWord made
-      of-other h = worded ∙ ap (λ (t : Bool). lineAt false b s (λ is. first asName is (made t))) h ∙ go (namePlaces (nameNext 3 false s b)) refl
+      of-other t = worded ∙ ap (λ (t : Bool). lineAt false (behind h) s (λ is. first asName is (made t))) t
+          ∙ go (namePlaces (nameNext 3 false s (behind h))) refl
         where
-          go : (r : ItemAt) → r ≡ namePlaces (nameNext 3 false s b) → lineAt false b s (λ is. first asName is (made false)) ≡ nothing
-          go (piece.At p q) e = a-name s b (made false) p q e ∙ claims-then s q false (λ cs. nothing) ∙ then-never (claimsFrom s q)
-          go piece.None e = no-name s b (made false) e
+          go : (r : ItemAt) → r ≡ namePlaces (nameNext 3 false s (behind h)) → lineAt false (behind h) s (λ is. first asName is (made false)) ≡ nothing
+          go (piece.At n) e = a-name s (behind h) (made false) n e ∙ claims-then s (behind n) false (λ cs. nothing) ∙ then-never (claimsFrom s (behind n))
+          go piece.None e = no-name s (behind h) (made false) e
 
-      module _ (h : same (partOf s a (b - a)) (bytesOf "request") ≡ true) where
-        of-request : andThen (lineItems s) requestLine ≡ lineAt false b s (λ is. first asName is (made true))
+      module _ (t : same (nameAt s h) (bytesOf "request") ≡ true) where
+        of-request : andThen (lineItems s) requestLine ≡ lineAt false (behind h) s (λ is. first asName is (made true))
         unfolding byWord
-        of-request = worded ∙ ap (λ (t : Bool). lineAt false b s (λ is. first asName is (made t))) h
+        of-request = worded ∙ ap (λ (t : Bool). lineAt false (behind h) s (λ is. first asName is (made t))) t
 
-        pub unnamed : piece.None ≡ namePlaces (nameNext 3 false s b) → andThen (lineItems s) requestLine ≡ nothing
-        unnamed e = of-request ∙ no-name s b (made true) e
+        pub unnamed : piece.None ≡ namePlaces (nameNext 3 false s (behind h)) → andThen (lineItems s) requestLine ≡ nothing
+        unnamed e = of-request ∙ no-name s (behind h) (made true) e
 
-        module _ {p q : ℕ} (n : piece.At p q ≡ namePlaces (nameNext 3 false s b)) where
-          named : andThen (lineItems s) requestLine ≡ andThen (claimsFrom s q) (λ cs. just (lineOf s p q cs))
+        module _ {c : Part} (n : piece.At c ≡ namePlaces (nameNext 3 false s (behind h))) where
+          named : andThen (lineItems s) requestLine ≡ andThen (claimsFrom s (behind c)) (λ cs. just (lineOf s c cs))
           unfolding made
-          named = of-request ∙ a-name s b (made true) p q n ∙ claims-then s q false (λ cs. just (lineOf s p q cs))
+          named = of-request ∙ a-name s (behind h) (made true) c n ∙ claims-then s (behind c) false (λ cs. just (lineOf s c cs))
 
-          pub unclaimed : areRead (claimsFrom s q) ≡ false → andThen (lineItems s) requestLine ≡ nothing
+          pub unclaimed : areRead (claimsFrom s (behind c)) ≡ false → andThen (lineItems s) requestLine ≡ nothing
           unfolding areRead andThen
-          unclaimed e = named ∙ go (claimsFrom s q) e
+          unclaimed e = named ∙ go (claimsFrom s (behind c)) e
             where
-              go : (o : Maybe (List Claim)) → areRead o ≡ false → andThen o (λ cs. just (lineOf s p q cs)) ≡ nothing
+              go : (o : Maybe (List Claim)) → areRead o ≡ false → andThen o (λ cs. just (lineOf s c cs)) ≡ nothing
               go nothing e = refl
               go (just xs) e = let z : _≡_ {A = ℕ} 0 1 = cc in absurd (omega arith)
 
-          pub line-read : WordPlaces s b p q → areRead (claimsFrom s q) ≡ true → LineRead s (andThen (lineItems s) requestLine) p q
+          pub line-read : WordPlaces s (behind h) c → areRead (claimsFrom s (behind c)) ≡ true → LineRead s (andThen (lineItems s) requestLine) c
           unfolding areRead andThen
-          line-read k e = go (claimsFrom s q) refl e
+          line-read k e = go (claimsFrom s (behind c)) refl e
             where
-              go : (o : Maybe (List Claim)) → claimsFrom s q ≡ o → areRead o ≡ true → LineRead s (andThen (lineItems s) requestLine) p q
+              go : (o : Maybe (List Claim)) → claimsFrom s (behind c) ≡ o → areRead o ≡ true → LineRead s (andThen (lineItems s) requestLine) c
               go nothing d e = let z : _≡_ {A = ℕ} 0 1 = cc in absurd (omega arith)
               go (just xs) d e = record {
                 places = record { after = omega arith; some = k .some; inside = k .inside; short = k .short };
                 claims = xs;
                 are = d;
-                is = named ∙ ap (λ (o : Maybe (List Claim)). andThen o (λ cs. just (lineOf s p q cs))) d;
-                words = form-words s i a b p q opened w n;
+                is = named ∙ ap (λ (o : Maybe (List Claim)). andThen o (λ cs. just (lineOf s c cs))) d;
+                words = form-words s i h c opened w n;
               }
 
 -- what was read, by the answer
-pub form-at : (s : Bytes) (line : Maybe RequestLine) {p q : ℕ} (r : ItemAt) → r ≡ piece.At p q → FormRead s line r → LineRead s line p q
+pub form-at : (s : Bytes) (line : Maybe RequestLine) {w : Part} (r : ItemAt) → r ≡ piece.At w → FormRead s line r → LineRead s line w
 form-at s line r e h = subst (FormRead s line) e h
 
 pub form-none : (s : Bytes) (line : Maybe RequestLine) (r : ItemAt) → r ≡ piece.None → FormRead s line r → line ≡ nothing

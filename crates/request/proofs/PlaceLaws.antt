@@ -14,7 +14,7 @@ use Rattle.model.specs.Names.{mem}
 use Rattle.model.specs.Words.{between, isLetter, isDigit, isWordByte, run}
 use Rattle.model.specs.Items.{itemAt}
 use Rattle.model.specs.Forms.{neverNames}
-use Rattle.model.specs.Answers.{partOf}
+use Rattle.model.specs.Answers.{nameAt}
 use Rattle.model.specs.RequestPlaces.{wordsFrom, noIdentity}
 use Rattle.model.specs.declared.Part.{Part}
 use Rattle.text.specs.declared.End.{End}
@@ -31,11 +31,12 @@ use Rattle.items.specs.declared.NameItem.the-variants as name
 use Rattle.items.specs.declared.ClaimRead.{ClaimRead}
 use Rattle.items.specs.declared.ClaimRead.the-variants as claim
 use Rattle.items.specs.Reads.{nextAt}
-use Rattle.items.specs.Pieces.{itemPlace, afterEnd, wordPiece, namePiece, namePlaces, readAt, wordNext, nameAfter, nameNext, openAfter, openNext}
+use Rattle.items.specs.Pieces.{fromTo, behind, itemPlace, afterEnd, wordPiece, namePiece, namePlaces}
+use Rattle.items.specs.Pieces.{readAt, wordNext, nameAfter, nameNext, openAfter, openNext}
 use Rattle.items.specs.Pieces.{closeAfter, closeNext}
 use Rattle.items.specs.Forms.{formOpens, claimNode, claimActor, claimRest, claimHead, claimAfter, claimNext}
 use Rattle.request.specs.declared.ClaimAt.the-variants as at
-use Rattle.request.specs.Claims.{wordsAt, partAt, claimAt}
+use Rattle.request.specs.Claims.{wordsAt, claimAt}
 use Rattle.request.proofs.WordLaws.{no-word, words-run, words-spaces, item-run, read-run}
 
 -- the words from a place on, by what stands there
@@ -48,14 +49,14 @@ module _ (s : Bytes) where
   past-mark p c e f l = ap (wordsFrom false p) (drop-peek s p (peek-in s p (omega (arith, e))))
       ∙ no-word false p (peekAt s p) (drop (p + 1) s) (ap isWordByte e ∙ f)
 
-  past-word : (d p q : ℕ) → readAt d s p ≡ Word q → wordsAt s p ≡ partAt p q ∷ wordsAt s q
+  past-word : (d p q : ℕ) → readAt d s p ≡ Word q → wordsAt s p ≡ fromTo p q ∷ wordsAt s (p + (q - p))
   past-word d p q e =
       let n = length (run isWordByte (drop p s)) in
       let h = read-run (drop p s) p q (itemAt d (drop p s)) (item-run d (drop p s)) e in
       let z : n ≡ q - p = omega (arith, h .0) in
       words-run p (drop p s) (h .1)
       ∙ ap (λ (t : Bytes). record { start = p; length = n } ∷ wordsFrom false (p + n) t) (drop-drop n p s)
-      ∙ (λ i. record { start = p; length = z i } ∷ wordsAt s (sym (h .0) i))
+      ∙ ap (λ (m : ℕ). record { start = p; length = m } ∷ wordsAt s (p + m)) z
 
   -- what a reader gives, by the words behind it
   abbrev Onward : ℕ → Next → Type 0
@@ -64,7 +65,7 @@ module _ (s : Bytes) where
   Onward i next.None = Unit {0}
 
   abbrev WordNext : ℕ → ItemAt → Type 0
-  WordNext i (piece.At p q) = wordsAt s i ≡ partAt p q ∷ wordsAt s q
+  WordNext i (piece.At w) = wordsAt s i ≡ w ∷ wordsAt s (behind w)
   WordNext i piece.None = Unit {0}
 
   abbrev EndNext : ℕ → End → Type 0
@@ -107,9 +108,9 @@ module _ (s : Bytes) where
   name-next d free i = go (nextAt free s i) (next-onward free i)
     where
       named : (w : ItemAt) → WordNext i w → WordNext i (namePlaces (namePiece s w))
-      named (piece.At p q) h = by (not (mem (partOf s p (q - p)) neverNames))
+      named (piece.At w) h = by (not (mem (nameAt s w) neverNames))
         where
-          by : (b : Bool) → WordNext i (namePlaces (pick b (name.Name p q) name.None))
+          by : (b : Bool) → WordNext i (namePlaces (pick b (name.Name w) name.None))
           by true = h
           by false = tt
       named piece.None h = tt
@@ -154,39 +155,38 @@ module _ (s : Bytes) where
 
   -- the words of an identity: id, its actor, its node
   abbrev ClaimedBy : List Part → ClaimRead → Type 0
-  ClaimedBy words (claim.Claim a b x y e) = (getD words 1 (noIdentity .actor) ≡ partAt a b) × (drop 3 words ≡ wordsAt s e)
+  ClaimedBy words (claim.Claim a x e) = (getD words 1 (noIdentity .actor) ≡ a) × (drop 3 words ≡ wordsAt s e)
   ClaimedBy words (claim.Close e) = Unit {0}
   ClaimedBy words claim.None = Unit {0}
 
   abbrev Claimed : ℕ → ClaimRead → Type 0
   Claimed i r = ClaimedBy (wordsAt s i) r
 
-  module _ (d i p q : ℕ) (h : wordsAt s i ≡ partAt p q ∷ wordsAt s q) where
-    claim-shut : (a b x y : ℕ) → wordsAt s q ≡ partAt a b ∷ partAt x y ∷ wordsAt s y → (o : End) → EndNext y o
-        → Claimed i (afterEnd o (λ e. claim.Claim a b x y e) claim.None)
+  module _ (d i : ℕ) (w : Part) (h : wordsAt s i ≡ w ∷ wordsAt s (behind w)) where
+    claim-shut : (a x : Part) → wordsAt s (behind w) ≡ a ∷ x ∷ wordsAt s (behind x) → (o : End) → EndNext (behind x) o
+        → Claimed i (afterEnd o (λ e. claim.Claim a x e) claim.None)
     unfolding afterEnd
-    claim-shut a b x y k (end.At e) l =
-        let w : wordsAt s i ≡ partAt p q ∷ partAt a b ∷ partAt x y ∷ wordsAt s e = h ∙ ap (λ (t : List Part). partAt p q ∷ t) k
-        ∙ ap (λ (t : List Part). partAt p q ∷ partAt a b ∷ partAt x y ∷ t) l in
-        (ap (λ (t : List Part). getD t 1 (noIdentity .actor)) w, ap (drop 3) w)
-    claim-shut a b x y k end.None l = tt
+    claim-shut a x k (end.At e) l =
+        let m : wordsAt s i ≡ w ∷ a ∷ x ∷ wordsAt s e = h ∙ ap (λ (t : List Part). w ∷ t) k ∙ ap (λ (t : List Part). w ∷ a ∷ x ∷ t) l in
+        (ap (λ (t : List Part). getD t 1 (noIdentity .actor)) m, ap (drop 3) m)
+    claim-shut a x k end.None l = tt
 
-    claim-node : (a b : ℕ) → wordsAt s q ≡ partAt a b ∷ wordsAt s b → (w : ItemAt) → WordNext b w → Claimed i (claimNode s a b w)
+    claim-node : (a : Part) → wordsAt s (behind w) ≡ a ∷ wordsAt s (behind a) → (r : ItemAt) → WordNext (behind a) r → Claimed i (claimNode s a r)
     unfolding claimNode
-    claim-node a b k (piece.At x y) l = claim-shut a b x y (k ∙ ap (λ (t : List Part). partAt a b ∷ t) l) (closeNext s y) (close-next y)
-    claim-node a b k piece.None l = tt
+    claim-node a k (piece.At x) l = claim-shut a x (k ∙ ap (λ (t : List Part). a ∷ t) l) (closeNext s (behind x)) (close-next (behind x))
+    claim-node a k piece.None l = tt
 
-    claim-actor : (w : ItemAt) → WordNext q w → Claimed i (claimActor d s w)
+    claim-actor : (r : ItemAt) → WordNext (behind w) r → Claimed i (claimActor d s r)
     unfolding claimActor
-    claim-actor (piece.At a b) k = claim-node a b k (namePlaces (nameNext d false s b)) (name-next d false b)
+    claim-actor (piece.At a) k = claim-node a k (namePlaces (nameNext d false s (behind a))) (name-next d false (behind a))
     claim-actor piece.None k = tt
 
   claim-head : (d i : ℕ) (w : ItemAt) → WordNext i w → Claimed i (claimHead d s w)
   unfolding claimHead claimRest
-  claim-head d i (piece.At p q) h = go (same (partOf s p (q - p)) (bytesOf "id"))
+  claim-head d i (piece.At w) h = go (same (nameAt s w) (bytesOf "id"))
     where
-      go : (b : Bool) → Claimed i (pick b (claimRest d s q) claim.None)
-      go true = claim-actor d i p q h (namePlaces (nameNext d false s q)) (name-next d false q)
+      go : (b : Bool) → Claimed i (pick b (claimRest d s (behind w)) claim.None)
+      go true = claim-actor d i w h (namePlaces (nameNext d false s (behind w))) (name-next d false (behind w))
       go false = tt
   claim-head d i piece.None h = tt
 
@@ -201,25 +201,24 @@ module _ (s : Bytes) where
       go next.None h = tt
 
   -- where the words of an identity that was read stand
-  pub claim-words : (i a b x y e : ℕ) → at.At a b x y e ≡ claimAt (claimNext 2 s i)
-      → (getD (wordsAt s i) 1 (noIdentity .actor) ≡ partAt a b) × (drop 3 (wordsAt s i) ≡ wordsAt s e)
-  claim-words i a b x y e n = go (claimNext 2 s i) (claim-next 2 i) n
+  pub claim-words : (i : ℕ) (a x : Part) (e : ℕ) → at.At a x e ≡ claimAt (claimNext 2 s i)
+      → (getD (wordsAt s i) 1 (noIdentity .actor) ≡ a) × (drop 3 (wordsAt s i) ≡ wordsAt s e)
+  claim-words i a x e n = go (claimNext 2 s i) (claim-next 2 i) n
     where
-      go : (r : ClaimRead) → Claimed i r → at.At a b x y e ≡ claimAt r
-          → (getD (wordsAt s i) 1 (noIdentity .actor) ≡ partAt a b) × (drop 3 (wordsAt s i) ≡ wordsAt s e)
-      go (claim.Claim a′ b′ x′ y′ e′) h n =
+      go : (r : ClaimRead) → Claimed i r → at.At a x e ≡ claimAt r
+          → (getD (wordsAt s i) 1 (noIdentity .actor) ≡ a) × (drop 3 (wordsAt s i) ≡ wordsAt s e)
+      go (claim.Claim a′ x′ e′) h n =
           let ea : a′ ≡ a = cc in
-          let eb : b′ ≡ b = cc in
           let ee : e′ ≡ e = cc in
-          (h .0 ∙ (λ t. partAt (ea t) (eb t)), h .1 ∙ ap (wordsAt s) ee)
+          (h .0 ∙ ea, h .1 ∙ ap (wordsAt s) ee)
       go (claim.Close e′) h n = let z : _≡_ {A = ℕ} 0 1 = cc in absurd (omega arith)
       go claim.None h n = let z : _≡_ {A = ℕ} 0 1 = cc in absurd (omega arith)
 
   -- the first two words of a line: request, and the category's name
-  pub form-words : (i a b p q : ℕ) → end.At i ≡ formOpens s 0 → piece.At a b ≡ wordNext 3 true s i → piece.At p q ≡ namePlaces (nameNext 3 false s b)
-      → drop 2 (wordsFrom false 0 s) ≡ wordsAt s q
-  form-words i a b p q o w n =
+  pub form-words : (i : ℕ) (a c : Part) → end.At i ≡ formOpens s 0 → piece.At a ≡ wordNext 3 true s i → piece.At c ≡ namePlaces (nameNext 3 false s (behind a))
+      → drop 2 (wordsFrom false 0 s) ≡ wordsAt s (behind c)
+  form-words i a c o w n =
       let h : wordsAt s 0 ≡ wordsAt s i = subst (EndNext 0) (sym o) form-next in
-      let k : wordsAt s i ≡ partAt a b ∷ wordsAt s b = subst (WordNext i) (sym w) (word-next 3 true i) in
-      let l : wordsAt s b ≡ partAt p q ∷ wordsAt s q = subst (WordNext b) (sym n) (name-next 3 false b) in
-      ap (drop 2) (h ∙ k ∙ ap (λ (t : List Part). partAt a b ∷ t) l)
+      let k : wordsAt s i ≡ a ∷ wordsAt s (behind a) = subst (WordNext i) (sym w) (word-next 3 true i) in
+      let l : wordsAt s (behind a) ≡ c ∷ wordsAt s (behind c) = subst (WordNext (behind a)) (sym n) (name-next 3 false (behind a)) in
+      ap (drop 2) (h ∙ k ∙ ap (λ (t : List Part). a ∷ t) l)

@@ -20,9 +20,10 @@ use Rattle.model.specs.Forms.{formOf}
 use Rattle.model.specs.Book.{Book}
 use Rattle.model.specs.Rules.{Rules}
 use Rattle.model.specs.Request.{Claim, Request, RequestLine, requestLine, requestFault, requestOf, requestStep, oneLine, readRequest}
-use Rattle.model.specs.Answers.{refusalOf, partOf}
+use Rattle.model.specs.Answers.{refusalOf, partOf, nameAt}
 use Rattle.model.specs.RequestPlaces.{wordsFrom, placedBy, identityPlaces, slots}
 use Rattle.model.specs.declared.Part.{Part}
+use Rattle.items.specs.Pieces.{behind}
 use Rattle.model.specs.declared.Refusal.{Refusal as RefusalData}
 use Rattle.model.specs.declared.Verdict.the-variants as verdict
 use Rattle.model.specs.declared.RequestRead.{RequestRead}
@@ -72,24 +73,24 @@ unfolding partOf
 fed-part s = take-append-seam s (10 ∷ [])
 
 -- a line without a fault is accepted
-pub accepts-line : (b : Book) (r : Rules) (nodes : ℕ) (rules : Bytes) (table : List ℕ) (categories : ℕ) (s : Bytes) (p q k : ℕ) (xs : List Claim)
+pub accepts-line : (b : Book) (r : Rules) (nodes : ℕ) (rules : Bytes) (table : List ℕ) (categories : ℕ) (s : Bytes) (w : Part) (k : ℕ) (xs : List Claim)
     (given : Identities)
-    → andThen (lineItems s) requestLine ≡ just (lineOf s p q xs) → requestFault b r (lineOf s p q xs) ≡ nothing
-    → nameOf rules table names k ≡ partOf s p (q - p) → k < categories
-    → ClaimsStored b nodes s q xs given → drop 2 (wordsFrom false 0 s) ≡ wordsAt s q
+    → andThen (lineItems s) requestLine ≡ just (lineOf s w xs) → requestFault b r (lineOf s w xs) ≡ nothing
+    → nameOf rules table names k ≡ nameAt s w → k < categories
+    → ClaimsStored b nodes s (behind w) xs given → drop 2 (wordsFrom false 0 s) ≡ wordsAt s (behind w)
     → Accepts nodes rules table categories (fed s) (stepThen (requestStep b r (ended s)) 4 1 accepted)
     (record { verdict = verdict.Accepted; category = k; identities = given .list; count = given .count })
 unfolding requestOf identityPlaces
-accepts-line b r nodes rules table categories s p q k xs given e f n l h w = record {
-  request = requestOf b (lineOf s p q xs);
-  is = line-known b r s accepted (lineOf s p q xs) e f;
+accepts-line b r nodes rules table categories s w k xs given e f n l h o = record {
+  request = requestOf b (lineOf s w xs);
+  is = line-known b r s accepted (lineOf s w xs) e f;
   category = sym n;
   declared = l;
   identities = sym (h .is (fed s) (fed-part s));
   few = h .few;
   below = h .below;
   counted = h .counted ∙ sym (length-map xs (numbered b));
-  whole = h .whole ∙ ap (λ (t : List Part). slots (placedBy t (map (numbered b) xs))) (sym w ∙ ap (drop 2) (sym (words-fed s)));
+  whole = h .whole ∙ ap (λ (t : List Part). slots (placedBy t (map (numbered b) xs))) (sym o ∙ ap (drop 2) (sym (words-fed s)));
 }
 
 -- a last line without a line feed

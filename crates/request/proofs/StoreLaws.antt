@@ -19,6 +19,7 @@ use Rattle.model.specs.Answers.{partOf, nameAt, identityIn}
 use Rattle.model.specs.RequestPlaces.{noIdentity, placedBy, slots}
 use Rattle.model.specs.declared.Part.{Part}
 use Rattle.model.specs.declared.Identity.{Identity as IdentityData}
+use Rattle.text.specs.Parts.{HasPart}
 use Rattle.text.proofs.PlaceLaws.{part-in-part}
 use Rattle.items.specs.Forms.{claimNext}
 use Rattle.model.proofs.Places.{map-append}
@@ -30,17 +31,12 @@ use Rattle.book_tables.specs.declared.BookCounts.{BookCounts}
 use Rattle.rules_tables.specs.declared.RulesCounts.{RulesCounts}
 use Rattle.request.specs.declared.ClaimAt.the-variants as at
 use Rattle.request.specs.declared.Identities.{Identities}
-use Rattle.request.specs.Claims.{wordsAt, partAt, claimsFrom, actorsIn, isUnknown, ClaimPlaces, claimAt, claimOn}
+use Rattle.request.specs.Claims.{wordsAt, claimsFrom, actorsIn, isUnknown, ClaimPlaces, claimAt, claimOn}
 use Rattle.request.specs.Faults.{FaultTold}
-use Rattle.request.specs.Stored.{noIdentities, identityOn, numbered, ClaimsAsked, faultOnly, actorNames, InsideAll, ClaimsStored, ClaimsTold}
+use Rattle.request.specs.Stored.{noIdentities, numbered, ClaimsAsked, faultOnly, actorNames, InsideAll, ClaimsStored, ClaimsTold}
 use Rattle.request.proofs.PlaceLaws.{claim-words}
 use Rattle.request.proofs.ClaimLaws.{claim-step, claims-done, claims-over}
 use Rattle.request.proofs.FaultLaws.{any-none, any-found, any-other, any-behind, few-claims}
-
--- a part of a line, from its start to its end
-pub from-to : (s : Bytes) (p : Part) → partOf s (p .start) (p .start + p .length - p .start) ≡ nameAt s p
-unfolding nameAt
-from-to s p = let z : p .start + p .length - p .start ≡ p .length = omega arith in ap (partOf s (p .start)) z
 
 -- as many are placed as there are
 placed-length : (words : List Part) (is : List Identity) → length (placedBy words is) ≡ length is
@@ -121,133 +117,132 @@ module _ {b : Book} {nodes : ℕ} {actors : List Bytes} {s : Bytes} {from : ℕ}
   pub count-few : length actors ≤ 8 → count ≤ 8
   count-few l = omega (arith, few-claims actors (nodeNames b) (h .done) (h .known) (h .once), h .counted)
 
-  module _ (a z x y e : ℕ) (n : at.At a z x y e ≡ claimAt (claimNext 2 s i)) where
+  module _ (a x : Part) (e : ℕ) (n : at.At a x e ≡ claimAt (claimNext 2 s i)) where
     -- the next identity, and those behind it
-    next : (ys : List Claim) × (claimsFrom s e ≡ just ys) × (h .rest ≡ claimOn s a z x y ∷ ys)
-    next = claim-step s i (h .rest) a z x y e n (h .left)
+    next : (ys : List Claim) × (claimsFrom s e ≡ just ys) × (h .rest ≡ claimOn s a x ∷ ys)
+    next = claim-step s i (h .rest) a x e n (h .left)
 
-    pub unknown-here : unknown (claimOn s a z x y) ≡ true → (xs : List Claim) → claimsFrom s from ≡ just xs → any unknown xs ≡ true
-    unknown-here t xs d = left-unknown xs d ∙ ap (any unknown) (next .2) ∙ any-found unknown (claimOn s a z x y) (next .0) t
+    pub unknown-here : unknown (claimOn s a x) ≡ true → (xs : List Claim) → claimsFrom s from ≡ just xs → any unknown xs ≡ true
+    unknown-here t xs d = left-unknown xs d ∙ ap (any unknown) (next .2) ∙ any-found unknown (claimOn s a x) (next .0) t
 
-    module _ (k : unknown (claimOn s a z x y) ≡ false) where
+    module _ (k : unknown (claimOn s a x) ≡ false) where
       pub unknown-behind : (r : Bool) → ((ys : List Claim) → claimsFrom s e ≡ just ys → r ≡ any unknown ys)
           → (xs : List Claim) → claimsFrom s from ≡ just xs → any unknown xs ≡ r
       unknown-behind r t xs d =
           left-unknown xs d
           ∙ ap (any unknown) (next .2)
-          ∙ any-other unknown (claimOn s a z x y) (next .0) k
+          ∙ any-other unknown (claimOn s a x) (next .0) k
           ∙ sym (t (next .0) (next .1))
 
-      module _ (r : Bool) (given : r ≡ mem (partOf s a (z - a)) (actorNames s list count)) where
-        among : mem (partOf s a (z - a)) (actorsIn (h .done)) ≡ r
-        among = ap (mem (partOf s a (z - a))) (sym (h .named)) ∙ sym given
+      module _ (r : Bool) (given : r ≡ mem (nameAt s a) (actorNames s list count)) where
+        among : mem (nameAt s a) (actorsIn (h .done)) ≡ r
+        among = ap (mem (nameAt s a)) (sym (h .named)) ∙ sym given
 
         -- its actor has one already
         pub second-time : r ≡ true → (xs : List Claim) → claimsFrom s from ≡ just xs → twice (actorsIn xs) ≡ true
         unfolding again
         second-time t xs d =
             ap (λ (v : List Claim). twice (actorsIn v)) (sym (all-of xs d) ∙ ap (λ (v : List Claim). h .done ++ v) (next .2))
-            ∙ ap twice (map-append (λ (c : Claim). c .actor) (h .done) (claimOn s a z x y ∷ next .0))
-            ∙ twice-again (actorsIn (h .done)) (partOf s a (z - a) ∷ actorsIn (next .0))
+            ∙ ap twice (map-append (λ (c : Claim). c .actor) (h .done) (claimOn s a x ∷ next .0))
+            ∙ twice-again (actorsIn (h .done)) (nameAt s a ∷ actorsIn (next .0))
             ∙ rw (h .once, among ∙ t)
 
         module _ (fresh : r ≡ false) where
-          known-more : any unknown (h .done ++ (claimOn s a z x y ∷ [])) ≡ false
-          known-more = any-behind unknown (h .done) _ (h .known) ∙ any-other unknown (claimOn s a z x y) [] k ∙ any-none unknown
+          known-more : any unknown (h .done ++ (claimOn s a x ∷ [])) ≡ false
+          known-more = any-behind unknown (h .done) _ (h .known) ∙ any-other unknown (claimOn s a x) [] k ∙ any-none unknown
 
-          once-more : twice (actorsIn (h .done ++ (claimOn s a z x y ∷ []))) ≡ false
+          once-more : twice (actorsIn (h .done ++ (claimOn s a x ∷ []))) ≡ false
           once-more =
-              ap twice (map-end (λ (c : Claim). c .actor) (h .done) (claimOn s a z x y))
-              ∙ twice-end (actorsIn (h .done)) (partOf s a (z - a))
+              ap twice (map-end (λ (c : Claim). c .actor) (h .done) (claimOn s a x))
+              ∙ twice-end (actorsIn (h .done)) (nameAt s a)
               ∙ rw (h .once, among ∙ fresh)
 
           pub has-room : length actors ≤ 8 → count < 8
           has-room l = omega (
             arith,
-            few-claims actors (nodeNames b) (h .done ++ (claimOn s a z x y ∷ [])) known-more once-more,
-            length-append (h .done) (claimOn s a z x y ∷ []),
+            few-claims actors (nodeNames b) (h .done ++ (claimOn s a x ∷ [])) known-more once-more,
+            length-append (h .done) (claimOn s a x ∷ []),
             h .counted,
           )
 
-          module _ (p : ClaimPlaces s i a z x y e) (node : ℕ) (is-node : node ≡ place (partOf s x (y - x)) (nodeNames b)) (low : node < nodes)
+          module _ (p : ClaimPlaces s i a x e) (node : ℕ) (is-node : node ≡ place (nameAt s x) (nodeNames b)) (low : node < nodes)
               (few : length actors ≤ 8) where
-            -- the array with the identity
+            -- the identity as plain data, and the array with it
+            abbrev new : IdentityData
+            new = record { actor = a; node = node }
+
             abbrev more : List IdentityData
-            more = set list count (identityOn a z node)
+            more = set list count new
 
             room : count < length list
             room = omega (arith, has-room few, h .size)
 
-            named-in : (text : Bytes) → partOf text 0 (length s) ≡ s → identityIn text (identityOn a z node) ≡ numbered b (claimOn s a z x y)
+            named-in : (text : Bytes) → partOf text 0 (length s) ≡ s → identityIn text new ≡ numbered b (claimOn s a x)
             unfolding identityIn nameAt
             named-in text l =
-                let o : 0 + a ≡ a = omega arith in
-                let m : partOf text a (z - a) ≡ partOf s a (z - a) = ap (λ (v : ℕ). partOf text v (z - a)) (sym o)
-                ∙ sym (part-in-part text 0 (length s) a (z - a) (omega (arith, p .actor .some, p .actor .inside)))
-                ∙ ap (λ (t : Bytes). partOf t a (z - a)) l in
+                let o : 0 + a .start ≡ a .start = omega arith in
+                let m : nameAt text a ≡ nameAt s a = ap (λ (v : ℕ). partOf text v (a .length)) (sym o)
+                ∙ sym (part-in-part text 0 (length s) (a .start) (a .length) (p .actor .inside))
+                ∙ ap (λ (t : Bytes). nameAt t a) l in
                 λ t. record { actor = m t; node = is-node t }
 
             -- it is placed by its own words
-            next-placed : identityOn a z node ∷ placedBy (wordsAt s e) (map (numbered b) (next .0)) ≡ placedBy (wordsAt s i) (map (numbered b) (h .rest))
+            next-placed : new ∷ placedBy (wordsAt s e) (map (numbered b) (next .0)) ≡ placedBy (wordsAt s i) (map (numbered b) (h .rest))
             next-placed =
-                let w = claim-words s i a z x y e n in
-                placed-first (wordsAt s i) (wordsAt s e) (partAt a z) node (numbered b (claimOn s a z x y)) (map (numbered b) (next .0)) (w .0) is-node (w .1)
+                let w = claim-words s i a x e n in
+                placed-first (wordsAt s i) (wordsAt s e) a node (numbered b (claimOn s a x)) (map (numbered b) (next .0)) (w .0) is-node (w .1)
                 ∙ ap (λ (t : List Claim). placedBy (wordsAt s i) (map (numbered b) t)) (sym (next .2))
 
             -- the array at a place, by whether it is the new one
-            at-more : (P : IdentityData → Type 0) → P (identityOn a z node) → ((j : ℕ) → j < count → P (getD list j noIdentity))
+            at-more : (P : IdentityData → Type 0) → P new → ((j : ℕ) → j < count → P (getD list j noIdentity))
                 → (j : ℕ) → j < count + 1 → P (getD more j noIdentity)
             at-more P here before j m = either (equal-or-not j count)
-                (λ q. rw (q, getD-set-same list count (identityOn a z node) noIdentity room) here)
-                (λ q. rw (getD-set-other list count j (identityOn a z node) noIdentity (q .1)) (before j (omega arith)))
+                (λ q. rw (q, getD-set-same list count new noIdentity room) here)
+                (λ q. rw (getD-set-other list count j new noIdentity (q .1)) (before j (omega arith)))
 
-            named-more : actorNames s more (count + 1) ≡ actorsIn (h .done ++ (claimOn s a z x y ∷ []))
+            named-more : actorNames s more (count + 1) ≡ actorsIn (h .done ++ (claimOn s a x ∷ []))
             unfolding nameAt
             named-more =
                 listed-more (λ j. nameAt s (getD more j noIdentity .actor)) count
                 ∙ (λ t. listed-same (λ j. nameAt s (getD more j noIdentity .actor)) (λ j. nameAt s (getD list j noIdentity .actor)) count
                 (λ j l. let q : j ≢ count = λ v. absurd (omega arith) in
-                ap (λ (v : IdentityData). nameAt s (v .actor)) (getD-set-other list count j (identityOn a z node) noIdentity q)) t
-                ++ (nameAt s (getD-set-same list count (identityOn a z node) noIdentity room t .actor) ∷ []))
-                ∙ (λ t. h .named t ++ (partOf s a (z - a) ∷ []))
-                ∙ sym (map-end (λ (c : Claim). c .actor) (h .done) (claimOn s a z x y))
+                ap (λ (v : IdentityData). nameAt s (v .actor)) (getD-set-other list count j new noIdentity q)) t
+                ++ (nameAt s (getD-set-same list count new noIdentity room t .actor) ∷ []))
+                ∙ (λ t. h .named t ++ (nameAt s a ∷ []))
+                ∙ sym (map-end (λ (c : Claim). c .actor) (h .done) (claimOn s a x))
 
             -- the identity is stored
-            storing-next : Storing b nodes actors s from more (count + 1) e
+            pub storing-next : Storing b nodes actors s from more (count + 1) e
             storing-next =
-                let longer : take (count + 1) more ≡ take count list ++ (identityOn a z node ∷ []) = rw add-one
-                (take-suc-set list count (identityOn a z node) room) in
-                let moved : h .done ++ h .rest ≡ (h .done ++ (claimOn s a z x y ∷ [])) ++ next .0 = ap (λ (t : List Claim). h .done ++ t) (next .2)
-                ∙ sym (append-assoc (h .done) (claimOn s a z x y ∷ []) (next .0)) in
+                let longer : take (count + 1) more ≡ take count list ++ (new ∷ []) = rw add-one
+                (take-suc-set list count new room) in
+                let moved : h .done ++ h .rest ≡ (h .done ++ (claimOn s a x ∷ [])) ++ next .0 = ap (λ (t : List Claim). h .done ++ t) (next .2)
+                ∙ sym (append-assoc (h .done) (claimOn s a x ∷ []) (next .0)) in
                 record {
-                  done = h .done ++ (claimOn s a z x y ∷ []);
+                  done = h .done ++ (claimOn s a x ∷ []);
                   rest = next .0;
                   whole = h .whole ∙ ap just moved;
                   left = next .1;
                   known = known-more;
                   once = once-more;
                   counted = simp length-append (omega (arith, h .counted));
-                  size = length-set list count (identityOn a z node) ∙ h .size;
+                  size = length-set list count new ∙ h .size;
                   named = named-more;
-                  inside = at-more (λ (v : IdentityData). v .actor .start + v .actor .length ≤ length s)
-                      (omega (arith, p .actor .some, p .actor .inside)) (h .inside);
+                  inside = at-more (λ (v : IdentityData). HasPart s (v .actor)) (p .actor .inside) (h .inside);
                   is = λ text d.
                       ap (λ (t : List IdentityData). map (identityIn text) t) longer
-                      ∙ map-end (identityIn text) (take count list) (identityOn a z node)
+                      ∙ map-end (identityIn text) (take count list) new
                       ∙ (λ t. h .is text d t ++ (named-in text d t ∷ []))
-                      ∙ sym (map-end (numbered b) (h .done) (claimOn s a z x y));
+                      ∙ sym (map-end (numbered b) (h .done) (claimOn s a x));
                   below = at-more (λ (v : IdentityData). v .node < nodes) low (h .below);
                   places =
                       ap (λ (t : List IdentityData). t ++ placedBy (wordsAt s e) (map (numbered b) (next .0))) longer
-                      ∙ append-assoc (take count list) (identityOn a z node ∷ []) (placedBy (wordsAt s e) (map (numbered b) (next .0)))
+                      ∙ append-assoc (take count list) (new ∷ []) (placedBy (wordsAt s e) (map (numbered b) (next .0)))
                       ∙ ap (λ (t : List IdentityData). take count list ++ t) next-placed
                       ∙ h .places
                       ∙ ap (λ (t : List Claim). placedBy (wordsAt s from) (map (numbered b) t)) moved;
-                  past = one-less list count (identityOn a z node) (has-room few) (h .past);
+                  past = one-less list count new (has-room few) (h .past);
                 }
-
-            pub storing-given : (v : IdentityData) → v ≡ identityOn a z node → Storing b nodes actors s from (set list count v) (count + 1) e
-            storing-given v d = subst (λ (u : IdentityData). Storing b nodes actors s from (set list count u) (count + 1) e) (sym d) storing-next
 
   -- no identity is left
   module _ (n : at.None ≡ claimAt (claimNext 2 s i)) (xs : List Claim) (d : claimsFrom s from ≡ just xs) where

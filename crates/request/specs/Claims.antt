@@ -1,5 +1,5 @@
 -- The identities of a request's line, by places.
-use Prim.Native.Nat.{ℕ, _-_, _<_}
+use Prim.Native.Nat.{ℕ, _<_}
 use mathlib.Core.Path.{_≡_}
 use mathlib.Core.List.{List, _∷_, map}
 use mathlib.Core.Bool.{Bool, true, false, not, _||_}
@@ -9,7 +9,7 @@ use Rattle.model.specs.Choice.{Maybe, nothing, just, andThen}
 use Rattle.model.specs.Lists.{each}
 use Rattle.model.specs.Names.{mem}
 use Rattle.model.specs.Request.{Claim, claimOf}
-use Rattle.model.specs.Answers.{partOf}
+use Rattle.model.specs.Answers.{nameAt}
 use Rattle.model.specs.RequestPlaces.{wordsFrom}
 use Rattle.model.specs.declared.Part.{Part}
 use Rattle.items.specs.declared.ClaimRead.{ClaimRead}
@@ -23,10 +23,6 @@ use Rattle.request.specs.declared.ClaimAt.the-variants as at
 -- the words of a line from a place on, where no word byte stands before
 abbrev pub wordsAt : Bytes → ℕ → List Part
 wordsAt s i = wordsFrom false i (drop i s)
-
--- the part from a place to another
-abbrev pub partAt : ℕ → ℕ → Part
-partAt p q = record { start = p; length = q - p }
 
 -- the identities from a place on, to the end of the line
 unfoldable pub claimsFrom : Bytes → ℕ → Maybe (List Claim)
@@ -50,20 +46,20 @@ abbrev pub isUnknown : List Bytes → List Bytes → Claim → Bool
 isUnknown actors nodes c = not (mem (c .actor) actors) || not (mem (c .node) nodes)
 
 -- where the names of an identity stand, behind the place i; what follows it begins at e
-pub record ClaimPlaces (s : Bytes) (i a b x y e : ℕ) : Type 0 where
-  pub actor : WordPlaces s i a b
-  pub node : WordPlaces s i x y
+pub record ClaimPlaces (s : Bytes) (i : ℕ) (a x : Part) (e : ℕ) : Type 0 where
+  pub actor : WordPlaces s i a
+  pub node : WordPlaces s i x
   pub onward : i < e
 
 -- an identity that was read, if one was
 abbrev pub claimAt : ClaimRead → ClaimAt
-claimAt (claim.Claim a b x y e) = at.At a b x y e
+claimAt (claim.Claim a x e) = at.At a x e
 claimAt (claim.Close e) = at.None
 claimAt claim.None = at.None
 
 -- where it stands
 abbrev pub ClaimPlaced : Bytes → ℕ → ClaimAt → Type 0
-ClaimPlaced s i (at.At a b x y e) = ClaimPlaces s i a b x y e
+ClaimPlaced s i (at.At a x e) = ClaimPlaces s i a x e
 ClaimPlaced s i at.None = Unit {0}
 
 -- the identity that follows, and where it stands
@@ -71,9 +67,9 @@ pub record NextClaim (s : Bytes) (i : ℕ) (r : ClaimAt) : Type 0 where
   pub is : r ≡ claimAt (claimNext 2 s i)
   pub placed : ClaimPlaced s i r
 
--- the identity whose names stand from a to b and from x to y
-abbrev pub claimOn : Bytes → ℕ → ℕ → ℕ → ℕ → Claim
-claimOn s a b x y = record { actor = partOf s a (b - a); node = partOf s x (y - x) }
+-- the identity whose names stand at these places
+abbrev pub claimOn : Bytes → Part → Part → Claim
+claimOn s a x = record { actor = nameAt s a; node = nameAt s x }
 
 -- what f says of the identities from one place on, g says of those from another on
 abbrev pub Left : {A : Type 0} → (List Claim → A) → (List Claim → A) → Bytes → ℕ → ℕ → Type 0

@@ -1,5 +1,4 @@
 -- What the form of a request's line says: the line that the model reads, by places.
-use Prim.Native.Nat.{ℕ, _-_}
 use mathlib.Core.Path.{_≡_}
 use mathlib.Core.List.{List}
 use mathlib.Core.Bool.{false}
@@ -7,26 +6,28 @@ use lib.ListN.{drop}
 use Rattle.model.specs.Bytes.{Bytes}
 use Rattle.model.specs.Choice.{Maybe, nothing, just}
 use Rattle.model.specs.Request.{Claim, RequestLine}
-use Rattle.model.specs.Answers.{partOf}
+use Rattle.model.specs.Answers.{nameAt}
 use Rattle.model.specs.RequestPlaces.{wordsFrom}
+use Rattle.model.specs.declared.Part.{Part}
 use Rattle.items.specs.declared.ItemAt.{ItemAt}
 use Rattle.items.specs.declared.ItemAt.the-variants as piece
+use Rattle.items.specs.Pieces.{behind}
 use Rattle.items.specs.Places.{WordPlaces}
 use Rattle.request.specs.Claims.{wordsAt, claimsFrom}
 
--- a request's line, the category's name standing from p to q
-abbrev pub lineOf : Bytes → ℕ → ℕ → List Claim → RequestLine
-lineOf s p q xs = record { category = partOf s p (q - p); claims = xs }
+-- a request's line by where the category's name stands
+abbrev pub lineOf : Bytes → Part → List Claim → RequestLine
+lineOf s w xs = record { category = nameAt s w; claims = xs }
 
--- its category's name stands from p to q, its identities and their words from q on
-pub record LineRead (s : Bytes) (line : Maybe RequestLine) (p q : ℕ) : Type 0 where
-  pub places : WordPlaces s 0 p q
+-- where its category's name stands; its identities and their words follow it
+pub record LineRead (s : Bytes) (line : Maybe RequestLine) (w : Part) : Type 0 where
+  pub places : WordPlaces s 0 w
   pub claims : List Claim
-  pub are : claimsFrom s q ≡ just claims
-  pub is : line ≡ just (lineOf s p q claims)
-  pub words : drop 2 (wordsFrom false 0 s) ≡ wordsAt s q
+  pub are : claimsFrom s (behind w) ≡ just claims
+  pub is : line ≡ just (lineOf s w claims)
+  pub words : drop 2 (wordsFrom false 0 s) ≡ wordsAt s (behind w)
 
 -- what a form says of the line that the model reads
 abbrev pub FormRead : Bytes → Maybe RequestLine → ItemAt → Type 0
-FormRead s line (piece.At p q) = LineRead s line p q
+FormRead s line (piece.At w) = LineRead s line w
 FormRead s line piece.None = line ≡ nothing

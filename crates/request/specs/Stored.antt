@@ -1,5 +1,5 @@
 -- The identities of a request as plain data: the actors' names by places of the text, the nodes by number.
-use Prim.Native.Nat.{ℕ, _+_, _≤_, _<_}
+use Prim.Native.Nat.{ℕ, _≤_, _<_}
 use mathlib.Core.Path.{_≡_}
 use mathlib.Core.List.{List, map}
 use lib.ListN.{length, getD, take, replicate}
@@ -11,21 +11,18 @@ use Rattle.model.specs.Request.{Claim, Identity}
 use Rattle.model.specs.Answers.{partOf, nameAt, identityIn}
 use Rattle.model.specs.RequestPlaces.{noIdentity, placedBy, slots}
 use Rattle.model.specs.declared.Identity.{Identity as IdentityData}
+use Rattle.text.specs.Parts.{HasPart}
 use Rattle.book_tables.specs.declared.BookCounts.{BookCounts}
 use Rattle.book_tables.specs.Listed.{listed}
 use Rattle.book_tables.specs.View.{bookAt}
 use Rattle.rules_tables.specs.declared.RulesCounts.{RulesCounts}
 use Rattle.request.specs.declared.Identities.{Identities}
-use Rattle.request.specs.Claims.{wordsAt, partAt, claimsFrom}
+use Rattle.request.specs.Claims.{wordsAt, claimsFrom}
 use Rattle.request.specs.Faults.{FaultTold}
 
 -- eight times no identity
 abbrev pub noIdentities : List IdentityData
 noIdentities = replicate 8 noIdentity
-
--- an identity whose actor's name stands from a place to another, by the number of its node
-abbrev pub identityOn : ℕ → ℕ → ℕ → IdentityData
-identityOn a b node = record { actor = partAt a b; node = node }
 
 -- an identity with the number of its node
 abbrev pub numbered : Book → Claim → Identity
@@ -46,7 +43,7 @@ actorNames s list n = listed (λ j. nameAt s (getD list j noIdentity .actor)) n
 
 -- they stand inside the line
 abbrev pub InsideAll : Bytes → List IdentityData → ℕ → Type 0
-InsideAll s list n = (j : ℕ) → j < n → getD list j noIdentity .actor .start + getD list j noIdentity .actor .length ≤ length s
+InsideAll s list n = (j : ℕ) → j < n → HasPart s (getD list j noIdentity .actor)
 
 -- these identities, from a place on, stand in the array, wherever the line is the first of a text; their nodes are below a count;
 -- each stands where its own words do, and the slots behind them hold none

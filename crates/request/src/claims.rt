@@ -12,19 +12,7 @@ fn claim_at(read: ClaimRead) -> ClaimAt
     ensures { λ r. ⌜ r ≡ claimAt read ⌝ }
 {
     match read {
-        ClaimRead::Claim {
-            actor_start,
-            actor_end,
-            node_start,
-            node_end,
-            next,
-        } => ClaimAt::At {
-            actor_start,
-            actor_end,
-            node_start,
-            node_end,
-            next,
-        },
+        ClaimRead::Claim { actor, node, next } => ClaimAt::At { actor, node, next },
         ClaimRead::Close(_) => ClaimAt::None,
         ClaimRead::None => ClaimAt::None,
     }
@@ -45,10 +33,8 @@ pub fn are_claims(s: &[u8], from: usize) -> bool
     while i < s.len() {
         match forms::claim(s, i, LIST_DEPTH) {
             ClaimRead::Claim {
-                actor_start: _,
-                actor_end: _,
-                node_start: _,
-                node_end: _,
+                actor: _,
+                node: _,
                 next,
             } => {
                 i = next;

@@ -19,6 +19,7 @@ use rules_tables::ACTORS;
 use rules_tables::CATEGORIES;
 use rules_tables::CATEGORY_WORDS;
 use rules_tables::RulesCounts;
+use text::parts;
 
 // Whether a name is that of an actor of category k.
 pub fn is_actor(rules: &[u8], table: &[u32], sizes: RulesCounts, k: usize, name: &[u8]) -> bool
@@ -57,20 +58,13 @@ pub fn has_unknown(
 {
     let mut i = from;
     while i < s.len() {
-        let ClaimAt::At {
-            actor_start,
-            actor_end,
-            node_start,
-            node_end,
-            next,
-        } = claims::next_claim(s, i)
-        else {
+        let ClaimAt::At { actor, node, next } = claims::next_claim(s, i) else {
             return false;
         };
-        if !is_actor(rules, table, sizes, k, &s[actor_start..actor_end]) {
+        if !is_actor(rules, table, sizes, k, parts::part_of(s, actor)) {
             return true;
         }
-        if !is_node(book, words, counts, &s[node_start..node_end]) {
+        if !is_node(book, words, counts, parts::part_of(s, node)) {
             return true;
         }
         i = next;

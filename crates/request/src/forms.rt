@@ -10,6 +10,7 @@ use items::forms::LINE_DEPTH;
 use items::places;
 use text::End;
 use text::compare;
+use text::parts;
 
 // (request CATEGORY (id ACTOR NODE)...): where the category's name stands; the identities follow it.
 pub fn request_form(s: &[u8]) -> ItemAt
@@ -18,17 +19,17 @@ pub fn request_form(s: &[u8]) -> ItemAt
     let End::At(i) = forms::open_form(s, 0) else {
         return ItemAt::None;
     };
-    let ItemAt::At(a, b) = places::next_word(s, i, true, LINE_DEPTH) else {
+    let ItemAt::At(word) = places::next_word(s, i, true, LINE_DEPTH) else {
         return ItemAt::None;
     };
-    if !compare::same_bytes(&s[a..b], b"request") {
+    if !compare::same_bytes(parts::part_of(s, word), b"request") {
         return ItemAt::None;
     }
-    let ItemAt::At(p, q) = places::next_name(s, b, LINE_DEPTH) else {
+    let ItemAt::At(name) = places::next_name(s, word.start + word.length, LINE_DEPTH) else {
         return ItemAt::None;
     };
-    if claims::are_claims(s, q) {
-        return ItemAt::At(p, q);
+    if claims::are_claims(s, name.start + name.length) {
+        return ItemAt::At(name);
     }
     ItemAt::None
 }

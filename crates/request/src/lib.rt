@@ -6,6 +6,7 @@ pub mod read;
 pub mod stores;
 
 use model::Identity;
+use model::Part;
 use model::limits::MAX_IDENTITIES;
 
 // What a line's identities say: the lowest fault of the line, 0 being none, and without a fault the identities, of which so many are counted.
@@ -15,13 +16,11 @@ pub struct Identities {
     pub count: usize,
 }
 
-// (id ACTOR NODE): the starts and ends of its two names, and the place behind; or that none follows.
+// (id ACTOR NODE): where its two names stand, and the place behind; or that none follows.
 pub enum ClaimAt {
     At {
-        actor_start: usize,
-        actor_end: usize,
-        node_start: usize,
-        node_end: usize,
+        actor: Part,
+        node: Part,
         next: usize,
     },
     None,

@@ -24,6 +24,7 @@ use model::refusal_numbers::TOO_LONG;
 use rules_tables::CATEGORY_NAMES;
 use rules_tables::RulesCounts;
 use text::BytesRead;
+use text::parts;
 
 // A refusal of the request, beside no category and no identities.
 fn refused(number: u32, line: u32) -> RequestRead
@@ -54,14 +55,16 @@ fn read_line(
     requires { ⌜ Fits (now book) (now words) counts × RulesFit (now rules) (now table) sizes ⌝ }
     ensures { λ r. ⌜ LineReads (now (book .entry)) (now (words .entry)) counts (now (rules .entry)) (now (table .entry)) sizes (now (s .entry)) r ⌝ }
 {
-    let ItemAt::At(p, q) = forms::request_form(s) else {
+    let ItemAt::At(name) = forms::request_form(s) else {
         return refused(BROKEN, 1);
     };
-    let k = book_tables::names::find_name(rules, table, CATEGORY_NAMES, sizes.categories, &s[p..q]);
+    let category = parts::part_of(s, name);
+    let k = book_tables::names::find_name(rules, table, CATEGORY_NAMES, sizes.categories, category);
     if sizes.categories <= k {
         return refused(NOT_DECLARED, 1);
     }
-    let given = stores::identities(book, words, counts, rules, table, sizes, k, s, q);
+    let end = name.start + name.length;
+    let given = stores::identities(book, words, counts, rules, table, sizes, k, s, end);
     let fault = given.fault;
     if fault != 0 {
         return refused(fault, 1);

@@ -4,7 +4,7 @@ ghost use Prim.Native.Nat.{_≤_, _<_};
 ghost use Rattle.model.specs.Names.{mem};
 ghost use Rattle.book_tables.specs.Fits.{Fits};
 ghost use Rattle.rules_tables.specs.Fits.{Fits as RulesFit};
-ghost use Rattle.request.specs.Stored.{identityOn, ClaimsAsked, faultOnly, actorNames, InsideAll, ClaimsTold};
+ghost use Rattle.request.specs.Stored.{ClaimsAsked, faultOnly, actorNames, InsideAll, ClaimsTold};
 use crate::ClaimAt;
 use crate::Identities;
 use crate::claims;
@@ -18,6 +18,7 @@ use model::refusal_numbers::NOT_DECLARED;
 use model::refusal_numbers::SECOND_TIME;
 use rules_tables::RulesCounts;
 use text::compare;
+use text::parts;
 
 // No identity.
 pub const NONE: Identity = Identity {
@@ -27,20 +28,6 @@ pub const NONE: Identity = Identity {
     },
     node: 0,
 };
-
-// An identity, its actor's name standing from a place to another.
-fn identity(from: usize, to: usize, node: usize) -> Identity
-    requires { ⌜ from ≤ to ⌝ }
-    ensures { λ r. ⌜ r ≡ identityOn from to node ⌝ }
-{
-    Identity {
-        actor: Part {
-            start: from,
-            length: to - from,
-        },
-        node,
-    }
-}
 
 // A fault, beside no identities.
 fn fault_only(fault: u32) -> Identities
@@ -63,9 +50,7 @@ fn is_given(s: &[u8], list: [Identity; MAX_IDENTITIES], count: usize, name: &[u8
     while i < count {
         let given = list[i];
         let actor = given.actor;
-        let start = actor.start;
-        let end = start + actor.length;
-        if compare::same_bytes(name, &s[start..end]) {
+        if compare::same_bytes(name, parts::part_of(s, actor)) {
             return true;
         }
         i += 1;
@@ -93,14 +78,7 @@ pub fn identities(
     let mut count = 0;
     let mut i = from;
     while i < s.len() {
-        let ClaimAt::At {
-            actor_start,
-            actor_end,
-            node_start,
-            node_end,
-            next,
-        } = claims::next_claim(s, i)
-        else {
+        let ClaimAt::At { actor, node, next } = claims::next_claim(s, i) else {
             if is_given(s, list, count, b"requestor") {
                 return Identities {
                     fault: 0,
@@ -110,21 +88,24 @@ pub fn identities(
             }
             return fault_only(NO_REQUESTOR);
         };
-        let actor = &s[actor_start..actor_end];
-        if !faults::is_actor(rules, table, sizes, k, actor) {
+        let name = parts::part_of(s, actor);
+        if !faults::is_actor(rules, table, sizes, k, name) {
             return fault_only(NOT_DECLARED);
         }
-        let node = book_tables::names::find_node(book, words, counts, &s[node_start..node_end]);
-        if counts.nodes <= node {
+        let number = book_tables::names::find_node(book, words, counts, parts::part_of(s, node));
+        if counts.nodes <= number {
             return fault_only(NOT_DECLARED);
         }
-        if is_given(s, list, count, actor) {
+        if is_given(s, list, count, name) {
             if faults::has_unknown(book, words, counts, rules, table, sizes, k, s, next) {
                 return fault_only(NOT_DECLARED);
             }
             return fault_only(SECOND_TIME);
         }
-        list[count] = identity(actor_start, actor_end, node);
+        list[count] = Identity {
+            actor,
+            node: number,
+        };
         count += 1;
         i = next;
     }

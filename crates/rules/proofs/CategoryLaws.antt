@@ -1,5 +1,5 @@
 -- A category's line without a fault, and the words with it.
-use Prim.Native.Nat.{ℕ, _+_, _-_, _*_, _/_, _%_, _≤_, _<_}
+use Prim.Native.Nat.{ℕ, _+_, _*_, _/_, _%_, _≤_, _<_}
 use mathlib.Core.Path.{_≡_, refl, sym, ap, subst, _∙_}
 use mathlib.Core.List.{List, []}
 use mathlib.Core.Bool.{Bool, false, _||_}
@@ -14,6 +14,8 @@ use Rattle.model.specs.Choice.{nothing}
 use Rattle.model.specs.Lists.{all}
 use Rattle.model.specs.Names.{mem, twice, place}
 use Rattle.model.specs.Book.{emptyBook}
+use Rattle.model.specs.Answers.{nameAt}
+use Rattle.model.specs.declared.Part.{Part}
 use Rattle.model.specs.ReadRules.{category, rulesFault, addRule}
 use Rattle.model.proofs.Members.{_∈_, is-false, all-e, mem-e}
 use Rattle.model.proofs.Decides.{not-e, or-l, or-r}
@@ -38,7 +40,6 @@ use Rattle.rules_tables.proofs.Added.{category-added}
 use Rattle.rules_tables.proofs.Fewer.{fewer-names}
 use Rattle.items.specs.Places.{WordPlaces}
 use Rattle.name_lists.specs.Names.{NamesRead}
-use Rattle.rules.specs.Forms.{between}
 use Rattle.rules.specs.Stored.{LineAt, NamesStored, CategoryClear, CategoryAdded}
 use Rattle.rules.proofs.TestLaws.{fault-by-tests}
 use Rattle.rules.proofs.StoreLaws.{name-of-line, inside-of-line}
@@ -155,9 +156,9 @@ module _ (words : List ℕ) (k name actors over lower : ℕ) (room : rulesWords 
       (simp length-set (omega arith))
 
 -- the words after a category's line
-module _ (text : Bytes) (words words1 words2 : List ℕ) (c : RulesCounts) (s : Bytes) (base p q : ℕ) (xs ys : List Bytes) (f : Fits text words c)
-    (line : LineAt text base s) (h : WordPlaces s 0 p q)
-    (clear : Clear text words c (between s p q) xs ys)
+module _ (text : Bytes) (words words1 words2 : List ℕ) (c : RulesCounts) (s : Bytes) (base : ℕ) (cat : Part) (xs ys : List Bytes) (f : Fits text words c)
+    (line : LineAt text base s) (h : WordPlaces s 0 cat)
+    (clear : Clear text words c (nameAt s cat) xs ys)
     (st1 : NamesStored words words1 (actorsFrom (c .categories)) s base xs)
     (st2 : NamesStored words1 words2 (overFrom (c .categories)) s base ys) where
   agree2 : Agree c words words2
@@ -198,19 +199,19 @@ module _ (text : Bytes) (words words1 words2 : List ℕ) (c : RulesCounts) (s : 
   module _ (lower : ℕ) (low : (m : ℕ) → bit lower m
       ≡ (eqb m (c .categories) || belowSome text words2 (c .categories) m (namesAt text words2 (overFrom (c .categories)) (length ys)))) where
     abbrev words3 : List ℕ
-    words3 = withCategory words2 (c .categories) ((base + p) * 32 + (q - p)) (length xs) (length ys) lower
+    words3 = withCategory words2 (c .categories) ((base + cat .start) * 32 + cat .length) (length xs) (length ys) lower
 
     agree3 : Agree c words2 words3
-    agree3 = after-agrees words2 (c .categories) ((base + p) * 32 + (q - p)) (length xs) (length ys) lower (fits2 .room) (clear .few) c refl
+    agree3 = after-agrees words2 (c .categories) ((base + cat .start) * 32 + cat .length) (length xs) (length ys) lower (fits2 .room) (clear .few) c refl
 
     same3 : (z : ℕ) → 19 + 27 * c .categories ≤ z → wordAt words3 z ≡ wordAt words2 z
-    same3 = other words2 (c .categories) ((base + p) * 32 + (q - p)) (length xs) (length ys) lower (fits2 .room) (clear .few)
+    same3 = other words2 (c .categories) ((base + cat .start) * 32 + cat .length) (length xs) (length ys) lower (fits2 .room) (clear .few)
 
     actors-count : wordAt words3 (actorCountAt (c .categories)) ≡ length xs
-    actors-count = actors-there words2 (c .categories) ((base + p) * 32 + (q - p)) (length xs) (length ys) lower (fits2 .room) (clear .few)
+    actors-count = actors-there words2 (c .categories) ((base + cat .start) * 32 + cat .length) (length xs) (length ys) lower (fits2 .room) (clear .few)
 
     over-count : wordAt words3 (overCountAt (c .categories)) ≡ length ys
-    over-count = over-there words2 (c .categories) ((base + p) * 32 + (q - p)) (length xs) (length ys) lower (fits2 .room) (clear .few)
+    over-count = over-there words2 (c .categories) ((base + cat .start) * 32 + cat .length) (length xs) (length ys) lower (fits2 .room) (clear .few)
 
     actor-words : (i : ℕ) → i < length xs → At words1 words3 (actorsFrom (c .categories) + i)
     actor-words i l = same3 _ (omega arith) ∙ st2 .below _ (omega (arith, clear .few-actors))
@@ -253,48 +254,48 @@ module _ (text : Bytes) (words words1 words2 : List ℕ) (c : RulesCounts) (s : 
             ranks-kept
                 (nameOf text words2 (overFrom (c .categories)) i),
           ) (over-earlier i l′);
-      lower = λ m. ap (λ (w : ℕ). bit w m) (lower-there words2 (c .categories) ((base + p) * 32 + (q - p)) (length xs) (length ys) lower (fits2 .room)
-          (clear .few))
+      lower = λ m. ap (λ (w : ℕ). bit w m) (lower-there words2 (c .categories) ((base + cat .start) * 32 + cat .length) (length xs) (length ys) lower
+          (fits2 .room) (clear .few))
           ∙ low m ∙ rw over-count (ap (λ (b : Bool). eqb m (c .categories) || b) (sym (below-same m)));
     }
 
-    name-word : wordAt words3 (names + c .categories) ≡ (base + p) * 32 + (q - p)
-    name-word = name-there words2 (c .categories) ((base + p) * 32 + (q - p)) (length xs) (length ys) lower (fits2 .room) (clear .few)
+    name-word : wordAt words3 (names + c .categories) ≡ (base + cat .start) * 32 + cat .length
+    name-word = name-there words2 (c .categories) ((base + cat .start) * 32 + cat .length) (length xs) (length ys) lower (fits2 .room) (clear .few)
 
-    name-is : nameOf text words3 names (c .categories) ≡ between s p q
+    name-is : nameOf text words3 names (c .categories) ≡ nameAt s cat
     unfolding nameOf
-    name-is = ap (nameIn text) name-word ∙ name-of-line text base s 0 p q line h
+    name-is = ap (nameIn text) name-word ∙ name-of-line text base s 0 cat line h
 
-    pub category-stored : Holds text words3 (moreCategories c) (addRule (rulesAt text words c) (category (between s p q) xs ys))
+    pub category-stored : Holds text words3 (moreCategories c) (addRule (rulesAt text words c) (category (nameAt s cat) xs ys))
     unfolding actorsAt overAt
     category-stored =
         let a = agree-trans c words words2 words3 agree2 agree3 in
         let r = category-added text words words3 c (rulesAt text words c) (record { fits = f; is = refl }) a (clear .few)
-        (rw name-word (inside-of-line text base s 0 p q line h)) (rw (name-is, category-names text words c) (clear .new)) slot-fits in
-        subst (λ (v : List Bytes). Holds text words3 (moreCategories c) (addRule (rulesAt text words c) (category (between s p q) xs v)))
+        (rw name-word (inside-of-line text base s 0 cat line h)) (rw (name-is, category-names text words c) (clear .new)) slot-fits in
+        subst (λ (v : List Bytes). Holds text words3 (moreCategories c) (addRule (rulesAt text words c) (category (nameAt s cat) xs v)))
         (ap (namesAt text words3 (overFrom (c .categories))) over-count ∙ over-are)
         (subst (λ (v : List Bytes). Holds text words3 (moreCategories c)
-        (addRule (rulesAt text words c) (category (between s p q) v (overAt text words3 (c .categories)))))
+        (addRule (rulesAt text words c) (category (nameAt s cat) v (overAt text words3 (c .categories)))))
         (ap (namesAt text words3 (actorsFrom (c .categories))) actors-count ∙ actors-are)
         (subst (λ (v : Bytes). Holds text words3 (moreCategories c)
         (addRule (rulesAt text words c) (category v (actorsAt text words3 (c .categories)) (overAt text words3 (c .categories))))) name-is r))
 
     -- the same, by what the stores answer
     pub category-done : (words′ : List ℕ) (n m : ℕ) → n ≡ length xs → m ≡ length ys
-        → words′ ≡ withCategory words2 (c .categories) ((base + p) * 32 + (q - p)) n m lower
-        → Holds text words′ (moreCategories c) (addRule (rulesAt text words c) (category (between s p q) xs ys))
-    category-done words′ n m ea eo e = subst (λ (w : List ℕ). Holds text w (moreCategories c) (addRule (rulesAt text words c) (category (between s p q) xs ys)))
-        (ap (λ (v : ℕ). withCategory words2 (c .categories) ((base + p) * 32 + (q - p)) (length xs) v lower) (sym eo)
-        ∙ ap (λ (v : ℕ). withCategory words2 (c .categories) ((base + p) * 32 + (q - p)) v m lower) (sym ea) ∙ sym e) category-stored
+        → words′ ≡ withCategory words2 (c .categories) ((base + cat .start) * 32 + cat .length) n m lower
+        → Holds text words′ (moreCategories c) (addRule (rulesAt text words c) (category (nameAt s cat) xs ys))
+    category-done words′ n m ea eo e = subst (λ (w : List ℕ). Holds text w (moreCategories c) (addRule (rulesAt text words c) (category (nameAt s cat) xs ys)))
+        (ap (λ (v : ℕ). withCategory words2 (c .categories) ((base + cat .start) * 32 + cat .length) (length xs) v lower) (sym eo)
+        ∙ ap (λ (v : ℕ). withCategory words2 (c .categories) ((base + cat .start) * 32 + cat .length) v m lower) (sym ea) ∙ sym e) category-stored
 
 -- a line without a fault
-module _ (text : Bytes) (words : List ℕ) (c : RulesCounts) (s : Bytes) (base p q a o : ℕ) (g : CategoryClear text words c s base p q a o) where
-  pub clear-of : Clear text words c (between s p q) (g .actors .names) (g .over .names)
-  clear-of = clear-facts text words c (between s p q) (g .actors .names) (g .over .names) (g .clear emptyBook)
+module _ (text : Bytes) (words : List ℕ) (c : RulesCounts) (s : Bytes) (base : ℕ) (cat : Part) (a o : ℕ) (g : CategoryClear text words c s base cat a o) where
+  pub clear-of : Clear text words c (nameAt s cat) (g .actors .names) (g .over .names)
+  clear-of = clear-facts text words c (nameAt s cat) (g .actors .names) (g .over .names) (g .clear emptyBook)
 
   pub added-of : (words′ : List ℕ) → Holds text words′ (moreCategories c)
-      (addRule (rulesAt text words c) (category (between s p q) (g .actors .names) (g .over .names)))
-      → CategoryAdded text words words′ c s p q a o (moreCategories c)
+      (addRule (rulesAt text words c) (category (nameAt s cat) (g .actors .names) (g .over .names)))
+      → CategoryAdded text words words′ c s cat a o (moreCategories c)
   added-of words′ holds = record {
     fits = holds .fits;
     is = λ x y ex ey.
@@ -302,6 +303,6 @@ module _ (text : Bytes) (words : List ℕ) (c : RulesCounts) (s : Bytes) (base p
         let go = g .over-are in
         let dx : g .actors ≡ x = cc in
         let dy : g .over ≡ y = cc in
-        holds .is ∙ ap (λ (v : NamesRead). addRule (rulesAt text words c) (category (between s p q) (v .names) (g .over .names))) dx
-        ∙ ap (λ (v : NamesRead). addRule (rulesAt text words c) (category (between s p q) (x .names) (v .names))) dy;
+        holds .is ∙ ap (λ (v : NamesRead). addRule (rulesAt text words c) (category (nameAt s cat) (v .names) (g .over .names))) dx
+        ∙ ap (λ (v : NamesRead). addRule (rulesAt text words c) (category (nameAt s cat) (x .names) (v .names))) dy;
   }

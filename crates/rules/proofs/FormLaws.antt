@@ -1,5 +1,5 @@
 -- The steps of reading a line's form.
-use Prim.Native.Nat.{ℕ, _+_, _-_}
+use Prim.Native.Nat.{ℕ, _+_, _<_}
 use mathlib.Core.Path.{_≡_, refl, sym, ap, subst, _∙_}
 use mathlib.Core.List.{List}
 use mathlib.Core.Bool.{Bool, true, false}
@@ -12,7 +12,8 @@ use Rattle.model.specs.Forms.{first, atEnd}
 use Rattle.model.specs.Grammar.{queryText}
 use Rattle.model.specs.QueryText.{QueryText}
 use Rattle.model.specs.ReadRules.{RulesLine, category, policy, categoryLine, policyLine, rulesLine}
-use Rattle.model.specs.Answers.{partOf}
+use Rattle.model.specs.Answers.{nameAt}
+use Rattle.model.specs.declared.Part.{Part}
 use Rattle.text.specs.declared.End.{End}
 use Rattle.text.specs.declared.End.the-variants as end
 use Rattle.items.specs.declared.ItemAt.{ItemAt}
@@ -20,15 +21,17 @@ use Rattle.items.specs.declared.ItemAt.the-variants as piece
 use Rattle.items.specs.declared.NameItem.{NameItem}
 use Rattle.items.specs.declared.NameItem.the-variants as name
 use Rattle.items.specs.Rest.{formAt, lineForm, lineAt, endsAfter}
-use Rattle.items.specs.Pieces.{namePlaces, wordNext, nameNext, quotedNext, onPiece, onPlace}
+use Rattle.items.specs.Pieces.{behind, namePlaces, wordNext, nameNext, quotedNext, onPiece, onPlace}
 use Rattle.items.specs.Forms.{formOpens, formCloses}
 use Rattle.items.proofs.FormLaws.{line-form, form-word, form-quoted, form-end}
 use Rattle.items.proofs.RestLaws.{rest-same, rest-nothing}
-use Rattle.items.specs.Places.{WordPlaces, QuotedPlaces, QuotedPlaced}
+use Rattle.items.specs.Places.{WordPlaces, QuotedPlaced}
 use Rattle.name_lists.specs.Names.{NamesRead, namesBehind, namesEnd, headedAt}
 use Rattle.name_lists.proofs.Behind.{headed-names}
 use Rattle.name_lists.proofs.Forms.{form-on, no-name, a-name}
-use Rattle.rules.specs.Forms.{between, afterList, ListRead, NamesList, CategoryRead, PolicyRead, FormRead}
+use Rattle.rules.specs.Forms.{afterList, ListRead, NamesList, CategoryRead, PolicyRead, FormRead}
+use Rattle.rules.specs.declared.NamesAt.{NamesAt}
+use Rattle.rules.specs.declared.NamesAt.the-variants as list
 use Rattle.rules.specs.declared.RulesForm.{RulesForm}
 
 -- a list of names
@@ -77,37 +80,37 @@ module _ (s : Bytes) (i : ℕ) where
   unfolding categoryLine
   category-unnamed e = no-name s i _ e
 
-  module _ {p q : ℕ} (n : piece.At p q ≡ namePlaces (nameNext 3 false s i)) where
-    pub category-no-actors : ((free : Bool) (k : List Bytes → List Item → Maybe RulesLine) → afterList (bytesOf "actors") s free q k ≡ nothing)
+  module _ {cat : Part} (n : piece.At cat ≡ namePlaces (nameNext 3 false s i)) where
+    pub category-no-actors : ((free : Bool) (k : List Bytes → List Item → Maybe RulesLine) → afterList (bytesOf "actors") s free (behind cat) k ≡ nothing)
         → lineAt false i s categoryLine ≡ nothing
     unfolding categoryLine
-    category-no-actors h = a-name s i _ p q n ∙ h false _
+    category-no-actors h = a-name s i _ cat n ∙ h false _
 
-    module _ {a e : ℕ} (x : ListRead (bytesOf "actors") s q a e) where
+    module _ {a e : ℕ} (x : ListRead (bytesOf "actors") s (behind cat) a e) where
       pub category-no-over : ((free : Bool) (k : List Bytes → List Item → Maybe RulesLine) → afterList (bytesOf "over") s free e k ≡ nothing)
           → lineAt false i s categoryLine ≡ nothing
       unfolding categoryLine
-      category-no-over h = a-name s i _ p q n ∙ x .line false _ ∙ h true _
+      category-no-over h = a-name s i _ cat n ∙ x .line false _ ∙ h true _
 
       pub category-line : {o f : ℕ} (y : ListRead (bytesOf "over") s e o f)
-          → lineAt false i s categoryLine ≡ pick (formCloses 0 s f) (just (category (between s p q) (x .read .names) (y .read .names))) nothing
+          → lineAt false i s categoryLine ≡ pick (formCloses 0 s f) (just (category (nameAt s cat) (x .read .names) (y .read .names))) nothing
       unfolding categoryLine
-      category-line {o} {f} y = a-name s i _ p q n ∙ x .line false _ ∙ y .line true _
-          ∙ form-end lineForm true f s (category (between s p q) (x .read .names) (y .read .names))
+      category-line {o} {f} y = a-name s i _ cat n ∙ x .line false _ ∙ y .line true _
+          ∙ form-end lineForm true f s (category (nameAt s cat) (x .read .names) (y .read .names))
 
-      pub category-read : {o f : ℕ} (y : ListRead (bytesOf "over") s e o f) → WordPlaces s i p q → formCloses 0 s f ≡ true
-          → CategoryRead s (lineAt false i s categoryLine) p q a o
+      pub category-read : {o f : ℕ} (y : ListRead (bytesOf "over") s e o f) → WordPlaces s i cat → formCloses 0 s f ≡ true
+          → CategoryRead s (lineAt false i s categoryLine) cat a o
       category-read {o} {f} y h t = record {
         places = record { after = omega arith; some = h .some; inside = h .inside; short = h .short };
         actors = x .read;
         over = y .read;
         actors-are = x .is;
         over-are = y .is;
-        is = category-line y ∙ ap (λ (b : Bool). pick b (just (category (between s p q) (x .read .names) (y .read .names))) nothing) t;
+        is = category-line y ∙ ap (λ (b : Bool). pick b (just (category (nameAt s cat) (x .read .names) (y .read .names))) nothing) t;
       }
 
       pub category-open : {o f : ℕ} (y : ListRead (bytesOf "over") s e o f) → formCloses 0 s f ≡ false → lineAt false i s categoryLine ≡ nothing
-      category-open y t = category-line y ∙ ap (λ (b : Bool). pick b (just (category (between s p q) (x .read .names) (y .read .names))) nothing) t
+      category-open y t = category-line y ∙ ap (λ (b : Bool). pick b (just (category (nameAt s cat) (x .read .names) (y .read .names))) nothing) t
 
 -- a policy's line
 module _ (s : Bytes) (i : ℕ) where
@@ -115,54 +118,53 @@ module _ (s : Bytes) (i : ℕ) where
   unfolding policyLine
   policy-unnamed e = no-name s i _ e
 
-  module _ {p q : ℕ} (n : piece.At p q ≡ namePlaces (nameNext 3 false s i)) where
+  module _ {cat : Part} (n : piece.At cat ≡ namePlaces (nameNext 3 false s i)) where
     -- what the model makes of the text
     abbrev made : Bytes → Maybe RulesLine
-    made t = andThen (queryText t) (λ (tree : QueryText). just (policy (between s p q) (length t) tree))
+    made t = andThen (queryText t) (λ (tree : QueryText). just (policy (nameAt s cat) (length t) tree))
 
-    pub policy-no-text : piece.None ≡ quotedNext 3 false s q → lineAt false i s policyLine ≡ nothing
+    pub policy-no-text : piece.None ≡ quotedNext 3 false s (behind cat) → lineAt false i s policyLine ≡ nothing
     unfolding policyLine onPiece
     policy-no-text e =
-        a-name s i _ p q n
-        ∙ form-quoted lineForm false q s (λ t is. andThen (atEnd is t) made)
-        ∙ ap (λ (r : ItemAt). onPiece r (λ p q. lineAt false (q + 1) s (λ is. andThen (atEnd is (partOf s p (q - p))) made))) (sym e)
+        a-name s i _ cat n
+        ∙ form-quoted lineForm false (behind cat) s (λ t is. andThen (atEnd is t) made)
+        ∙ ap (λ (r : ItemAt). onPiece r (λ w. lineAt false (behind w + 1) s (λ is. andThen (atEnd is (nameAt s w)) made))) (sym e)
 
-    pub policy-line : {t u : ℕ} → piece.At t u ≡ quotedNext 3 false s q
-        → lineAt false i s policyLine ≡ pick (formCloses 0 s (u + 1)) (made (between s t u)) nothing
+    pub policy-line : {t : Part} → piece.At t ≡ quotedNext 3 false s (behind cat)
+        → lineAt false i s policyLine ≡ pick (formCloses 0 s (behind t + 1)) (made (nameAt s t)) nothing
     unfolding policyLine onPiece andThen
-    policy-line {t} {u} e =
-        a-name s i _ p q n
-        ∙ form-quoted lineForm false q s (λ t is. andThen (atEnd is t) made)
-        ∙ ap (λ (r : ItemAt). onPiece r (λ p q. lineAt false (q + 1) s (λ is. andThen (atEnd is (partOf s p (q - p))) made))) (sym e)
-        ∙ form-on false (u + 1) s (λ is. atEnd is (between s t u)) made
-        ∙ ap (λ (o : Maybe Bytes). andThen o made) (form-end lineForm false (u + 1) s (between s t u))
-        ∙ go (formCloses 0 s (u + 1))
+    policy-line {t} e =
+        a-name s i _ cat n
+        ∙ form-quoted lineForm false (behind cat) s (λ t is. andThen (atEnd is t) made)
+        ∙ ap (λ (r : ItemAt). onPiece r (λ w. lineAt false (behind w + 1) s (λ is. andThen (atEnd is (nameAt s w)) made))) (sym e)
+        ∙ form-on false (behind t + 1) s (λ is. atEnd is (nameAt s t)) made
+        ∙ ap (λ (o : Maybe Bytes). andThen o made) (form-end lineForm false (behind t + 1) s (nameAt s t))
+        ∙ go (formCloses 0 s (behind t + 1))
       where
-        go : (b : Bool) → andThen (pick b (just (between s t u)) nothing) made ≡ pick b (made (between s t u)) nothing
+        go : (b : Bool) → andThen (pick b (just (nameAt s t)) nothing) made ≡ pick b (made (nameAt s t)) nothing
         go true = refl
         go false = refl
 
-    module _ {t u : ℕ} (e : piece.At t u ≡ quotedNext 3 false s q) where
-      pub policy-read : WordPlaces s i p q → QuotedPlaces s t u → formCloses 0 s (u + 1) ≡ true → PolicyRead s (lineAt false i s policyLine) p q t u
+    module _ {t : Part} (e : piece.At t ≡ quotedNext 3 false s (behind cat)) where
+      pub policy-read : WordPlaces s i cat → behind t < length s → formCloses 0 s (behind t + 1) ≡ true → PolicyRead s (lineAt false i s policyLine) cat t
       policy-read h k c = record {
         places = record { after = omega arith; some = h .some; inside = h .inside; short = h .short };
-        some = k .some;
-        inside = omega (arith, k .inside);
-        is = policy-line e ∙ ap (λ (b : Bool). pick b (made (between s t u)) nothing) c;
+        inside = omega arith;
+        is = policy-line e ∙ ap (λ (b : Bool). pick b (made (nameAt s t)) nothing) c;
       }
 
-      pub policy-open : formCloses 0 s (u + 1) ≡ false → lineAt false i s policyLine ≡ nothing
-      policy-open c = policy-line e ∙ ap (λ (b : Bool). pick b (made (between s t u)) nothing) c
+      pub policy-open : formCloses 0 s (behind t + 1) ≡ false → lineAt false i s policyLine ≡ nothing
+      policy-open c = policy-line e ∙ ap (λ (b : Bool). pick b (made (nameAt s t)) nothing) c
 
 -- what was read, by the answer
-pub list-at : (head s : Bytes) (i : ℕ) {a e : ℕ} (r : ItemAt) → r ≡ piece.At a e → NamesList head s i r → ListRead head s i a e
+pub list-at : (head s : Bytes) (i : ℕ) {a e : ℕ} (r : NamesAt) → r ≡ list.At a e → NamesList head s i r → ListRead head s i a e
 list-at head s i r e h = subst (NamesList head s i) e h
 
-pub list-not : (head s : Bytes) (i : ℕ) (r : ItemAt) → r ≡ piece.None → NamesList head s i r → (free : Bool) (k : List Bytes → List Item → Maybe RulesLine)
+pub list-not : (head s : Bytes) (i : ℕ) (r : NamesAt) → r ≡ list.None → NamesList head s i r → (free : Bool) (k : List Bytes → List Item → Maybe RulesLine)
     → afterList head s free i k ≡ nothing
 list-not head s i r e h = subst (NamesList head s i) e h
 
-pub quoted-at : (s : Bytes) {t u : ℕ} (r : ItemAt) → r ≡ piece.At t u → QuotedPlaced s r → QuotedPlaces s t u
+pub quoted-at : (s : Bytes) {t : Part} (r : ItemAt) → r ≡ piece.At t → QuotedPlaced s r → behind t < length s
 quoted-at s r e h = subst (QuotedPlaced s) e h
 
 pub form-moved : (s : Bytes) (m m′ : Maybe RulesLine) (r : RulesForm) → m ≡ m′ → FormRead s m′ r → FormRead s m r
@@ -184,31 +186,32 @@ module _ (s : Bytes) where
 
     pub wordless : piece.None ≡ wordNext 3 true s i → andThen (lineItems s) rulesLine ≡ nothing
     unfolding rulesLine onPiece byWord
-    wordless w = opened ∙ form-word lineForm true i s 3 byWord ∙ ap (λ (r : ItemAt). onPiece r (λ p q. lineAt false q s (byWord (partOf s p (q - p))))) (sym w)
+    wordless w = opened ∙ form-word lineForm true i s 3 byWord ∙ ap (λ (r : ItemAt). onPiece r (λ w. lineAt false (behind w) s (byWord (nameAt s w)))) (sym w)
 
-    module _ {p q : ℕ} (w : piece.At p q ≡ wordNext 3 true s i) where
-      worded : andThen (lineItems s) rulesLine ≡ lineAt false q s (byWord (between s p q))
+    module _ {word : Part} (w : piece.At word ≡ wordNext 3 true s i) where
+      worded : andThen (lineItems s) rulesLine ≡ lineAt false (behind word) s (byWord (nameAt s word))
       unfolding rulesLine onPiece byWord
-      worded = opened ∙ form-word lineForm true i s 3 byWord ∙ ap (λ (r : ItemAt). onPiece r (λ p q. lineAt false q s (byWord (partOf s p (q - p))))) (sym w)
+      worded = opened ∙ form-word lineForm true i s 3 byWord ∙ ap (λ (r : ItemAt). onPiece r (λ w. lineAt false (behind w) s (byWord (nameAt s w)))) (sym w)
 
-      pub of-category : same (between s p q) (bytesOf "category") ≡ true → andThen (lineItems s) rulesLine ≡ lineAt false q s categoryLine
+      pub of-category : same (nameAt s word) (bytesOf "category") ≡ true → andThen (lineItems s) rulesLine ≡ lineAt false (behind word) s categoryLine
       unfolding byWord
-      of-category h = worded ∙ ap (λ (b : Bool). lineAt false q s
-          (λ is. pick b (categoryLine is) (pick (same (between s p q) (bytesOf "policy")) (policyLine is) nothing))) h
+      of-category h = worded ∙ ap (λ (b : Bool). lineAt false (behind word) s
+          (λ is. pick b (categoryLine is) (pick (same (nameAt s word) (bytesOf "policy")) (policyLine is) nothing))) h
 
-      module _ (h : same (between s p q) (bytesOf "category") ≡ false) where
-        not-category : andThen (lineItems s) rulesLine ≡ lineAt false q s (λ is. pick (same (between s p q) (bytesOf "policy")) (policyLine is) nothing)
+      module _ (h : same (nameAt s word) (bytesOf "category") ≡ false) where
+        not-category : andThen (lineItems s) rulesLine ≡ lineAt false (behind word) s
+            (λ is. pick (same (nameAt s word) (bytesOf "policy")) (policyLine is) nothing)
         unfolding byWord
-        not-category = worded ∙ ap (λ (b : Bool). lineAt false q s
-            (λ is. pick b (categoryLine is) (pick (same (between s p q) (bytesOf "policy")) (policyLine is) nothing))) h
+        not-category = worded ∙ ap (λ (b : Bool). lineAt false (behind word) s
+            (λ is. pick b (categoryLine is) (pick (same (nameAt s word) (bytesOf "policy")) (policyLine is) nothing))) h
 
-        pub of-policy : same (between s p q) (bytesOf "policy") ≡ true → andThen (lineItems s) rulesLine ≡ lineAt false q s policyLine
-        of-policy k = not-category ∙ ap (λ (b : Bool). lineAt false q s (λ is. pick b (policyLine is) nothing)) k
+        pub of-policy : same (nameAt s word) (bytesOf "policy") ≡ true → andThen (lineItems s) rulesLine ≡ lineAt false (behind word) s policyLine
+        of-policy k = not-category ∙ ap (λ (b : Bool). lineAt false (behind word) s (λ is. pick b (policyLine is) nothing)) k
 
-        pub of-neither : same (between s p q) (bytesOf "policy") ≡ false → andThen (lineItems s) rulesLine ≡ nothing
+        pub of-neither : same (nameAt s word) (bytesOf "policy") ≡ false → andThen (lineItems s) rulesLine ≡ nothing
         unfolding formAt
-        of-neither k = not-category ∙ ap (λ (b : Bool). lineAt false q s (λ is. pick b (policyLine is) nothing)) k
-            ∙ (rest-same 3 false q s _ _ (λ e is. never (endsAfter 0 s e)) ∙ rest-nothing 3 false q s)
+        of-neither k = not-category ∙ ap (λ (b : Bool). lineAt false (behind word) s (λ is. pick b (policyLine is) nothing)) k
+            ∙ (rest-same 3 false (behind word) s _ _ (λ e is. never (endsAfter 0 s e)) ∙ rest-nothing 3 false (behind word) s)
           where
             never : (b : Bool) → pick {A = Maybe RulesLine} b nothing nothing ≡ nothing
             never true = refl

@@ -18,6 +18,7 @@ use Rattle.model.specs.Book.{Book}
 use Rattle.model.specs.Rules.{Rules}
 use Rattle.model.specs.ReadRules.{RulesLine, rulesLine, rulesStep, covered}
 use Rattle.model.specs.Answers.{partOf}
+use Rattle.model.specs.declared.Part.{Part}
 use Rattle.text.specs.Places.{past}
 use Rattle.text.specs.Lines.{isInLine, lineAt}
 use Rattle.book_tables.specs.declared.BookCounts.{BookCounts}
@@ -64,11 +65,11 @@ module _ (text : Bytes) (words : List ℕ) (c : RulesCounts) (none : c .categori
 
 -- what a form says, by its case
 module _ (s : Bytes) (line : Maybe RulesLine) (r : RulesForm) (h : FormRead s line r) where
-  pub of-category : (p q a o : ℕ) → r ≡ Category p q a o → CategoryRead s line p q a o
-  of-category p q a o e = subst (FormRead s line) e h
+  pub of-category : (cat : Part) (a o : ℕ) → r ≡ Category cat a o → CategoryRead s line cat a o
+  of-category cat a o e = subst (FormRead s line) e h
 
-  pub of-policy : (p q t u : ℕ) → r ≡ Policy p q t u → PolicyRead s line p q t u
-  of-policy p q t u e = subst (FormRead s line) e h
+  pub of-policy : (cat t : Part) → r ≡ Policy cat t → PolicyRead s line cat t
+  of-policy cat t e = subst (FormRead s line) e h
 
   -- a line without a form: 3
   pub of-none : (b : Book) (x : Rules) → r ≡ None → stepOf b x line ≡ fault 3

@@ -1,5 +1,5 @@
 -- The lowest fault of a policy's line is the lower one of its text's and its own.
-use Prim.Native.Nat.{ℕ, _-_, _≤_, _<_}
+use Prim.Native.Nat.{ℕ, _<_}
 use mathlib.Core.Path.{_≡_, refl, sym, ap, _∙_}
 use mathlib.Core.List.{List, [], _∷_}
 use mathlib.Core.Bool.{Bool, true, false, not, _||_}
@@ -15,6 +15,9 @@ use Rattle.model.specs.Refusal.{lowest, _if_}
 use Rattle.model.specs.Book.{Book}
 use Rattle.model.specs.QueryText.{QueryText}
 use Rattle.model.specs.Grammar.{queryText}
+use Rattle.model.specs.Answers.{nameAt}
+use Rattle.model.specs.declared.Part.{Part}
+use Rattle.text.specs.Parts.{HasPart}
 use Rattle.model.specs.ReadQuery.{hasUndeclared, hasTwice, hasMistyped, tooMany, hasFromItself, queryFault}
 use Rattle.model.specs.Rules.{Rules, categoryNames}
 use Rattle.model.specs.ReadRules.{policy, hasPolicy, rulesFault}
@@ -29,7 +32,6 @@ use Rattle.rules_tables.specs.Enforced.{hasOne}
 use Rattle.rules_tables.proofs.Lowers.{category-names}
 use Rattle.rules_tables.proofs.PolicyLaws.{has-policy}
 use Rattle.query_faults.specs.TextFault.{numberOr, treeFault, textFault}
-use Rattle.rules.specs.Forms.{between}
 use Rattle.rules.specs.Policies.{lineNumber, policyOn, combined}
 
 combine : (u4 u5 u6 u7 u8 t4 t5 t7 : Bool)
@@ -91,17 +93,18 @@ module _ (text : Bytes) (words : List ℕ) (c : RulesCounts) (f : Fits text word
       (unknown-alone (hasOne words c m) (hasPolicy (rulesAt text words c) n) long fault)))
 
 -- the answer by what was found
-pub policy-answer : (text : Bytes) (words : List ℕ) (c : RulesCounts) → Fits text words c → (s : Bytes) (p q t u m : ℕ) (x : Bool) (r fault : ℕ)
-    → t ≤ u → u ≤ length s → m ≡ place (between s p q) (namesAt text words names (c .categories)) → x ≡ hasOne words c m
-    → r ≡ combined (leb (c .categories) m) x (ltb 2048 (u - t)) fault
-    → (b : Book) → fault ≡ textFault b (between s t u) → r ≡ lineNumber b (rulesAt text words c) (policyOn (between s p q) (between s t u))
-policy-answer text words c f s p q t u m x r fault tu us em ex er b ef =
-    let size : length (between s t u) ≡ u - t = part-size s t (u - t) (omega arith) in
+pub policy-answer : (text : Bytes) (words : List ℕ) (c : RulesCounts) → Fits text words c → (s : Bytes) (cat t : Part) (m : ℕ) (x : Bool) (r fault : ℕ)
+    → HasPart s t → m ≡ place (nameAt s cat) (namesAt text words names (c .categories)) → x ≡ hasOne words c m
+    → r ≡ combined (leb (c .categories) m) x (ltb 2048 (t .length)) fault
+    → (b : Book) → fault ≡ textFault b (nameAt s t) → r ≡ lineNumber b (rulesAt text words c) (policyOn (nameAt s cat) (nameAt s t))
+unfolding nameAt
+policy-answer text words c f s cat t m x r fault h em ex er b ef =
+    let size : length (nameAt s t) ≡ t .length = part-size s (t .start) (t .length) h in
     er
-    ∙ ap (λ (y : Bool). combined (leb (c .categories) m) y (ltb 2048 (u - t)) fault) ex
-    ∙ policy-by-number text words c f (between s p q) m em (ltb 2048 (u - t)) fault
-    ∙ ap (λ (k : ℕ). combined (not (mem (between s p q) (categoryNames (rulesAt text words c)))) (hasPolicy (rulesAt text words c) (between s p q))
+    ∙ ap (λ (y : Bool). combined (leb (c .categories) m) y (ltb 2048 (t .length)) fault) ex
+    ∙ policy-by-number text words c f (nameAt s cat) m em (ltb 2048 (t .length)) fault
+    ∙ ap (λ (k : ℕ). combined (not (mem (nameAt s cat) (categoryNames (rulesAt text words c)))) (hasPolicy (rulesAt text words c) (nameAt s cat))
     (ltb 2048 k) fault) (sym size)
-    ∙ ap (combined (not (mem (between s p q) (categoryNames (rulesAt text words c)))) (hasPolicy (rulesAt text words c) (between s p q))
-    (ltb 2048 (length (between s t u)))) ef
-    ∙ sym (policy-number b (rulesAt text words c) (between s p q) (between s t u))
+    ∙ ap (combined (not (mem (nameAt s cat) (categoryNames (rulesAt text words c)))) (hasPolicy (rulesAt text words c) (nameAt s cat))
+    (ltb 2048 (length (nameAt s t)))) ef
+    ∙ sym (policy-number b (rulesAt text words c) (nameAt s cat) (nameAt s t))

@@ -1,5 +1,5 @@
 -- A policy's line without a fault, and the words with it.
-use Prim.Native.Nat.{ℕ, _+_, _-_, _<_}
+use Prim.Native.Nat.{ℕ, _+_, _<_}
 use mathlib.Core.Path.{_≡_, refl, sym, ap, _∙_}
 use mathlib.Core.List.{List}
 use mathlib.Core.Bool.{Bool, true, false, not}
@@ -14,6 +14,8 @@ use Rattle.model.specs.Choice.{pick, Maybe, nothing, just}
 use Rattle.model.specs.Names.{mem, place}
 use Rattle.model.specs.QueryText.{QueryText}
 use Rattle.model.specs.Grammar.{queryText}
+use Rattle.model.specs.Answers.{nameAt}
+use Rattle.model.specs.declared.Part.{Part}
 use Rattle.model.specs.Rules.{Policy, categoryNames}
 use Rattle.model.specs.ReadRules.{policy, hasPolicy, addRule}
 use Rattle.book_tables.specs.View.{wordAt, nameOf, namesAt}
@@ -32,7 +34,6 @@ use Rattle.rules_tables.proofs.Added.{policy-added}
 use Rattle.rules_tables.proofs.Fewer.{fewer}
 use Rattle.book_tables.proofs.ListedLaws.{scan-found}
 use Rattle.query_faults.specs.TextFault.{treeFault, textFault}
-use Rattle.rules.specs.Forms.{between}
 use Rattle.rules.specs.Policies.{combined, PolicyClear, PolicyAdded}
 use Rattle.rules.proofs.StoreLaws.{part-of-line}
 use Rattle.rules.proofs.PolicyFaults.{policy-number}
@@ -50,29 +51,29 @@ clear-tests unknown second long f e = go (eqb f 3) unknown (eqb f 4) second refl
     go false false false true q e = absurd (omega arith)
     go false false false false q e = (refl, refl, λ z. let y = eq-eqb f 3 z in let w : _≡_ {A = ℕ} 0 1 = cc in omega arith)
 
-module _ (text : Bytes) (words : List ℕ) (c : RulesCounts) (s : Bytes) (base p q t u : ℕ) (g : PolicyClear text words c s base p q t u) (m : ℕ)
-    (em : m ≡ place (between s p q) (namesAt text words names (c .categories))) where
-  tests : (not (mem (between s p q) (categoryNames (rulesAt text words c))) ≡ false) × (hasPolicy (rulesAt text words c) (between s p q) ≡ false)
-      × (textFault (g .book) (between s t u) ≡ 3 → ⊥)
-  tests = clear-tests _ _ _ _ (sym (policy-number (g .book) (rulesAt text words c) (between s p q) (between s t u)) ∙ g .clear)
+module _ (text : Bytes) (words : List ℕ) (c : RulesCounts) (s : Bytes) (base : ℕ) (cat t : Part) (g : PolicyClear text words c s base cat t) (m : ℕ)
+    (em : m ≡ place (nameAt s cat) (namesAt text words names (c .categories))) where
+  tests : (not (mem (nameAt s cat) (categoryNames (rulesAt text words c))) ≡ false) × (hasPolicy (rulesAt text words c) (nameAt s cat) ≡ false)
+      × (textFault (g .book) (nameAt s t) ≡ 3 → ⊥)
+  tests = clear-tests _ _ _ _ (sym (policy-number (g .book) (rulesAt text words c) (nameAt s cat) (nameAt s t)) ∙ g .clear)
 
   pub is-declared : m < c .categories
   is-declared = either (below-or-not m (c .categories)) (λ l. l) (λ l. absurd (
       let y = not-false _ (tests .0) in
-      let x = ap (mem (between s p q)) (sym (category-names text words c)) ∙ y in
-      let d = mem-place (between s p q) (namesAt text words names (c .categories)) in
-      let o = le-ltb (place (between s p q) (namesAt text words names (c .categories))) (length (namesAt text words names (c .categories)))
+      let x = ap (mem (nameAt s cat)) (sym (category-names text words c)) ∙ y in
+      let d = mem-place (nameAt s cat) (namesAt text words names (c .categories)) in
+      let o = le-ltb (place (nameAt s cat) (namesAt text words names (c .categories))) (length (namesAt text words names (c .categories)))
       (omega (arith, length-names text words names (c .categories))) in
       let z : _≡_ {A = ℕ} 0 1 = cc in omega arith))
 
-  named-so : nameOf text words names m ≡ between s p q
-  named-so = ap (nameOf text words names) em ∙ place-named text words names (c .categories) (between s p q) (omega (arith, is-declared))
+  named-so : nameOf text words names m ≡ nameAt s cat
+  named-so = ap (nameOf text words names) em ∙ place-named text words names (c .categories) (nameAt s cat) (omega (arith, is-declared))
 
-  is-query : (tree : QueryText) × (queryText (between s t u) ≡ just tree)
+  is-query : (tree : QueryText) × (queryText (nameAt s t) ≡ just tree)
   unfolding textFault treeFault
-  is-query = go (queryText (between s t u)) refl
+  is-query = go (queryText (nameAt s t)) refl
     where
-      go : (o : Maybe QueryText) → queryText (between s t u) ≡ o → (tree : QueryText) × (queryText (between s t u) ≡ just tree)
+      go : (o : Maybe QueryText) → queryText (nameAt s t) ≡ o → (tree : QueryText) × (queryText (nameAt s t) ≡ just tree)
       go nothing e = absurd (tests .2 (ap (treeFault (g .book)) e))
       go (just tree) e = (tree, e)
 
@@ -111,10 +112,10 @@ module _ (text : Bytes) (words : List ℕ) (c : RulesCounts) (s : Bytes) (base p
   w1 = set words (policyAt (c .policies)) m
 
   abbrev w2 : List ℕ
-  w2 = set w1 (policyAt (c .policies) + 1) (base + t)
+  w2 = set w1 (policyAt (c .policies) + 1) (base + t .start)
 
   abbrev after : List ℕ
-  after = withPolicy words (c .policies) m (base + t) (u - t)
+  after = withPolicy words (c .policies) m (base + t .start) (t .length)
 
   agrees : Agree c words after
   unfolding withPolicy
@@ -123,52 +124,52 @@ module _ (text : Bytes) (words : List ℕ) (c : RulesCounts) (s : Bytes) (base p
       let f0 : Free c (policyAt (c .policies)) = omega arith in
       let f1 : Free c (policyAt (c .policies) + 1) = omega arith in
       let f2 : Free c (policyAt (c .policies) + 2) = omega arith in
-      agree-trans c words w1 (set w2 (policyAt (c .policies) + 2) (u - t)) (set-agrees c words (policyAt (c .policies)) m f0)
-      (agree-trans c w1 w2 (set w2 (policyAt (c .policies) + 2) (u - t)) (set-agrees c w1 (policyAt (c .policies) + 1) (base + t) f1)
-      (set-agrees c w2 (policyAt (c .policies) + 2) (u - t) f2))
+      agree-trans c words w1 (set w2 (policyAt (c .policies) + 2) (t .length)) (set-agrees c words (policyAt (c .policies)) m f0)
+      (agree-trans c w1 w2 (set w2 (policyAt (c .policies) + 2) (t .length)) (set-agrees c w1 (policyAt (c .policies) + 1) (base + t .start) f1)
+      (set-agrees c w2 (policyAt (c .policies) + 2) (t .length) f2))
 
   number-there : policyCategory after (c .policies) ≡ m
   unfolding withPolicy
   number-there =
-      getD-set-other w2 (policyAt (c .policies) + 2) (policyAt (c .policies)) (u - t) 0 (omega arith)
-      ∙ getD-set-other w1 (policyAt (c .policies) + 1) (policyAt (c .policies)) (base + t) 0 (omega arith)
+      getD-set-other w2 (policyAt (c .policies) + 2) (policyAt (c .policies)) (t .length) 0 (omega arith)
+      ∙ getD-set-other w1 (policyAt (c .policies) + 1) (policyAt (c .policies)) (base + t .start) 0 (omega arith)
       ∙ getD-set-same words (policyAt (c .policies)) m 0 (omega (arith, policy-room, g .fits .room))
 
-  start-there : wordAt after (policyAt (c .policies) + 1) ≡ base + t
+  start-there : wordAt after (policyAt (c .policies) + 1) ≡ base + t .start
   unfolding withPolicy
   start-there =
-      getD-set-other w2 (policyAt (c .policies) + 2) (policyAt (c .policies) + 1) (u - t) 0 (omega arith)
-      ∙ getD-set-same w1 (policyAt (c .policies) + 1) (base + t) 0 (let r = policy-room in let o = g .fits .room in simp length-set (omega arith))
+      getD-set-other w2 (policyAt (c .policies) + 2) (policyAt (c .policies) + 1) (t .length) 0 (omega arith)
+      ∙ getD-set-same w1 (policyAt (c .policies) + 1) (base + t .start) 0 (let r = policy-room in let o = g .fits .room in simp length-set (omega arith))
 
-  size-there : wordAt after (policyAt (c .policies) + 2) ≡ u - t
+  size-there : wordAt after (policyAt (c .policies) + 2) ≡ t .length
   unfolding withPolicy
-  size-there = getD-set-same w2 (policyAt (c .policies) + 2) (u - t) 0 (let r = policy-room in let o = g .fits .room in simp length-set (omega arith))
+  size-there = getD-set-same w2 (policyAt (c .policies) + 2) (t .length) 0 (let r = policy-room in let o = g .fits .room in simp length-set (omega arith))
 
-  text-there : policyText text after (c .policies) ≡ between s t u
-  unfolding policyText
-  text-there = rw (start-there, size-there) (part-of-line text base s t (u - t) (g .line) (omega (arith, g .some, g .inside)))
+  text-there : policyText text after (c .policies) ≡ nameAt s t
+  unfolding policyText nameAt
+  text-there = rw (start-there, size-there) (part-of-line text base s (t .start) (t .length) (g .line) (g .inside))
 
-  tree-there : (tree : QueryText) → queryText (between s t u) ≡ just tree → treeOf (policyText text after (c .policies)) ≡ tree
+  tree-there : (tree : QueryText) → queryText (nameAt s t) ≡ just tree → treeOf (policyText text after (c .policies)) ≡ tree
   unfolding treeOf treeOr
   tree-there tree e = ap (λ (v : Bytes). treeOr (queryText v)) text-there ∙ ap treeOr e
 
   fits-there : PolicyFits text after (c .categories) (c .policies)
   fits-there = record {
     counted = rw number-there is-declared;
-    inside = rw (start-there, size-there) (omega (arith, g .line .inside, g .some, g .inside));
+    inside = rw (start-there, size-there) (omega (arith, g .line .inside, g .inside));
     is-query = ap queryText text-there ∙ is-query .1 ∙ ap just (sym (tree-there (is-query .0) (is-query .1)));
   }
 
-  name-there : nameOf text after names m ≡ between s p q
+  name-there : nameOf text after names m ≡ nameAt s cat
   name-there = name-kept text words after names (c .categories) (agrees .named) m is-declared ∙ named-so
 
-  pub policy-stored : PolicyAdded text words after c s p q t u (morePolicies c)
+  pub policy-stored : PolicyAdded text words after c s cat t (morePolicies c)
   policy-stored =
       let holds = policy-added text words after c (rulesAt text words c) (record { fits = g .fits; is = refl }) agrees m
-      (length (between s t u)) number-there fits-there (rw name-there (tests .1)) in
+      (length (nameAt s t)) number-there fits-there (rw name-there (tests .1)) in
       record {
         fits = holds .fits;
         is = λ tree e. holds .is ∙ ap (λ (v : Bytes). addRule (rulesAt text words c)
-            (policy v (length (between s t u)) (treeOf (policyText text after (c .policies))))) name-there
-            ∙ ap (λ (v : QueryText). addRule (rulesAt text words c) (policy (between s p q) (length (between s t u)) v)) (tree-there tree e);
+            (policy v (length (nameAt s t)) (treeOf (policyText text after (c .policies))))) name-there
+            ∙ ap (λ (v : QueryText). addRule (rulesAt text words c) (policy (nameAt s cat) (length (nameAt s t)) v)) (tree-there tree e);
       }

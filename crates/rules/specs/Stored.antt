@@ -7,7 +7,8 @@ use Rattle.model.specs.Bytes.{Bytes}
 use Rattle.model.specs.Choice.{nothing, just}
 use Rattle.model.specs.Book.{Book}
 use Rattle.model.specs.ReadRules.{category, rulesFault, addRule}
-use Rattle.model.specs.Answers.{partOf}
+use Rattle.model.specs.Answers.{partOf, nameAt}
+use Rattle.model.specs.declared.Part.{Part}
 use Rattle.book_tables.specs.View.{wordAt, namesAt}
 use Rattle.book_tables.specs.Fits.{Inside}
 use Rattle.rules_tables.specs.declared.RulesCounts.{RulesCounts}
@@ -15,7 +16,6 @@ use Rattle.rules_tables.specs.View.{rulesAt}
 use Rattle.rules_tables.specs.Fits.{Fits}
 use Rattle.items.specs.Places.{WordPlaces}
 use Rattle.name_lists.specs.Names.{NamesRead, namesBehind}
-use Rattle.rules.specs.Forms.{between}
 
 -- a line stands in a text from a place on
 pub record LineAt (text : Bytes) (base : ℕ) (s : Bytes) : Type 0 where
@@ -46,19 +46,19 @@ pub record Storing (words words′ : List ℕ) (at : ℕ) (s : Bytes) (base i n 
   pub stored : NamesStored words words′ at s base done
 
 -- a category's line without a fault
-pub record CategoryClear (text : Bytes) (words : List ℕ) (c : RulesCounts) (s : Bytes) (base p q a o : ℕ) : Type 0 where
+pub record CategoryClear (text : Bytes) (words : List ℕ) (c : RulesCounts) (s : Bytes) (base : ℕ) (cat : Part) (a o : ℕ) : Type 0 where
   pub fits : Fits text words c
   pub short : length text ≤ 16384
   pub line : LineAt text base s
-  pub places : WordPlaces s 0 p q
+  pub places : WordPlaces s 0 cat
   pub actors : NamesRead
   pub over : NamesRead
   pub actors-are : namesBehind s a ≡ just actors
   pub over-are : namesBehind s o ≡ just over
-  pub clear : (b : Book) → rulesFault b (rulesAt text words c) (category (between s p q) (actors .names) (over .names)) ≡ nothing
+  pub clear : (b : Book) → rulesFault b (rulesAt text words c) (category (nameAt s cat) (actors .names) (over .names)) ≡ nothing
 
 -- the words then hold the rules with it
-pub record CategoryAdded (text : Bytes) (words words′ : List ℕ) (c : RulesCounts) (s : Bytes) (p q a o : ℕ) (r : RulesCounts) : Type 0 where
+pub record CategoryAdded (text : Bytes) (words words′ : List ℕ) (c : RulesCounts) (s : Bytes) (cat : Part) (a o : ℕ) (r : RulesCounts) : Type 0 where
   pub fits : Fits text words′ r
   pub is : (x y : NamesRead) → namesBehind s a ≡ just x → namesBehind s o ≡ just y
-      → rulesAt text words′ r ≡ addRule (rulesAt text words c) (category (between s p q) (x .names) (y .names))
+      → rulesAt text words′ r ≡ addRule (rulesAt text words c) (category (nameAt s cat) (x .names) (y .names))

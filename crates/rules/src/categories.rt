@@ -9,6 +9,7 @@ use book_tables::names::NAME_LENGTHS;
 use items::ItemAt;
 use items::forms::LIST_DEPTH;
 use items::places;
+use model::Part;
 use rules_tables::ACTORS;
 use rules_tables::CATEGORIES;
 use rules_tables::CATEGORY_WORDS;
@@ -26,37 +27,36 @@ fn store_names(words: &mut [u32], at: usize, s: &[u8], from: usize, base: usize)
     let mut n = 0;
     let mut i = from;
     while i < s.len() {
-        let ItemAt::At(p, q) = places::next_name(s, i, LIST_DEPTH) else {
+        let ItemAt::At(name) = places::next_name(s, i, LIST_DEPTH) else {
             return n;
         };
-        stores::store_name(words, at + n, base + p, q - p);
+        stores::store_name(words, at + n, base + name.start, name.length);
         n += 1;
-        i = q;
+        i = name.start + name.length;
     }
     n
 }
 
-// Adds a category: its name from p to q of the line, its actors' names from a on, the names of those it is over from o on.
+// Adds a category: its name in the line, its actors' names from a on, the names of those it is over from o on.
 pub fn add_category(
     text: &[u8],
     words: &mut [u32],
     counts: RulesCounts,
     s: &[u8],
     base: usize,
-    p: usize,
-    q: usize,
+    name: Part,
     a: usize,
     o: usize,
 ) -> RulesCounts
-    requires { ⌜ CategoryClear (now text) (now words) counts (now s) base p q a o ⌝ }
-    ensures { λ r. ⌜ CategoryAdded (now (text .entry)) (now (words .entry)) (now (words .exit)) counts (now (s .entry)) p q a o r ⌝ }
+    requires { ⌜ CategoryClear (now text) (now words) counts (now s) base name a o ⌝ }
+    ensures { λ r. ⌜ CategoryAdded (now (text .entry)) (now (words .entry)) (now (words .exit)) counts (now (s .entry)) name a o r ⌝ }
 {
     let k = counts.categories;
     let actors = store_names(words, CATEGORIES + CATEGORY_WORDS * k + ACTORS, s, a, base);
     let over = store_names(words, CATEGORIES + CATEGORY_WORDS * k + OVER, s, o, base);
     let set = lower::lower_set(text, words, k, over);
-    let name = ((base + p) * NAME_LENGTHS + (q - p)) as u32;
-    stores::store_category(words, k, name, actors, over, set);
+    let word = ((base + name.start) * NAME_LENGTHS + name.length) as u32;
+    stores::store_category(words, k, word, actors, over, set);
     RulesCounts {
         categories: k + 1,
         policies: counts.policies,

@@ -5,6 +5,7 @@ ghost use Rattle.model.specs.Items.{lineItems};
 ghost use Rattle.model.specs.ReadRules.{categoryLine, policyLine, rulesLine};
 ghost use Rattle.items.specs.Rest.{lineAt};
 ghost use Rattle.rules.specs.Forms.{NamesList, FormRead};
+use crate::NamesAt;
 use crate::RulesForm;
 use items::ItemAt;
 use items::forms;
@@ -14,35 +15,36 @@ use items::places;
 use name_lists::scans;
 use text::End;
 use text::compare;
+use text::parts;
 
 // (HEAD NAME...): the place behind its head, and the place behind it.
-fn names_list(s: &[u8], from: usize, head: &[u8]) -> ItemAt
+fn names_list(s: &[u8], from: usize, head: &[u8]) -> NamesAt
     ensures { λ r. ⌜ NamesList (now (head .entry)) (now (s .entry)) from r ⌝ }
 {
     let End::At(a) = name_lists::places::headed(s, from, head) else {
-        return ItemAt::None;
+        return NamesAt::None;
     };
     let End::At(e) = scans::names_end(s, a) else {
-        return ItemAt::None;
+        return NamesAt::None;
     };
-    ItemAt::At(a, e)
+    NamesAt::At(a, e)
 }
 
 // NAME (actors WORD...) (over CATEGORY...), behind the line's first word.
 fn category_form(s: &[u8], from: usize) -> RulesForm
     ensures { λ r. ⌜ FormRead (now (s .entry)) (lineAt false from (now (s .entry)) categoryLine) r ⌝ }
 {
-    let ItemAt::At(p, q) = places::next_name(s, from, LINE_DEPTH) else {
+    let ItemAt::At(name) = places::next_name(s, from, LINE_DEPTH) else {
         return RulesForm::None;
     };
-    let ItemAt::At(a, e) = names_list(s, q, b"actors") else {
+    let NamesAt::At(a, e) = names_list(s, name.start + name.length, b"actors") else {
         return RulesForm::None;
     };
-    let ItemAt::At(o, f) = names_list(s, e, b"over") else {
+    let NamesAt::At(o, f) = names_list(s, e, b"over") else {
         return RulesForm::None;
     };
     if forms::form_closes(s, f, LINE_CLOSES) {
-        return RulesForm::Category(p, q, a, o);
+        return RulesForm::Category(name, a, o);
     }
     RulesForm::None
 }
@@ -51,14 +53,14 @@ fn category_form(s: &[u8], from: usize) -> RulesForm
 fn policy_form(s: &[u8], from: usize) -> RulesForm
     ensures { λ r. ⌜ FormRead (now (s .entry)) (lineAt false from (now (s .entry)) policyLine) r ⌝ }
 {
-    let ItemAt::At(p, q) = places::next_name(s, from, LINE_DEPTH) else {
+    let ItemAt::At(name) = places::next_name(s, from, LINE_DEPTH) else {
         return RulesForm::None;
     };
-    let ItemAt::At(t, u) = places::next_quoted(s, q, LINE_DEPTH) else {
+    let ItemAt::At(query) = places::next_quoted(s, name.start + name.length, LINE_DEPTH) else {
         return RulesForm::None;
     };
-    if forms::form_closes(s, u + 1, LINE_CLOSES) {
-        return RulesForm::Policy(p, q, t, u);
+    if forms::form_closes(s, query.start + query.length + 1, LINE_CLOSES) {
+        return RulesForm::Policy(name, query);
     }
     RulesForm::None
 }
@@ -70,14 +72,16 @@ pub fn rules_form(s: &[u8]) -> RulesForm
     let End::At(i) = forms::open_form(s, 0) else {
         return RulesForm::None;
     };
-    let ItemAt::At(p, q) = places::next_word(s, i, true, LINE_DEPTH) else {
+    let ItemAt::At(word) = places::next_word(s, i, true, LINE_DEPTH) else {
         return RulesForm::None;
     };
-    if compare::same_bytes(&s[p..q], b"category") {
-        return category_form(s, q);
+    let first = parts::part_of(s, word);
+    let end = word.start + word.length;
+    if compare::same_bytes(first, b"category") {
+        return category_form(s, end);
     }
-    if compare::same_bytes(&s[p..q], b"policy") {
-        return policy_form(s, q);
+    if compare::same_bytes(first, b"policy") {
+        return policy_form(s, end);
     }
     RulesForm::None
 }

@@ -6,14 +6,21 @@ pub mod policies;
 pub mod steps;
 pub mod tests;
 
+use model::Part;
 use model::Refusal;
 use rules_tables::RulesCounts;
 
-// The form of a line, by places of the line. A category: its name's start and end, and the places behind the heads of its actors and of those it is over.
-// A policy: its category's start and end, and those of the text between the quotes.
+// The form of a line, by places of the line. A category: where its name stands, and the places behind the heads of its actors and of those it is over.
+// A policy: where its category's name stands, and the text between the quotes.
 pub enum RulesForm {
-    Category(usize, usize, usize, usize),
-    Policy(usize, usize, usize, usize),
+    Category(Part, usize, usize),
+    Policy(Part, Part),
+    None,
+}
+
+// (HEAD NAME...): the place behind its head, and the place behind it; or that no such list follows.
+pub enum NamesAt {
+    At(usize, usize),
     None,
 }
 

@@ -32,6 +32,7 @@ use query_faults::faulty;
 use rules_tables::RulesCounts;
 use rules_tables::no_counts;
 use text::BytesRead;
+use text::parts;
 
 // Reads one line by its form, the line beginning at the place `base` of the rules' text.
 fn form_step(
@@ -49,12 +50,12 @@ fn form_step(
         (stepOf (bookAt (now (book .entry)) (now (words .entry)) counts) (rulesAt (now (text .entry)) (now («rules_words» .entry)) known) (andThen (lineItems (now (s .entry))) rulesLine)) ⌝ }
 {
     match forms::rules_form(s) {
-        RulesForm::Category(p, q, a, o) => {
-            steps::category_step(text, rules_words, known, s, base, p, q, a, o)
+        RulesForm::Category(name, a, o) => {
+            steps::category_step(text, rules_words, known, s, base, name, a, o)
         }
-        RulesForm::Policy(p, q, t, u) => {
-            let fault = faulty::fault_of(book, words, counts, &s[t..u]);
-            steps::policy_step(text, rules_words, known, s, base, p, q, t, u, fault)
+        RulesForm::Policy(name, query) => {
+            let fault = faulty::fault_of(book, words, counts, parts::part_of(s, query));
+            steps::policy_step(text, rules_words, known, s, base, name, query, fault)
         }
         RulesForm::None => RulesStep::Fault(BROKEN),
     }

@@ -9,6 +9,7 @@ ghost use Rattle.model.specs.Choice.{just};
 ghost use Rattle.model.specs.Lists.{all};
 ghost use Rattle.model.specs.Names.{mem, twice};
 ghost use Rattle.model.specs.Book.{Book};
+ghost use Rattle.model.specs.Answers.{nameAt};
 ghost use Rattle.model.specs.ReadRules.{category, lacksActor, rulesFault};
 ghost use Rattle.book_tables.specs.View.{nameOf, namesAt};
 ghost use Rattle.book_tables.specs.Fits.{NamesFit};
@@ -17,11 +18,11 @@ ghost use Rattle.rules_tables.specs.View.{actorsAt, rulesAt};
 ghost use Rattle.rules_tables.specs.Fits.{CategoryFits, Fits};
 ghost use Rattle.items.specs.Places.{WordPlaces};
 ghost use Rattle.name_lists.specs.Names.{NamesRead, namesBehind};
-ghost use Rattle.rules.specs.Forms.{between};
 ghost use Rattle.rules.specs.Faults.{faultOf};
 use items::ItemAt;
 use items::forms::LIST_DEPTH;
 use items::places;
+use model::Part;
 use model::limits::MAX_ACTORS;
 use model::limits::MAX_CATEGORIES;
 use model::refusal_numbers::ACTOR_LACKING;
@@ -34,6 +35,7 @@ use rules_tables::CATEGORIES;
 use rules_tables::CATEGORY_NAMES;
 use rules_tables::CATEGORY_WORDS;
 use rules_tables::RulesCounts;
+use text::parts;
 
 // Whether some name from a place on is that of no category.
 fn is_unknown(text: &[u8], words: &[u32], count: usize, s: &[u8], from: usize) -> bool
@@ -43,13 +45,14 @@ fn is_unknown(text: &[u8], words: &[u32], count: usize, s: &[u8], from: usize) -
 {
     let mut i = from;
     while i < s.len() {
-        let ItemAt::At(p, q) = places::next_name(s, i, LIST_DEPTH) else {
+        let ItemAt::At(name) = places::next_name(s, i, LIST_DEPTH) else {
             return false;
         };
-        if count <= book_tables::names::find_name(text, words, CATEGORY_NAMES, count, &s[p..q]) {
+        let name_bytes = parts::part_of(s, name);
+        if count <= book_tables::names::find_name(text, words, CATEGORY_NAMES, count, name_bytes) {
             return true;
         }
-        i = q;
+        i = name.start + name.length;
     }
     false
 }
@@ -60,16 +63,16 @@ fn is_second(
     words: &[u32],
     count: usize,
     s: &[u8],
-    p: usize,
-    q: usize,
+    name: Part,
     a: usize,
     o: usize,
 ) -> bool
-    requires { ⌜ NamesFit (now text) (now words) names count × (names + count ≤ length (now words)) × WordPlaces (now s) 0 p q ⌝ }
+    requires { ⌜ NamesFit (now text) (now words) names count × (names + count ≤ length (now words)) × WordPlaces (now s) 0 name ⌝ }
     ensures { λ r. ⌜ ((x y : NamesRead) → namesBehind (now (s .entry)) a ≡ just x → namesBehind (now (s .entry)) o ≡ just y
-        → r ≡ (mem (between (now (s .entry)) p q) (namesAt (now (text .entry)) (now (words .entry)) names count) || twice (x .names) || twice (y .names))) ⌝ }
+        → r ≡ (mem (nameAt (now (s .entry)) name) (namesAt (now (text .entry)) (now (words .entry)) names count) || twice (x .names) || twice (y .names))) ⌝ }
 {
-    if book_tables::names::find_name(text, words, CATEGORY_NAMES, count, &s[p..q]) < count {
+    let name_bytes = parts::part_of(s, name);
+    if book_tables::names::find_name(text, words, CATEGORY_NAMES, count, name_bytes) < count {
         return true;
     }
     if scans::has_twice(s, a) {
@@ -176,21 +179,20 @@ pub fn category_fault(
     words: &[u32],
     counts: RulesCounts,
     s: &[u8],
-    p: usize,
-    q: usize,
+    name: Part,
     a: usize,
     o: usize,
 ) -> u32
-    requires { ⌜ Fits (now text) (now words) counts × WordPlaces (now s) 0 p q ⌝ }
+    requires { ⌜ Fits (now text) (now words) counts × WordPlaces (now s) 0 name ⌝ }
     ensures { λ r. ⌜ ((b : Book) (x y : NamesRead) → namesBehind (now (s .entry)) a ≡ just x → namesBehind (now (s .entry)) o ≡ just y
-        → rulesFault b (rulesAt (now (text .entry)) (now (words .entry)) counts) (category (between (now (s .entry)) p q) (x .names) (y .names))
+        → rulesFault b (rulesAt (now (text .entry)) (now (words .entry)) counts) (category (nameAt (now (s .entry)) name) (x .names) (y .names))
         ≡ faultOf r) ⌝ }
 {
     let count = counts.categories;
     if is_unknown(text, words, count, s, o) {
         return NOT_DECLARED;
     }
-    if is_second(text, words, count, s, p, q, a, o) {
+    if is_second(text, words, count, s, name, a, o) {
         return SECOND_TIME;
     }
     if is_past_limit(count, s, a) {

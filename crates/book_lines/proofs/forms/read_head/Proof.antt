@@ -1,40 +1,39 @@
+-- `book_lines::forms::read_head` meets its contract.
 use Rattle.book_lines.proofs.LineLaws.{step-broken, headed, headless}
 use Rattle.items.proofs.PlacedLaws.{placed-at}
-use Rattle.model.specs.Answers.{partOf}
 use native.Mathlib.Omega.{arith}
 use borrow.Author.Needs.{needs}
 use Rattle.book_lines.proofs.forms.read_head.Statement.{statement}
 use Rattle.book_lines.proofs.forms.read_head.Tie as tie
 
-sub-head : tie.Need-sub-head
-sub-head c =
-    let at-args = c .before .before .before .before .before .before .before in
-    omega (arith, placed-at (at-args .args .line .now) (at-args .args .from) _ (c .before .p .given .1) (c .before .before .before .next-word .ensures .placed))
+add-read-rest : tie.Need-add-read-rest
+add-read-rest c =
+    let at-next-word = c .before .before .before .before in
+    let at-good = at-next-word .before .before .before .before in
+    let a = at-good .args in
+    omega (arith, at-good .good, placed-at (a .line .now) (a .from) _ (c .before .before .word .given .1) (at-next-word .next-word .ensures .placed) .inside)
 
-part-head-start : tie.Need-part-head-start
-part-head-start c =
-    let at-args = c .before .before .before .before .before .before .before in
-    omega (arith, placed-at (at-args .args .line .now) (at-args .args .from) _ (c .before .p .given .1) (c .before .before .before .next-word .ensures .placed))
-
-part-head-end : tie.Need-part-head-end
-part-head-end c =
-    let at-args = c .before .before .before .before .before .before .before in
-    omega (arith, placed-at (at-args .args .line .now) (at-args .args .from) _ (c .before .p .given .1) (c .before .before .before .next-word .ensures .placed))
+part-of-requires : tie.Need-part-of-requires
+part-of-requires c κs =
+    let at-next-word = c .before .before .before .before in
+    let a = at-next-word .before .before .before .before .args in
+    placed-at (a .line .now) (a .from) _ (c .before .before .word .given .1) (at-next-word .next-word .ensures .placed) .inside
 
 returns : tie.Need-returns
-unfolding partOf
 returns c =
     let at-head = c .before .before .before .before in
-    let at-p = at-head .before .before .before in
-    let at-next-word = at-p .before .before in
+    let at-part-of = at-head .before in
+    let at-word = at-part-of .before .before .before in
+    let at-next-word = at-word .before .before in
     let a = at-next-word .before .before .before .before .args in
-    rw (headed (a .form) (a .line .now) (a .from) _ (at-next-word .next-word .ensures) _ _ (at-p .p .given .1), ← at-head .head .ensures)
+    let named = headed (a .form) (a .line .now) (a .from) _ (at-next-word .next-word .ensures) _ (at-word .word .given .1) in
+    rw (named, ← at-part-of .part-of .ensures, ← at-head .head .ensures)
     (c .before .before .read-rest .ensures)
 
 returns-2 : tie.Need-returns-2
 returns-2 c =
-    let at-args = c .before .before .before .before .before .before in
-    step-broken _ _ _ (headless _ (at-args .args .line .now) (at-args .args .from) _ (c .before .before .next-word .ensures) (c .enum-told .given .1))
+    let a = c .before .before .before .before .before .before .args in
+    step-broken _ _ _ (headless _ (a .line .now) (a .from) _ (c .before .before .next-word .ensures) (c .enum-told .given .1))
 
 pub read-head-spec : {M : Type 1} → statement M
 read-head-spec =
@@ -42,9 +41,8 @@ read-head-spec =
     (tie.spec
     (λ c κs. search needs)
     (λ c. search needs)
-    sub-head
-    part-head-start
-    part-head-end
+    add-read-rest
+    part-of-requires
     (λ c κs. search needs)
     (λ c κs. search needs)
     (λ c. search needs)

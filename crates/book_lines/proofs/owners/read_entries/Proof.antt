@@ -1,5 +1,5 @@
+-- `book_lines::owners::read_entries` meets its contract.
 use Rattle.book_lines.specs.Entries.{shift}
-use borrow.Author.Needs.{needs}
 use Rattle.book_lines.proofs.EntryForms.{Reading, entry-stands, reading-starts, reading-on, reading-ends, reading-spoilt, reading-broken}
 use Rattle.book_lines.proofs.PieceLaws.{ends-moved}
 use Rattle.book_tables.proofs.ValueLaws.{ends-later}
@@ -8,6 +8,7 @@ use Rattle.book_tables.proofs.OwnerLaws.{attr-table}
 use lib.ListN.{length}
 use Prim.Native.Nat.{_-_}
 use native.Mathlib.Omega.{arith}
+use borrow.Author.Needs.{needs}
 use Rattle.book_lines.proofs.owners.read_entries.Statement.{statement}
 use Rattle.book_lines.proofs.owners.read_entries.Tie as tie
 
@@ -20,140 +21,126 @@ abbrev μ-loop : tie.MeasureT-loop
 
 loop-holds : tie.Need-loop-holds Inv-loop μ-loop
 loop-holds c =
-    let s = c .before .before .before .before in
-    let a = s .args in
-    reading-starts (a .text .now) (a .line .now) (a .words .now) (a .counts) (c .tables .result .attributes) (c .tables .result .declared) (a .from) (s .pre .1)
+    let at-pre = c .before .before .before .before in
+    let a = at-pre .args in
+    reading-starts (a .text .now) (a .line .now) (a .words .now) (a .counts) (c .tables .result .attributes) (c .tables .result .declared) (a .from)
+    (at-pre .pre .1)
 
-add-t22 : tie.Need-add-t22 Inv-loop μ-loop
-add-t22 c =
+moved-requires : tie.Need-moved-requires Inv-loop μ-loop
+moved-requires c κs =
     let at-entry = c .before .before .before .before in
     let at-loop = at-entry .before in
-    let at-before = at-loop .before .before .before .before in
-    let s = at-before .before in
-    let a = s .args in
-    omega (
-      arith,
-      s .pre .0 .inside,
-      s .pre .0 .limit,
-      entry-stands (a .line .now) (at-loop .loop .at) _ (at-entry .entry .ensures) _ _ _ _
-          (c .before .before .start .given .1),
-    )
-
-sub-t23 : tie.Need-sub-t23 Inv-loop μ-loop
-sub-t23 c =
-    let at-entry = c .before .before .before .before in
-    let at-loop = at-entry .before in
-    let at-args = at-loop .before .before .before .before .before in
-    omega (arith, entry-stands (at-args .args .line .now) (at-loop .loop .at) _ (at-entry .entry .ensures) _ _ _ _ (c .before .before .start .given .1))
+    let at-pre = at-loop .before .before .before .before .before in
+    let a = at-pre .args in
+    let h = entry-stands (a .line .now) (at-loop .loop .at) _ (at-entry .entry .ensures) _ _ _ (c .before .before .name .given .1) in
+    omega (arith, at-pre .pre .0 .inside, at-pre .pre .0 .limit, h .inside)
 
 shifted-requires : tie.Need-shifted-requires Inv-loop μ-loop
 shifted-requires c κs =
-    let at-start = c .before .before in
-    let at-entry = at-start .before .before in
+    let at-name = c .before .before .before in
+    let at-entry = at-name .before .before in
     let at-loop = at-entry .before in
-    let at-before = at-loop .before .before .before .before in
-    let s = at-before .before in
-    let a = s .args in
-    ends-later _ 65536 (s .pre .0 .limit) (shift (a .base) (at-start .start .given .0 .1 .1 .0))
-    (ends-moved (a .text .now) (a .line .now) (a .base) (s .pre .0 .is) (s .pre .0 .inside) (at-start .start .given .0 .1 .1 .0)
-    (entry-stands (a .line .now) (at-loop .loop .at) _ (at-entry .entry .ensures) _ _ _ _ (at-start .start .given .1) .ends))
+    let at-pre = at-loop .before .before .before .before .before in
+    let a = at-pre .args in
+    let h = entry-stands (a .line .now) (at-loop .loop .at) _ (at-entry .entry .ensures) _ _ _ (at-name .name .given .1) in
+    let v = at-name .name .given .0 .1 .0 in
+    ends-later _ 65536 (at-pre .pre .0 .limit) (shift (a .base) v)
+    (ends-moved (a .text .now) (a .line .now) (a .base) (at-pre .pre .0 .is) (at-pre .pre .0 .inside) v (h .ends))
 
 add-entry-requires : tie.Need-add-entry-requires Inv-loop μ-loop
 add-entry-requires c κs =
-    let at-entry = c .before .before .before .before .before in
+    let at-name = c .before .before .before .before in
+    let at-entry = at-name .before .before in
     let at-loop = at-entry .before in
     let at-tables = at-loop .before in
-    let at-before = at-tables .before .before .before in
-    let s₀ = at-before .before in
-    let a = s₀ .args in
-    let f = fits-kept (a .text .now) (a .words .now) (at-loop .loop .words) (a .counts) (at-loop .loop .inv .agrees) (s₀ .pre .0 .fits) in
-    let s = entry-stands (a .line .now) (at-loop .loop .at) _ (at-entry .entry .ensures) _ _ _ _ (c .before .before .before .start .given .1) in
+    let at-pre = at-tables .before .before .before .before in
+    let a = at-pre .args in
+    let f = fits-kept (a .text .now) (a .words .now) (at-loop .loop .words) (a .counts) (at-loop .loop .inv .agrees) (at-pre .pre .0 .fits) in
+    let h = entry-stands (a .line .now) (at-loop .loop .at) _ (at-entry .entry .ensures) _ _ _ (at-name .name .given .1) in
     record {
       fits = f;
       table = rw (at-tables .tables .ensures .is) (attr-table (a .text .now) (at-loop .loop .words) (a .counts) f (a .owner));
-      short = s₀ .pre .0 .limit;
-      name-inside = omega (arith, s₀ .pre .0 .inside, s .inside, s .name);
-      value-inside = rw (c .shifted .ensures) (ends-moved (a .text .now) (a .line .now) (a .base) (s₀ .pre .0 .is) (s₀ .pre .0 .inside)
-          (c .before .before .before .start .given .0 .1 .1 .0) (s .ends));
-      counted = omega (arith, at-loop .loop .inv .few, at-loop .loop .inv .inside, s₀ .pre .0 .inside, s₀ .pre .0 .limit);
+      short = at-pre .pre .0 .limit;
+      name-inside = rw (c .before .moved .ensures) (omega (arith, at-pre .pre .0 .inside, h .inside));
+      value-inside = rw (c .shifted .ensures) (ends-moved (a .text .now) (a .line .now) (a .base) (at-pre .pre .0 .is) (at-pre .pre .0 .inside)
+          (at-name .name .given .0 .1 .0) (h .ends));
+      counted = omega (arith, at-loop .loop .inv .few, at-loop .loop .inv .inside, at-pre .pre .0 .inside, at-pre .pre .0 .limit);
     }
 
 loop-less : tie.Need-loop-less Inv-loop μ-loop
 loop-less c =
-    let at-start = c .before .before .before .before .before .before in
-    let at-entry = at-start .before .before in
+    let at-name = c .before .before .before .before .before .before .before in
+    let at-entry = at-name .before .before in
     let at-loop = at-entry .before in
-    let at-before = at-loop .before .before .before .before in
-    let s = at-before .before in
-    let a = s .args in
-    omega (
-      arith,
-      entry-stands (a .line .now) (at-loop .loop .at) _ (at-entry .entry .ensures) _ _ _ _ (at-start .start .given .1) .behind,
-      entry-stands
-          (a .line .now) (at-loop .loop .at) _ (at-entry .entry .ensures) _ _ _ _ (at-start .start .given .1) .next,
-    )
+    let a = at-loop .before .before .before .before .before .args in
+    let h = entry-stands (a .line .now) (at-loop .loop .at) _ (at-entry .entry .ensures) _ _ _ (at-name .name .given .1) in
+    omega (arith, h .behind, h .next)
 
 loop-again : tie.Need-loop-again Inv-loop μ-loop
 loop-again c =
-    let at-start = c .before .before .before .before .before .before in
-    let at-entry = at-start .before .before in
+    let at-shifted = c .before .before .before in
+    let at-moved = at-shifted .before in
+    let at-name = at-moved .before .before .before in
+    let at-entry = at-name .before .before in
     let at-loop = at-entry .before in
     let at-tables = at-loop .before in
-    let at-before = at-tables .before .before .before in
-    let s = at-before .before in
-    let a = s .args in
+    let at-pre = at-tables .before .before .before .before in
+    let a = at-pre .args in
     reading-on (a .text .now) (a .line .now) (a .words .now) (a .counts) (at-tables .tables .result .attributes) (at-tables .tables .result .declared)
     (a .from) (at-loop .loop .words) (at-loop .loop .at) (at-loop .loop .known) (at-loop .loop .inv) _ (at-entry .entry .ensures) (a .base)
-    (s .pre .0) _ _ _ _ _ _ (at-start .start .given .1) (rw (c .before .before .before .shifted .ensures) at (c .before .before .add-entry .ensures))
+    (at-pre .pre .0) _ _ _ _ _ (at-name .name .given .1)
+    (rw (at-moved .moved .ensures, at-shifted .shifted .ensures) at (c .before .before .add-entry .ensures))
 
 same-length : tie.Need-same-length Inv-loop μ-loop
-same-length c = c .before .before .before .before .before .before .loop .inv .agrees .tables .size
+same-length c =
+    let at-loop = c .before .before .before .before .before .before in
+    at-loop .loop .inv .agrees .tables .size
 
 returns : tie.Need-returns Inv-loop μ-loop
 returns c =
-    let at-entry = c .before .before .before .before .before in
+    let at-e = c .before .before .before in
+    let at-entry = at-e .before .before in
     let at-loop = at-entry .before in
     let at-tables = at-loop .before in
-    let at-before = at-tables .before .before .before in
-    let s = at-before .before in
-    let a = s .args in
+    let at-pre = at-tables .before .before .before .before in
+    let a = at-pre .args in
     rw (← at-tables .tables .ensures .is) (record {
       agrees = at-loop .loop .inv .agrees;
       told = reading-ends (a .text .now) (a .line .now) (a .words .now) (a .counts)
           (at-tables .tables .result .attributes) (at-tables .tables .result .declared) (a .from) (at-loop .loop .words) (at-loop .loop .at)
-          (at-loop .loop .known) (at-loop .loop .inv) _ (at-entry .entry .ensures) (omega (arith, s .pre .0 .inside, s .pre .0 .limit)) _
-          (c .before .before .before .e .given .1) _ (c .before .form-ends .ensures) (c .if1 .taken);
+          (at-loop .loop .known) (at-loop .loop .inv) _ (at-entry .entry .ensures) (omega (arith, at-pre .pre .0 .inside, at-pre .pre .0 .limit)) _
+          (at-e .e .given .1) _ (c .before .form-ends .ensures) (c .if1 .taken);
     })
 
 same-length-2 : tie.Need-same-length-2 Inv-loop μ-loop
-same-length-2 c = c .before .before .before .before .before .before .loop .inv .agrees .tables .size
+same-length-2 c =
+    let at-loop = c .before .before .before .before .before .before in
+    at-loop .loop .inv .agrees .tables .size
 
 returns-2 : tie.Need-returns-2 Inv-loop μ-loop
 returns-2 c =
-    let at-entry = c .before .before .before .before .before in
+    let at-e = c .before .before .before in
+    let at-entry = at-e .before .before in
     let at-loop = at-entry .before in
     let at-tables = at-loop .before in
-    let at-before = at-tables .before .before .before in
-    let s = at-before .before in
-    let a = s .args in
+    let a = at-tables .before .before .before .before .args in
     rw (← at-tables .tables .ensures .is) (record {
       agrees = at-loop .loop .inv .agrees;
       told = reading-spoilt (a .text .now) (a .line .now) (a .words .now) (a .counts)
           (at-tables .tables .result .attributes) (at-tables .tables .result .declared) (a .from) (at-loop .loop .words) (at-loop .loop .at)
-          (at-loop .loop .known) (at-loop .loop .inv) _ (at-entry .entry .ensures) _ (c .before .before .before .e .given .1) _
-          (c .before .form-ends .ensures) (c .if1 .left);
+          (at-loop .loop .known) (at-loop .loop .inv) _ (at-entry .entry .ensures) _ (at-e .e .given .1) _ (c .before .form-ends .ensures) (c .if1 .left);
     })
 
 same-length-3 : tie.Need-same-length-3 Inv-loop μ-loop
-same-length-3 c = c .before .before .before .loop .inv .agrees .tables .size
+same-length-3 c =
+    let at-loop = c .before .before .before in
+    at-loop .loop .inv .agrees .tables .size
 
 returns-3 : tie.Need-returns-3 Inv-loop μ-loop
 returns-3 c =
     let at-loop = c .before .before .before in
     let at-tables = at-loop .before in
-    let at-before = at-tables .before .before .before in
-    let s = at-before .before in
-    let a = s .args in
+    let a = at-tables .before .before .before .before .args in
     rw (← at-tables .tables .ensures .is) (record {
       agrees = at-loop .loop .inv .agrees;
       told = reading-broken (a .text .now) (a .line .now) (a .words .now) (a .counts)
@@ -171,8 +158,7 @@ read-entries-spec =
     loop-holds
     (λ c κs. search needs)
     (λ c. search needs)
-    add-t22
-    sub-t23
+    moved-requires
     shifted-requires
     add-entry-requires
     loop-less

@@ -1,3 +1,4 @@
+-- `book_lines::owners::read_names` meets its contract.
 use Rattle.book_lines.proofs.LineSteps.{names-first, names-second, names-third, names-all}
 use Rattle.items.proofs.PlacedLaws.{placed-at}
 use native.Mathlib.Omega.{arith}
@@ -5,57 +6,62 @@ use borrow.Author.Needs.{needs}
 use Rattle.book_lines.proofs.owners.read_names.Statement.{statement}
 use Rattle.book_lines.proofs.owners.read_names.Tie as tie
 
-sub-t16 : tie.Need-sub-t16
-sub-t16 c =
-    let at-a = c .before .before .before .before .before .before .before .before .before in
-    let at-next-name = at-a .before .before in
-    let at-args = at-next-name .before .before in
-    omega (arith, placed-at (at-args .args .line .now) (at-args .args .from) _ (at-a .a .given .1) (at-next-name .next-name .ensures .placed))
+add-next-name : tie.Need-add-next-name
+add-next-name c =
+    let at-next-name = c .before .before .before .before in
+    let at-good = at-next-name .before .before in
+    let a = at-good .args in
+    omega (arith, at-good .good, placed-at (a .line .now) (a .from) _ (c .before .before .label .given .1) (at-next-name .next-name .ensures .placed) .inside)
 
-sub-t18 : tie.Need-sub-t18
-sub-t18 c =
-    let at-c = c .before .before .before .before .before in
-    let at-next-name2 = at-c .before .before in
-    let at-args = at-next-name2 .before .before .before .before .before .before in
-    omega (arith, placed-at (at-args .args .line .now) _ _ (at-c .c .given .1) (at-next-name2 .next-name2 .ensures .placed))
+add-next-name-2 : tie.Need-add-next-name-2
+add-next-name-2 c =
+    let at-next-name2 = c .before .before .before .before in
+    let at-good = at-next-name2 .before .before .before .before .before .before .before in
+    let a = at-good .args in
+    omega (arith, at-good .good, placed-at (a .line .now) _ _ (c .before .before .x .given .1) (at-next-name2 .next-name2 .ensures .placed) .inside)
 
-sub-t20 : tie.Need-sub-t20
-sub-t20 c =
-    let at-args = c .before .before .before .before .before .before .before .before .before .before .before .before .before in
-    omega (arith, placed-at (at-args .args .line .now) _ _ (c .before .e .given .1) (c .before .before .before .next-name3 .ensures .placed))
+add-t15 : tie.Need-add-t15
+add-t15 c =
+    let at-next-name3 = c .before .before .before .before in
+    let at-good = at-next-name3 .before .before .before .before .before .before .before .before .before .before .before .before in
+    let a = at-good .args in
+    omega (arith, at-good .good, placed-at (a .line .now) _ _ (c .before .before .y .given .1) (at-next-name3 .next-name3 .ensures .placed) .inside)
 
 returns : tie.Need-returns
 returns c =
-    let at-c = c .before .before .before .before .before in
-    let at-next-name2 = at-c .before .before in
-    let at-a = at-next-name2 .before .before in
-    let at-next-name = at-a .before .before in
-    let at-args = at-next-name .before .before in
-    names-all _ (at-args .args .line .now) (at-args .args .from) _ (at-next-name .next-name .ensures) _ _ (at-a .a .given .1) _
-    (at-next-name2 .next-name2 .ensures) _ _ (at-c .c .given .1) _ (c .before .before .before .next-name3 .ensures) _ _ (c .before .e .given .1)
+    let at-next-name3 = c .before .before .before .before in
+    let at-x = at-next-name3 .before .before .before in
+    let at-next-name2 = at-x .before .before in
+    let at-label = at-next-name2 .before .before .before in
+    let at-next-name = at-label .before .before in
+    let a = at-next-name .before .before .args in
+    names-all _ (a .line .now) (a .from) _ (at-next-name .next-name .ensures) _ (at-label .label .given .1) _ (at-next-name2 .next-name2 .ensures) _
+    (at-x .x .given .1) _
+    (at-next-name3 .next-name3 .ensures) _ (c .before .before .y .given .1)
 
 returns-2 : tie.Need-returns-2
 returns-2 c =
-    let at-c = c .before .before .before .before in
-    let at-next-name2 = at-c .before .before in
-    let at-a = at-next-name2 .before .before in
-    let at-next-name = at-a .before .before in
-    let at-args = at-next-name .before .before in
-    names-third _ (at-args .args .line .now) (at-args .args .from) _ (at-next-name .next-name .ensures) _ _ (at-a .a .given .1) _
-    (at-next-name2 .next-name2 .ensures) _ _ (at-c .c .given .1) _ (c .before .before .next-name3 .ensures) (c .enum-told .given .1)
+    let at-x = c .before .before .before .before .before in
+    let at-next-name2 = at-x .before .before in
+    let at-label = at-next-name2 .before .before .before in
+    let at-next-name = at-label .before .before in
+    let a = at-next-name .before .before .args in
+    names-third _ (a .line .now) (a .from) _ (at-next-name .next-name .ensures) _ (at-label .label .given .1) _ (at-next-name2 .next-name2 .ensures) _
+    (at-x .x .given .1) _
+    (c .before .before .next-name3 .ensures) (c .enum-told .given .1)
 
 returns-3 : tie.Need-returns-3
 returns-3 c =
-    let at-a = c .before .before .before .before in
-    let at-next-name = at-a .before .before in
-    let at-args = at-next-name .before .before in
-    names-second _ (at-args .args .line .now) (at-args .args .from) _ (at-next-name .next-name .ensures) _ _ (at-a .a .given .1) _
-    (c .before .before .next-name2 .ensures) (c .enum-told2 .given .1)
+    let at-label = c .before .before .before .before .before in
+    let at-next-name = at-label .before .before in
+    let a = at-next-name .before .before .args in
+    names-second _ (a .line .now) (a .from) _ (at-next-name .next-name .ensures) _ (at-label .label .given .1) _ (c .before .before .next-name2 .ensures)
+    (c .enum-told2 .given .1)
 
 returns-4 : tie.Need-returns-4
 returns-4 c =
-    let at-args = c .before .before .before .before in
-    names-first _ (at-args .args .line .now) (at-args .args .from) _ (c .before .before .next-name .ensures) (c .enum-told3 .given .1)
+    let a = c .before .before .before .before .args in
+    names-first _ (a .line .now) (a .from) _ (c .before .before .next-name .ensures) (c .enum-told3 .given .1)
 
 pub read-names-spec : {M : Type 1} → statement M
 read-names-spec =
@@ -63,13 +69,13 @@ read-names-spec =
     (tie.spec
     (λ c κs. search needs)
     (λ c. search needs)
+    add-next-name
     (λ c κs. search needs)
     (λ c. search needs)
+    add-next-name-2
     (λ c κs. search needs)
     (λ c. search needs)
-    sub-t16
-    sub-t18
-    sub-t20
+    add-t15
     (λ c. search needs)
     (λ c. search needs)
     (λ c. search needs)

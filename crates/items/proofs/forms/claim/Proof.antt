@@ -2,7 +2,6 @@
 use Rattle.items.proofs.ListLaws.{at-claim, claim-yes, claim-no}
 use Rattle.items.proofs.PlacedLaws.{placed-at}
 use Rattle.items.specs.Forms.{claimHead, claimAfter, claimNext}
-use Rattle.model.specs.Answers.{partOf}
 use native.Mathlib.Omega.{arith}
 use mathlib.Core.Path.{sym, ap, _∙_}
 use borrow.Author.Needs.{needs}
@@ -14,56 +13,59 @@ unfolding claimHead
 returns c =
     let at-i = c .before .before .before .before in
     let at-open-list = at-i .before .before in
-    let at-args = at-open-list .before .before in
-    at-claim (at-args .args .depth) (at-args .args .s .now) (at-args .args .from) (at-i .i .given .0 .0)
-    (sym (at-i .i .given .1) ∙ at-open-list .open-list .ensures) _ (sym (c .enum-told .given .1) ∙ c .before .before .next-word .ensures .is)
+    let a = at-open-list .before .before .args in
+    at-claim (a .depth) (a .s .now) (a .from) (at-i .i .given .0 .0) (sym (at-i .i .given .1) ∙ at-open-list .open-list .ensures) _
+    (sym (c .enum-told .given .1) ∙ c .before .before .next-word .ensures .is)
 
-sub-same-bytes : tie.Need-sub-same-bytes
-sub-same-bytes c = omega (arith, placed-at _ _ _ (c .before .p .given .1) (c .before .before .before .next-word .ensures .placed))
+part-of-requires : tie.Need-part-of-requires
+part-of-requires c κs =
+    let at-next-word = c .before .before .before in
+    placed-at _ _ _ (c .before .word .given .1) (at-next-word .next-word .ensures .placed) .inside
 
-part-same-bytes-start : tie.Need-part-same-bytes-start
-part-same-bytes-start c = omega (arith, placed-at _ _ _ (c .before .p .given .1) (c .before .before .before .next-word .ensures .placed))
-
-part-same-bytes-end : tie.Need-part-same-bytes-end
-part-same-bytes-end c = omega (arith, placed-at _ _ _ (c .before .p .given .1) (c .before .before .before .next-word .ensures .placed))
+add-claim-rest : tie.Need-add-claim-rest
+add-claim-rest c =
+    let at-word = c .before .before .before .before .before .before in
+    let at-next-word = at-word .before .before in
+    omega (arith, placed-at _ _ _ (at-word .word .given .1) (at-next-word .next-word .ensures .placed))
 
 returns-2 : tie.Need-returns-2
-unfolding partOf
 returns-2 c =
-    let at-p = c .before .before .before .before .before .before in
-    let at-next-word = at-p .before .before in
+    let at-same-bytes = c .before .before .before in
+    let at-part-of = at-same-bytes .before .before in
+    let at-word = at-part-of .before .before in
+    let at-next-word = at-word .before .before in
     let at-i = at-next-word .before .before in
     let at-open-list = at-i .before .before in
-    let at-args = at-open-list .before .before in
-    c .claim-rest .ensures ∙ claim-yes (at-args .args .depth) (at-args .args .s .now) (at-p .p .given .0 .0) (at-p .p .given .0 .1 .0)
-    (sym (c .before .before .same-bytes .ensures) ∙ c .before .if1 .taken)
-    ∙ at-claim (at-args .args .depth) (at-args .args .s .now) (at-args .args .from) (at-i .i .given .0 .0)
-    (sym (at-i .i .given .1) ∙ at-open-list .open-list .ensures) _ (sym (at-p .p .given .1) ∙ at-next-word .next-word .ensures .is)
+    let a = at-open-list .before .before .args in
+    c .claim-rest .ensures ∙ claim-yes (a .depth) (a .s .now) (at-word .word .given .0 .0)
+    (sym (rw (at-part-of .part-of .ensures) at (at-same-bytes .same-bytes .ensures)) ∙ c .before .before .if1 .taken)
+    ∙ at-claim (a .depth) (a .s .now) (a .from) (at-i .i .given .0 .0) (sym (at-i .i .given .1) ∙ at-open-list .open-list .ensures) _
+    (sym (at-word .word .given .1) ∙ at-next-word .next-word .ensures .is)
 
 returns-3 : tie.Need-returns-3
-unfolding partOf
 returns-3 c =
-    let at-p = c .before .before .before .before .before in
-    let at-next-word = at-p .before .before in
+    let at-part-of = c .before .before .before in
+    let at-word = at-part-of .before .before in
+    let at-next-word = at-word .before .before in
     let at-i = at-next-word .before .before in
     let at-open-list = at-i .before .before in
-    let at-args = at-open-list .before .before in
-    claim-no (at-args .args .depth) (at-args .args .s .now) (at-p .p .given .0 .0) (at-p .p .given .0 .1 .0)
-    (sym (c .before .same-bytes .ensures) ∙ c .if1 .left)
-    ∙ at-claim (at-args .args .depth) (at-args .args .s .now) (at-args .args .from) (at-i .i .given .0 .0)
-    (sym (at-i .i .given .1) ∙ at-open-list .open-list .ensures) _ (sym (at-p .p .given .1) ∙ at-next-word .next-word .ensures .is)
+    let a = at-open-list .before .before .args in
+    claim-no (a .depth) (a .s .now) (at-word .word .given .0 .0) (sym (rw (at-part-of .part-of .ensures) at (c .before .same-bytes .ensures)) ∙ c .if1 .left)
+    ∙ at-claim (a .depth) (a .s .now) (a .from) (at-i .i .given .0 .0) (sym (at-i .i .given .1) ∙ at-open-list .open-list .ensures) _
+    (sym (at-word .word .given .1) ∙ at-next-word .next-word .ensures .is)
 
 returns-4 : tie.Need-returns-4
 unfolding claimNext claimAfter
 returns-4 c =
-    let at-args = c .before .before .before .before .before in
-    ap (claimAfter (at-args .args .depth) (at-args .args .s .now)) (sym (c .before .e .given .1) ∙ c .before .before .before .open-list .ensures)
+    let at-open-list = c .before .before .before in
+    let a = at-open-list .before .before .args in
+    ap (claimAfter (a .depth) (a .s .now)) (sym (c .before .e .given .1) ∙ at-open-list .open-list .ensures)
 
 returns-5 : tie.Need-returns-5
 unfolding claimNext claimAfter
 returns-5 c =
-    let at-args = c .before .before .before .before in
-    ap (claimAfter (at-args .args .depth) (at-args .args .s .now)) (sym (c .enum-told2 .given .1) ∙ c .before .before .open-list .ensures)
+    let a = c .before .before .before .before .args in
+    ap (claimAfter (a .depth) (a .s .now)) (sym (c .enum-told2 .given .1) ∙ c .before .before .open-list .ensures)
 
 pub claim-spec : {M : Type 1} → statement M
 claim-spec =
@@ -75,11 +77,10 @@ claim-spec =
     (λ c. search needs)
     (λ c. search needs)
     returns
-    sub-same-bytes
-    part-same-bytes-start
-    part-same-bytes-end
+    part-of-requires
     (λ c. search needs)
     (λ c κs. search needs)
+    add-claim-rest
     (λ c κs. search needs)
     returns-2
     (λ c. search needs)

@@ -3,12 +3,11 @@ use Prim.Native.Nat.{_-_}
 use mathlib.Core.Path.{sym, _∙_}
 use native.Mathlib.Omega.{arith}
 use lib.ListN.{length}
-use borrow.Author.Needs.{needs}
-use Rattle.model.specs.Answers.{partOf}
 use Rattle.model.specs.Names.{twice}
 use Rattle.name_lists.proofs.Heads.{placed-at, twice-found, twice-other, twice-none}
 use Rattle.name_lists.proofs.Behind.{left-start, left-next, left-found, left-done, left-over}
 use Rattle.name_lists.specs.Names.{Left}
+use borrow.Author.Needs.{needs}
 use Rattle.name_lists.proofs.scans.has_again.Statement.{statement}
 use Rattle.name_lists.proofs.scans.has_again.Tie as tie
 
@@ -19,70 +18,70 @@ abbrev μ-loop : tie.MeasureT-loop
 μ-loop s from i₀ i = length s - i
 
 loop-holds : tie.Need-loop-holds Inv-loop μ-loop
-loop-holds c = left-start twice (c .before .args .s .now) (c .before .args .from)
+loop-holds c =
+    let a = c .before .args in
+    left-start twice (a .s .now) (a .from)
 
 returns : tie.Need-returns Inv-loop μ-loop
 returns c =
     let at-loop = c .before .before .before .before in
-    let at-args = at-loop .before .before in
-    λ x e. sym twice-none ∙ left-done twice twice (at-args .args .s .now) (at-args .args .from) (at-loop .loop .i) (at-loop .loop .inv)
+    let a = at-loop .before .before .args in
+    λ x e. sym twice-none ∙ left-done twice twice (a .s .now) (a .from) (at-loop .loop .i) (at-loop .loop .inv)
     (sym (c .enum-told .given .1) ∙ c .before .before .next-name .ensures .is) x e
 
-sub-has-name : tie.Need-sub-has-name Inv-loop μ-loop
-sub-has-name c =
-    let at-loop = c .before .before .before .before .before in
-    let at-args = at-loop .before .before in
-    let h = placed-at (at-args .args .s .now) (at-loop .loop .i) _ (c .before .p .given .1) (c .before .before .before .next-name .ensures .placed) in
-    omega (arith, h .some)
+add-end : tie.Need-add-end Inv-loop μ-loop
+add-end c =
+    let at-next-name = c .before .before .before .before in
+    let at-loop = at-next-name .before .before in
+    let at-good = at-loop .before .before in
+    let a = at-good .args in
+    omega (
+      arith,
+      at-good .good,
+      placed-at (a .s .now) (at-loop .loop .i) _ (c .before .before .name .given .1)
+          (at-next-name .next-name .ensures .placed) .inside,
+    )
 
-part-has-name-start : tie.Need-part-has-name-start Inv-loop μ-loop
-part-has-name-start c =
-    let at-loop = c .before .before .before .before .before in
-    let at-args = at-loop .before .before in
-    let h = placed-at (at-args .args .s .now) (at-loop .loop .i) _ (c .before .p .given .1) (c .before .before .before .next-name .ensures .placed) in
-    omega (arith, h .some)
-
-part-has-name-end : tie.Need-part-has-name-end Inv-loop μ-loop
-part-has-name-end c =
-    let at-loop = c .before .before .before .before .before in
-    let at-args = at-loop .before .before in
-    let h = placed-at (at-args .args .s .now) (at-loop .loop .i) _ (c .before .p .given .1) (c .before .before .before .next-name .ensures .placed) in
-    omega (arith, h .inside)
+part-of-requires : tie.Need-part-of-requires Inv-loop μ-loop
+part-of-requires c κs =
+    let at-next-name = c .before .before .before .before in
+    let at-loop = at-next-name .before .before in
+    let a = at-loop .before .before .args in
+    placed-at (a .s .now) (at-loop .loop .i) _ (c .before .before .name .given .1) (at-next-name .next-name .ensures .placed) .inside
 
 returns-2 : tie.Need-returns-2 Inv-loop μ-loop
-unfolding partOf
 returns-2 c =
-    let at-p = c .before .before .before .before in
-    let at-next-name = at-p .before .before in
+    let at-name = c .before .before .before .before .before in
+    let at-next-name = at-name .before .before in
     let at-loop = at-next-name .before .before in
-    let at-args = at-loop .before .before in
-    left-found twice twice (at-args .args .s .now) (at-args .args .from) (at-loop .loop .i) _ _ _ (at-loop .loop .inv)
-    (sym (at-p .p .given .1) ∙ at-next-name .next-name .ensures .is)
-    (λ y e. twice-found _ (y .names) (sym (c .before .has-name .ensures y e) ∙ c .if1 .taken))
+    let a = at-loop .before .before .args in
+    left-found twice twice (a .s .now) (a .from) (at-loop .loop .i) _ _ (at-loop .loop .inv)
+    (sym (at-name .name .given .1) ∙ at-next-name .next-name .ensures .is)
+    (λ y e. twice-found _ (y .names) (sym (rw (c .before .before .part-of .ensures) at (c .before .has-name .ensures y e)) ∙ c .if1 .taken))
 
 loop-less : tie.Need-loop-less Inv-loop μ-loop
 loop-less c =
-    let at-p = c .before .before .before .before in
-    let at-next-name = at-p .before .before in
+    let at-name = c .before .before .before .before .before in
+    let at-next-name = at-name .before .before in
     let at-loop = at-next-name .before .before in
-    let at-args = at-loop .before .before in
-    let h = placed-at (at-args .args .s .now) (at-loop .loop .i) _ (at-p .p .given .1) (at-next-name .next-name .ensures .placed) in
+    let a = at-loop .before .before .args in
+    let h = placed-at (a .s .now) (at-loop .loop .i) _ (at-name .name .given .1) (at-next-name .next-name .ensures .placed) in
     omega (arith, h .after, h .some)
 
 loop-again : tie.Need-loop-again Inv-loop μ-loop
-unfolding partOf
 loop-again c =
-    let at-p = c .before .before .before .before in
-    let at-next-name = at-p .before .before in
+    let at-name = c .before .before .before .before .before in
+    let at-next-name = at-name .before .before in
     let at-loop = at-next-name .before .before in
-    let at-args = at-loop .before .before in
-    left-next twice twice (at-args .args .s .now) (at-args .args .from) (at-loop .loop .i) twice _ _ (at-loop .loop .inv)
-    (sym (at-p .p .given .1) ∙ at-next-name .next-name .ensures .is)
-    (λ y e. twice-other _ (y .names) (sym (c .before .has-name .ensures y e) ∙ c .if1 .left))
+    let a = at-loop .before .before .args in
+    left-next twice twice (a .s .now) (a .from) (at-loop .loop .i) twice _ (at-loop .loop .inv)
+    (sym (at-name .name .given .1) ∙ at-next-name .next-name .ensures .is)
+    (λ y e. twice-other _ (y .names) (sym (rw (c .before .before .part-of .ensures) at (c .before .has-name .ensures y e)) ∙ c .if1 .left))
 
 returns-3 : tie.Need-returns-3 Inv-loop μ-loop
-returns-3 c = λ x e. left-over twice twice (c .before .before .before .args .s .now) (c .before .before .before .args .from) (c .before .loop .i)
-    (c .before .loop .inv) (c .loop-test .left) x e
+returns-3 c =
+    let a = c .before .before .before .args in
+    λ x e. left-over twice twice (a .s .now) (a .from) (c .before .loop .i) (c .before .loop .inv) (c .loop-test .left) x e
 
 pub has-again-spec : {M : Type 1} → statement M
 has-again-spec =
@@ -95,9 +94,8 @@ has-again-spec =
     (λ c. search needs)
     (λ c. search needs)
     returns
-    sub-has-name
-    part-has-name-start
-    part-has-name-end
+    add-end
+    part-of-requires
     (λ c κs. search needs)
     returns-2
     loop-less

@@ -20,8 +20,8 @@ abbrev μ-loop : tie.MeasureT-loop
 
 returns : tie.Need-returns Inv-loop μ-loop
 returns c =
-    let at-args = c .before .before .before .before in
-    names-nowhere (at-args .args .s .now) (at-args .args .from) (sym (c .enum-told .given .1) ∙ c .before .before .list .ensures)
+    let a = c .before .before .before .before .args in
+    names-nowhere (a .s .now) (a .from) (sym (c .enum-told .given .1) ∙ c .before .before .list .ensures)
 
 loop-holds : tie.Need-loop-holds Inv-loop μ-loop
 loop-holds c = refl
@@ -30,8 +30,8 @@ only-closes-requires : tie.Need-only-closes-requires Inv-loop μ-loop
 only-closes-requires c κs =
     let at-end = c .before .before .before .before .before .before in
     let at-list = at-end .before .before in
-    let at-args = at-list .before .before in
-    ends-shut 2 false (at-args .args .s .now) (at-args .args .from) (at-end .end .given .0 .0) (sym (at-end .end .given .1) ∙ at-list .list .ensures) .0
+    let a = at-list .before .before .args in
+    ends-shut 2 false (a .s .now) (a .from) (at-end .end .given .0 .0) (sym (at-end .end .given .1) ∙ at-list .list .ensures) .0
 
 returns-2 : tie.Need-returns-2 Inv-loop μ-loop
 returns-2 c =
@@ -39,8 +39,8 @@ returns-2 c =
     let at-loop = at-next-name .before .before in
     let at-end = at-loop .before .before in
     let at-list = at-end .before .before in
-    let at-args = at-list .before .before in
-    names-shut (at-args .args .s .now) (at-args .args .from) (at-end .end .given .0 .0) (sym (at-end .end .given .1) ∙ at-list .list .ensures)
+    let a = at-list .before .before .args in
+    names-shut (a .s .now) (a .from) (at-end .end .given .0 .0) (sym (at-end .end .given .1) ∙ at-list .list .ensures)
     (at-loop .loop .i) (sym (c .before .before .enum-told2 .given .1) ∙ at-next-name .next-name .ensures .is) (at-loop .loop .inv)
     (sym (c .if1 .taken) ∙ c .before .only-closes .ensures)
 
@@ -50,28 +50,43 @@ returns-3 c =
     let at-loop = at-next-name .before .before in
     let at-end = at-loop .before .before in
     let at-list = at-end .before .before in
-    let at-args = at-list .before .before in
-    names-past (at-args .args .s .now) (at-args .args .from) (at-end .end .given .0 .0) (sym (at-end .end .given .1) ∙ at-list .list .ensures)
+    let a = at-list .before .before .args in
+    names-past (a .s .now) (a .from) (at-end .end .given .0 .0) (sym (at-end .end .given .1) ∙ at-list .list .ensures)
     (at-loop .loop .i) (sym (c .before .before .enum-told2 .given .1) ∙ at-next-name .next-name .ensures .is) (at-loop .loop .inv)
     (sym (c .if1 .left) ∙ c .before .only-closes .ensures)
 
+add-i : tie.Need-add-i Inv-loop μ-loop
+add-i c =
+    let at-next-name = c .before .before .before .before in
+    let at-loop = at-next-name .before .before in
+    let at-good = at-loop .before .before .before .before .before .before in
+    let a = at-good .args in
+    omega (
+      arith,
+      at-good .good,
+      placed-at (a .s .now) (at-loop .loop .i) _ (c .before .before .name .given .1)
+          (at-next-name .next-name .ensures .placed) .inside,
+    )
+
 loop-less : tie.Need-loop-less Inv-loop μ-loop
 loop-less c =
-    let at-loop = c .before .before .before .before .before in
-    let at-args = at-loop .before .before .before .before .before .before in
-    let h = placed-at (at-args .args .s .now) (at-loop .loop .i) _ (c .before .q .given .1) (c .before .before .before .next-name .ensures .placed) in
+    let at-next-name = c .before .before .before .before in
+    let at-loop = at-next-name .before .before in
+    let a = at-loop .before .before .before .before .before .before .args in
+    let h = placed-at (a .s .now) (at-loop .loop .i) _ (c .before .before .name .given .1) (at-next-name .next-name .ensures .placed) in
     omega (arith, h .after, h .some)
 
 loop-again : tie.Need-loop-again Inv-loop μ-loop
 loop-again c =
-    let at-loop = c .before .before .before .before .before in
-    let at-args = at-loop .before .before .before .before .before .before in
-    end-step (at-args .args .s .now) (at-loop .loop .i) (sym (c .before .q .given .1) ∙ c .before .before .before .next-name .ensures .is) ∙ at-loop .loop .inv
+    let at-next-name = c .before .before .before .before in
+    let at-loop = at-next-name .before .before in
+    let a = at-loop .before .before .before .before .before .before .args in
+    end-step (a .s .now) (at-loop .loop .i) (sym (c .before .before .name .given .1) ∙ at-next-name .next-name .ensures .is) ∙ at-loop .loop .inv
 
 returns-4 : tie.Need-returns-4 Inv-loop μ-loop
 returns-4 c =
-    let at-args = c .before .before .before .before .before .before .before in
-    end-over (at-args .args .s .now) (c .before .loop .i) (c .loop-test .left) ∙ c .before .loop .inv
+    let a = c .before .before .before .before .before .before .before .args in
+    end-over (a .s .now) (c .before .loop .i) (c .loop-test .left) ∙ c .before .loop .inv
 
 pub names-end-spec : {M : Type 1} → statement M
 names-end-spec =
@@ -90,6 +105,7 @@ names-end-spec =
     only-closes-requires
     returns-2
     returns-3
+    add-i
     loop-less
     loop-again
     returns-4)

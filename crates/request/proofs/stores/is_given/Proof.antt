@@ -1,18 +1,17 @@
--- `request::stores::is_given` meets its contract: none of the identities passed is the actor's. Assumes nothing.
+-- `request::stores::is_given` meets its contract. None of the identities passed is the actor's. Assumes nothing.
 use Prim.Native.Nat.{ℕ, _-_, _≤_}
 use mathlib.Core.Path.{_≡_, sym, ap, _∙_}
 use mathlib.Core.Bool.{false}
 use native.Mathlib.Omega.{arith}
 use lib.ListN.{getD}
-use borrow.Author.Needs.{needs}
 use Rattle.model.specs.Bytes.{same}
 use Rattle.model.specs.Lists.{any}
 use Rattle.model.specs.Names.{mem}
-use Rattle.model.specs.Answers.{partOf, nameAt}
+use Rattle.model.specs.Answers.{nameAt}
 use Rattle.model.specs.RequestPlaces.{noIdentity}
 use Rattle.book_tables.proofs.ListedLaws.{scan-none, scan-on, scan-found}
 use Rattle.request.specs.Stored.{actorNames}
-use Rattle.request.proofs.StoreLaws.{from-to}
+use borrow.Author.Needs.{needs}
 use Rattle.request.proofs.stores.is_given.Statement.{statement}
 use Rattle.request.proofs.stores.is_given.Tie as tie
 
@@ -27,39 +26,27 @@ loop-holds c =
     let a = c .before .before .args in
     (omega arith, scan-none (same (a .name .now)) (λ j. nameAt (a .s .now) (getD (a .t2) j noIdentity .actor)))
 
-add-end : tie.Need-add-end Inv-loop μ-loop
-add-end c =
-    let at-loop = c .before .before .before .before in
+part-of-requires : tie.Need-part-of-requires Inv-loop μ-loop
+part-of-requires c κs =
+    let at-loop = c .before .before .before in
     let at-pre = at-loop .before .before .before in
-    omega (arith, at-pre .pre .1 (at-loop .loop .i) (omega arith))
-
-sub-same-bytes : tie.Need-sub-same-bytes Inv-loop μ-loop
-sub-same-bytes c = omega arith
-
-part-same-bytes-end : tie.Need-part-same-bytes-end Inv-loop μ-loop
-part-same-bytes-end c =
-    let at-loop = c .before .before .before .before in
-    let at-pre = at-loop .before .before .before in
-    omega (arith, at-pre .pre .1 (at-loop .loop .i) (omega arith))
+    at-pre .pre .1 (at-loop .loop .i) (omega arith)
 
 returns : tie.Need-returns Inv-loop μ-loop
-unfolding mem partOf
+unfolding mem
 returns c =
-    let at-loop = c .before .before .before .before .before .before .before in
+    let at-loop = c .before .before .before .before .before .before in
     let a = at-loop .before .before .before .args in
     sym (scan-found (same (a .name .now)) (λ j. nameAt (a .s .now) (getD (a .t2) j noIdentity .actor)) (a .count) (at-loop .loop .i) (omega arith)
-    (ap (same (a .name .now)) (sym (from-to (a .s .now) (getD (a .t2) (at-loop .loop .i) noIdentity .actor)))
-    ∙ sym (c .before .same-bytes .ensures) ∙ c .if1 .taken))
+    (sym (rw (c .before .before .part-of .ensures) at (c .before .same-bytes .ensures)) ∙ c .if1 .taken))
 
 loop-again : tie.Need-loop-again Inv-loop μ-loop
-unfolding partOf
 loop-again c =
-    let at-loop = c .before .before .before .before .before .before .before in
+    let at-loop = c .before .before .before .before .before .before in
     let a = at-loop .before .before .before .args in (
       omega arith,
       scan-on (same (a .name .now)) (λ j. nameAt (a .s .now) (getD (a .t2) j noIdentity .actor)) (at-loop .loop .i) (at-loop .loop .inv .1)
-          (ap (same (a .name .now)) (sym (from-to (a .s .now) (getD (a .t2) (at-loop .loop .i) noIdentity .actor)))
-          ∙ sym (c .before .same-bytes .ensures) ∙ c .if1 .left),
+          (sym (rw (c .before .before .part-of .ensures) at (c .before .same-bytes .ensures)) ∙ c .if1 .left),
     )
 
 returns-2 : tie.Need-returns-2 Inv-loop μ-loop
@@ -78,10 +65,7 @@ is-given-spec =
     loop-holds
     (λ c. search needs)
     (λ c. search needs)
-    add-end
-    sub-same-bytes
-    sub-same-bytes
-    part-same-bytes-end
+    part-of-requires
     (λ c κs. search needs)
     returns
     (λ c. search needs)

@@ -1,8 +1,6 @@
 -- `rules::load::form_step` meets its contract. Assumes nothing.
-use borrow.Author.Needs.{needs}
-use native.Mathlib.Omega.{arith}
-use Rattle.model.specs.Answers.{partOf}
 use Rattle.rules.proofs.LoadLaws.{of-category, of-policy, of-none}
+use borrow.Author.Needs.{needs}
 use Rattle.rules.proofs.load.form_step.Statement.{statement}
 use Rattle.rules.proofs.load.form_step.Tie as tie
 
@@ -11,7 +9,7 @@ category-step-requires c κs =
     let at-rules-form = c .before .before .before .before in
     let at-pre = at-rules-form .before .before .before .before .before .before in
     let g = at-pre .pre in
-    let f = of-category _ _ _ (at-rules-form .rules-form .ensures) _ _ _ _ (c .before .before .p .given .1) in
+    let f = of-category _ _ _ (at-rules-form .rules-form .ensures) _ _ _ (c .before .before .name .given .1) in
     record {
       fits = g .fits;
       short = g .short;
@@ -23,53 +21,48 @@ category-step-requires c κs =
       over-are = f .over-are;
     }
 
-sub-fault-of : tie.Need-sub-fault-of
-sub-fault-of c = let f = of-policy _ _ _ (c .before .before .before .rules-form .ensures) _ _ _ _ (c .before .p2 .given .1) in omega (arith, f .some)
-
-part-fault-of-start : tie.Need-part-fault-of-start
-part-fault-of-start c = let f = of-policy _ _ _ (c .before .before .before .rules-form .ensures) _ _ _ _ (c .before .p2 .given .1) in omega (arith, f .some)
-
-part-fault-of-end : tie.Need-part-fault-of-end
-part-fault-of-end c = let f = of-policy _ _ _ (c .before .before .before .rules-form .ensures) _ _ _ _ (c .before .p2 .given .1) in omega (arith, f .inside)
+part-of-requires : tie.Need-part-of-requires
+part-of-requires c κs =
+    let at-rules-form = c .before .before .before in
+    of-policy _ _ _ (at-rules-form .rules-form .ensures) _ _ (c .before .name2 .given .1) .inside
 
 fault-of-requires : tie.Need-fault-of-requires
-fault-of-requires c κs = c .before .before .before .before .before .before .before .before .before .before .pre .book-fits
+fault-of-requires c κs =
+    let at-pre = c .before .before .before .before .before .before .before .before .before .before in
+    at-pre .pre .book-fits
 
 policy-step-requires : tie.Need-policy-step-requires
-unfolding partOf
 policy-step-requires c κs =
-    let at-p2 = c .before .before .before .before in
-    let at-rules-form = at-p2 .before .before in
+    let at-name2 = c .before .before .before .before in
+    let at-rules-form = at-name2 .before .before in
     let at-pre = at-rules-form .before .before .before .before .before .before in
     let g = at-pre .pre in
-    let f = of-policy _ _ _ (at-rules-form .rules-form .ensures) _ _ _ _ (at-p2 .p2 .given .1) in
+    let f = of-policy _ _ _ (at-rules-form .rules-form .ensures) _ _ (at-name2 .name2 .given .1) in
     record {
       fits = g .fits;
       short = g .short;
       line = g .line;
       places = f .places;
-      some = f .some;
       inside = f .inside;
       book = _;
-      is =
-          c .before .fault-of .ensures;
+      is = rw (c .before .before .part-of .ensures) at (c .before .fault-of .ensures);
     }
 
 returns : tie.Need-returns
 returns c =
-    let at-p = c .before .before .before .before .before in
-    let at-rules-form = at-p .before .before in
-    let f = of-category _ _ _ (at-rules-form .rules-form .ensures) _ _ _ _ (at-p .p .given .1) in
+    let at-name = c .before .before .before .before .before in
+    let at-rules-form = at-name .before .before in
+    let f = of-category _ _ _ (at-rules-form .rules-form .ensures) _ _ _ (at-name .name .given .1) in
     rw (f .is) (c .before .before .category-step .ensures _ (f .actors) (f .over) (f .actors-are) (f .over-are))
 
 returns-2 : tie.Need-returns-2
-unfolding partOf
 returns-2 c =
     let at-fault-of = c .before .before .before .before in
-    let at-p2 = at-fault-of .before .before .before in
-    let at-rules-form = at-p2 .before .before in
-    let f = of-policy _ _ _ (at-rules-form .rules-form .ensures) _ _ _ _ (at-p2 .p2 .given .1) in
-    rw (f .is) (c .before .before .policy-step .ensures _ (at-fault-of .fault-of .ensures))
+    let at-part-of = at-fault-of .before in
+    let at-name2 = at-part-of .before .before in
+    let at-rules-form = at-name2 .before .before in
+    let f = of-policy _ _ _ (at-rules-form .rules-form .ensures) _ _ (at-name2 .name2 .given .1) in
+    rw (f .is) (c .before .before .policy-step .ensures _ (rw (at-part-of .part-of .ensures) at (at-fault-of .fault-of .ensures)))
 
 returns-3 : tie.Need-returns-3
 returns-3 c = of-none _ _ _ (c .before .before .rules-form .ensures) _ _ (c .enum-told .given .1)
@@ -82,9 +75,7 @@ form-step-spec =
     (λ c. search needs)
     category-step-requires
     (λ c. search needs)
-    sub-fault-of
-    part-fault-of-start
-    part-fault-of-end
+    part-of-requires
     fault-of-requires
     policy-step-requires
     (λ c. search needs)

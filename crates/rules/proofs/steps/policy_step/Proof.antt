@@ -14,7 +14,6 @@ add-policy-requires c κs = let g = c .before .before .before .before .before .b
   short = g .short;
   line = g .line;
   places = g .places;
-  some = g .some;
   inside = g .inside;
   book = g .book;
   clear = sym (c .before .before .policy-fault .ensures (g .book) (g .is)) ∙ c .before .if1 .left;

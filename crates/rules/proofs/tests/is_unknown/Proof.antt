@@ -5,8 +5,6 @@ use mathlib.Core.Bool.{Bool, not}
 use mathlib.Core.Path.{sym, _∙_}
 use native.Mathlib.Omega.{arith}
 use lib.ListN.{length}
-use borrow.Author.Needs.{needs}
-use Rattle.model.specs.Answers.{partOf}
 use Rattle.model.specs.Names.{mem}
 use Rattle.model.specs.Lists.{all}
 use Rattle.model.specs.Bytes.{Bytes}
@@ -17,6 +15,7 @@ use Rattle.name_lists.specs.Names.{Left}
 use Rattle.rules_tables.specs.Layout.{names}
 use Rattle.book_tables.proofs.NameLaws.{place-mem, place-out}
 use Rattle.book_tables.specs.View.{namesAt}
+use borrow.Author.Needs.{needs}
 use Rattle.rules.proofs.tests.is_unknown.Statement.{statement}
 use Rattle.rules.proofs.tests.is_unknown.Tie as tie
 
@@ -29,68 +28,77 @@ abbrev μ-loop : tie.MeasureT-loop
 
 loop-holds : tie.Need-loop-holds Inv-loop μ-loop
 loop-holds c =
-    let at-args = c .before .before .before in
-    left-start (λ (ns : List Bytes). not (all (λ w. mem w (namesAt (at-args .args .text .now) (at-args .args .words .now) names (at-args .args .count)))
-    ns)) (at-args .args .s .now) (at-args .args .from)
+    let a = c .before .before .before .args in
+    left-start (λ (ns : List Bytes). not (all (λ w. mem w (namesAt (a .text .now) (a .words .now) names (a .count))) ns)) (a .s .now) (a .from)
 
 returns : tie.Need-returns Inv-loop μ-loop
 returns c =
     let at-loop = c .before .before .before .before in
-    let at-args = at-loop .before .before .before .before in
-    let p : Bytes → Bool = λ w. mem w (namesAt (at-args .args .text .now) (at-args .args .words .now) names (at-args .args .count)) in
-    λ x e. sym (miss-none p) ∙ left-done (λ ns. not (all p ns)) (λ ns. not (all p ns)) (at-args .args .s .now) (at-args .args .from) (at-loop .loop .i)
+    let a = at-loop .before .before .before .before .args in
+    let p : Bytes → Bool = λ w. mem w (namesAt (a .text .now) (a .words .now) names (a .count)) in
+    λ x e. sym (miss-none p) ∙ left-done (λ ns. not (all p ns)) (λ ns. not (all p ns)) (a .s .now) (a .from) (at-loop .loop .i)
     (at-loop .loop .inv) (sym (c .enum-told .given .1) ∙ c .before .before .next-name .ensures .is) x e
 
-sub-find-name : tie.Need-sub-find-name Inv-loop μ-loop
-sub-find-name c = let h = placed-at _ _ _ (c .before .p .given .1) (c .before .before .before .next-name .ensures .placed) in omega (arith, h .some)
-
-part-find-name-start : tie.Need-part-find-name-start Inv-loop μ-loop
-part-find-name-start c = let h = placed-at _ _ _ (c .before .p .given .1) (c .before .before .before .next-name .ensures .placed) in omega (arith, h .some)
-
-part-find-name-end : tie.Need-part-find-name-end Inv-loop μ-loop
-part-find-name-end c = let h = placed-at _ _ _ (c .before .p .given .1) (c .before .before .before .next-name .ensures .placed) in omega (arith, h .inside)
+part-of-requires : tie.Need-part-of-requires Inv-loop μ-loop
+part-of-requires c κs =
+    let at-next-name = c .before .before .before in
+    let at-loop = at-next-name .before .before in
+    let a = at-loop .before .before .before .before .args in
+    placed-at (a .s .now) (at-loop .loop .i) _ (c .before .name .given .1) (at-next-name .next-name .ensures .placed) .inside
 
 find-name-requires : tie.Need-find-name-requires Inv-loop μ-loop
-find-name-requires c κs = c .before .before .before .before .before .before .before .before .before .before .pre
+find-name-requires c κs =
+    let at-pre = c .before .before .before .before .before .before .before .before .before .before in
+    at-pre .pre
 
 returns-2 : tie.Need-returns-2 Inv-loop μ-loop
-unfolding partOf
 returns-2 c =
-    let at-p = c .before .before .before .before in
-    let at-next-name = at-p .before .before in
+    let at-name = c .before .before .before .before in
+    let at-next-name = at-name .before .before in
     let at-loop = at-next-name .before .before in
-    let at-args = at-loop .before .before .before .before in
-    let a = at-args .args in let p : Bytes → Bool = λ w. mem w (namesAt (a .text .now) (a .words .now) names (a .count)) in
-    left-found (λ ns. not (all p ns)) (λ ns. not (all p ns)) (a .s .now) (a .from) (at-loop .loop .i) _ _ _ (at-loop .loop .inv)
-    (sym (at-p .p .given .1) ∙ at-next-name .next-name .ensures .is)
-    (λ y e. miss-found p _ (y .names) (place-out (a .text .now) (a .words .now) names (a .count) _
-    (omega (arith, c .before .find-name .ensures, c .if1 .taken))))
+    let a = at-loop .before .before .before .before .args in
+    let p : Bytes → Bool = λ w. mem w (namesAt (a .text .now) (a .words .now) names (a .count)) in
+    let found = rw (c .before .before .part-of .ensures) at (c .before .find-name .ensures) in
+    left-found (λ ns. not (all p ns)) (λ ns. not (all p ns)) (a .s .now) (a .from) (at-loop .loop .i) _ _ (at-loop .loop .inv)
+    (sym (at-name .name .given .1) ∙ at-next-name .next-name .ensures .is)
+    (λ y e. miss-found p _ (y .names) (place-out (a .text .now) (a .words .now) names (a .count) _ (omega (arith, found, c .if1 .taken))))
+
+add-i : tie.Need-add-i Inv-loop μ-loop
+add-i c =
+    let at-name = c .before .before .before .before .before in
+    let at-next-name = at-name .before .before in
+    let at-loop = at-next-name .before .before in
+    let at-good = at-loop .before .before .before .before in
+    let a = at-good .args in
+    omega (arith, at-good .good, placed-at (a .s .now) (at-loop .loop .i) _ (at-name .name .given .1) (at-next-name .next-name .ensures .placed) .inside)
 
 loop-less : tie.Need-loop-less Inv-loop μ-loop
 loop-less c =
-    let at-p = c .before .before .before .before in
-    let at-next-name = at-p .before .before in
-    let h = placed-at _ _ _ (at-p .p .given .1) (at-next-name .next-name .ensures .placed) in omega (arith, h .after, h .some)
+    let at-name = c .before .before .before .before .before in
+    let at-next-name = at-name .before .before in
+    let at-loop = at-next-name .before .before in
+    let a = at-loop .before .before .before .before .args in
+    let h = placed-at (a .s .now) (at-loop .loop .i) _ (at-name .name .given .1) (at-next-name .next-name .ensures .placed) in
+    omega (arith, h .after, h .some)
 
 loop-again : tie.Need-loop-again Inv-loop μ-loop
-unfolding partOf
 loop-again c =
-    let at-p = c .before .before .before .before in
-    let at-next-name = at-p .before .before in
+    let at-part-of = c .before .before .before in
+    let at-name = at-part-of .before .before in
+    let at-next-name = at-name .before .before in
     let at-loop = at-next-name .before .before in
-    let at-args = at-loop .before .before .before .before in
-    let a = at-args .args in let p : Bytes → Bool = λ w. mem w (namesAt (a .text .now) (a .words .now) names (a .count)) in
-    left-next (λ ns. not (all p ns)) (λ ns. not (all p ns)) (a .s .now) (a .from) (at-loop .loop .i) (λ ns. not (all p ns)) _ _ (at-loop .loop .inv)
-    (sym (at-p .p .given .1) ∙ at-next-name .next-name .ensures .is)
-    (λ y e. miss-other p _ (y .names) (place-mem (a .text .now) (a .words .now) names (a .count) _
-    (omega (arith, c .before .find-name .ensures, c .if1 .left))))
+    let a = at-loop .before .before .before .before .args in
+    let p : Bytes → Bool = λ w. mem w (namesAt (a .text .now) (a .words .now) names (a .count)) in
+    let found = rw (at-part-of .part-of .ensures) at (c .before .before .find-name .ensures) in
+    left-next (λ ns. not (all p ns)) (λ ns. not (all p ns)) (a .s .now) (a .from) (at-loop .loop .i) (λ ns. not (all p ns)) _ (at-loop .loop .inv)
+    (sym (at-name .name .given .1) ∙ at-next-name .next-name .ensures .is)
+    (λ y e. miss-other p _ (y .names) (place-mem (a .text .now) (a .words .now) names (a .count) _ (omega (arith, found, c .before .if1 .left))))
 
 returns-3 : tie.Need-returns-3 Inv-loop μ-loop
 returns-3 c =
-    let at-args = c .before .before .before .before .before in
-    let p : Bytes → Bool = λ w. mem w (namesAt (at-args .args .text .now) (at-args .args .words .now) names (at-args .args .count)) in
-    λ x e. left-over (λ ns. not (all p ns)) (λ ns. not (all p ns)) (at-args .args .s .now) (at-args .args .from) (c .before .loop .i)
-    (c .before .loop .inv) (c .loop-test .left) x e
+    let a = c .before .before .before .before .before .args in
+    let p : Bytes → Bool = λ w. mem w (namesAt (a .text .now) (a .words .now) names (a .count)) in
+    λ x e. left-over (λ ns. not (all p ns)) (λ ns. not (all p ns)) (a .s .now) (a .from) (c .before .loop .i) (c .before .loop .inv) (c .loop-test .left) x e
 
 pub is-unknown-spec : {M : Type 1} → statement M
 is-unknown-spec =
@@ -103,11 +111,10 @@ is-unknown-spec =
     (λ c. search needs)
     (λ c. search needs)
     returns
-    sub-find-name
-    part-find-name-start
-    part-find-name-end
+    part-of-requires
     find-name-requires
     returns-2
+    add-i
     loop-less
     loop-again
     returns-3)
