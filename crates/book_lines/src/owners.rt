@@ -41,19 +41,21 @@ fn shifted(value: Value, base: usize) -> Value
     }
 }
 
-// (ATTR VALUE)... to the end of the form, of an owner's attributes; each is stored behind those before it.
+// (ATTR VALUE)... to the end of the form, of an owner's attributes; each is stored behind those before it. In a list of the form `inner` lists may still be opened,
+// and `closes` lists close behind it: as two numbers they are read sooner than as one struct.
 fn read_entries(
     text: &[u8],
     line: &[u8],
     base: usize,
     from: usize,
-    form: Form,
+    inner: usize,
+    closes: usize,
     words: &mut [u32],
     counts: BookCounts,
     owner: Owner,
 ) -> EntriesAnswer
     requires { ⌜ FormAsked (now text) (now line) (now words) counts base × (from ≤ length (now line)) ⌝ }
-    ensures { λ r. ⌜ EntriesDone form (now (text .entry)) (now (line .entry)) (now (words .entry)) (now (words .exit)) counts
+    ensures { λ r. ⌜ EntriesDone (record { inner = inner; closes = closes }) (now (text .entry)) (now (line .entry)) (now (words .entry)) (now (words .exit)) counts
         (tablesOf owner counts .attributes) (tablesOf owner counts .declared) from r ⌝ }
 {
     let tables = book_tables::owners::tables(counts, owner);
@@ -66,7 +68,7 @@ fn read_entries(
         count: 0,
     };
     loop {
-        match items::forms::entry(line, at, form.inner) {
+        match items::forms::entry(line, at, inner) {
             EntryRead::Entry { name, value, next } => {
                 known = book_entries::add_entry(
                     text,
@@ -81,7 +83,7 @@ fn read_entries(
                 at = next;
             }
             EntryRead::Close(e) => {
-                if items::forms::form_ends(line, e, form.closes) {
+                if items::forms::form_ends(line, e, closes) {
                     return EntriesAnswer::Read(known);
                 }
                 return EntriesAnswer::None;
@@ -115,7 +117,8 @@ pub fn node_line(
                 line,
                 base,
                 name.start + name.length,
-                form,
+                form.inner,
+                form.closes,
                 words,
                 counts,
                 Owner::Node,
@@ -172,7 +175,8 @@ pub fn rel_line(
                 line,
                 base,
                 q,
-                form,
+                form.inner,
+                form.closes,
                 words,
                 counts,
                 Owner::Relationship,

@@ -13,11 +13,11 @@ use Rattle.book_lines.proofs.owners.read_entries.Statement.{statement}
 use Rattle.book_lines.proofs.owners.read_entries.Tie as tie
 
 abbrev Inv-loop : tie.InvT-loop
-Inv-loop text line base from form words₀ counts offset declared at₀ known₀ words at known =
-    Reading form text line words₀ words counts offset declared from at known
+Inv-loop text line base from inner closes words₀ counts offset declared at₀ known₀ words at known =
+    Reading (record { inner = inner; closes = closes }) text line words₀ words counts offset declared from at known
 
 abbrev μ-loop : tie.MeasureT-loop
-μ-loop text line base from form words₀ counts offset declared at₀ known₀ words at known = length line - at
+μ-loop text line base from inner closes words₀ counts offset declared at₀ known₀ words at known = length line - at
 
 loop-holds : tie.Need-loop-holds Inv-loop μ-loop
 loop-holds c =
