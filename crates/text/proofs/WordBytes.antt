@@ -1,17 +1,20 @@
 -- The bytes of words by their bits: one test that is computed at every byte. Assumes nothing.
-use Prim.Native.Nat.{ℕ, zero, suc, _+_, _<_, _≤_}
+use Prim.Native.Nat.{ℕ, zero, suc, _+_, _/_, _%_, _^_, _<_, _≤_}
 use mathlib.Core.Path.{_≡_, refl, sym, ap, subst, _∙_}
 use mathlib.Core.Bool.{Bool, true, false, not, _&&_, cond}
 use native.Mathlib.Nat.{add-zero, zero-add, add-suc, suc-add, le-of-suc-le-suc, not-suc-le-zero}
 use native.Mathlib.Omega.{arith}
-use lib.Dec.{T, ltb}
+use lib.Bits.{bitAnd}
+use lib.Dec.{T, ltb, eqb}
 use borrow.Author.Tests.{lt-ltb, le-ltb}
 use Rattle.model.specs.Words.{isWordByte, isLetter, isDigit, between}
-use Rattle.text.specs.Places.{bitSays}
 
--- the bits among which a byte's own says it
+-- a byte's bit among those of its half of the bytes below 128
+abbrev pub bitSays : ℕ → ℕ → Bool
+bitSays bits b = ltb b 128 && eqb (bitAnd (bits / 2 ^ (b % 64)) 1) 1
+
 abbrev bitsOf : ℕ → ℕ
-bitsOf b = cond (ltb b 64) 287948901175001088 (cond (ltb b 128) 576460745995190270 0)
+bitsOf b = cond (ltb b 64) 287948901175001088 576460745995190270
 
 abbrev agree : Bool → Bool → Bool
 agree true b = b
@@ -51,11 +54,8 @@ bits-say b l =
     right : ℕ → Bool
     right b = agree (bitSays (bitsOf b) b) (isWordByte b)
 
-pub low-says : (b : ℕ) → b < 64 → bitSays 287948901175001088 b ≡ isWordByte b
-low-says b l = ap (λ (x : ℕ). bitSays x b) (rw (lt-ltb b 64 l)) ∙ bits-say b (omega arith)
+pub low-says : (b bits : ℕ) → bits ≡ 287948901175001088 → b < 64 → bitSays bits b ≡ isWordByte b
+low-says b bits e l = ap (λ (x : ℕ). bitSays x b) (e ∙ rw (lt-ltb b 64 l)) ∙ bits-say b (omega arith)
 
-pub high-says : (b : ℕ) → 64 ≤ b → b < 128 → bitSays 576460745995190270 b ≡ isWordByte b
-high-says b l h = ap (λ (x : ℕ). bitSays x b) (rw (le-ltb b 64 l, lt-ltb b 128 h)) ∙ bits-say b (omega arith)
-
-pub none-says : (b : ℕ) → 128 ≤ b → b < 256 → bitSays 0 b ≡ isWordByte b
-none-says b l h = let m : ltb b 64 ≡ false = le-ltb b 64 (omega arith) in ap (λ (x : ℕ). bitSays x b) (rw (m, le-ltb b 128 l)) ∙ bits-say b h
+pub high-says : (b bits : ℕ) → bits ≡ 576460745995190270 → 64 ≤ b → b < 256 → bitSays bits b ≡ isWordByte b
+high-says b bits e l h = ap (λ (x : ℕ). bitSays x b) (e ∙ rw (le-ltb b 64 l)) ∙ bits-say b h

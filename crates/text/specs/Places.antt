@@ -1,8 +1,7 @@
 -- Places of a text: where a reading of the model ends, and where a run of bytes ends.
-use Prim.Native.Nat.{ℕ, zero, suc, _+_, _-_, _/_, _%_, _^_}
+use Prim.Native.Nat.{ℕ, zero, suc, _+_, _-_, _^_}
 use mathlib.Core.Bool.{Bool, not, _&&_, _||_}
 use lib.ListN.{length, getD, drop}
-use lib.Bits.{bitAnd}
 use lib.Dec.{leb, eqb}
 use Rattle.model.specs.Bytes.{Bytes}
 use Rattle.model.specs.Choice.{pick, Maybe, nothing, just}
@@ -73,7 +72,3 @@ textTo s at (end.At q) = just (record { got = partOf s (at + 1) (q - at - 2); si
 unfoldable pub wholeTo : ℕ → NumberRead → Maybe (Got ℕ)
 wholeTo at number.None = nothing
 wholeTo at (number.Number n q) = just (record { got = n; size = q - at })
-
--- the bit of a byte says yes: among 64, by the byte's last six bits
-abbrev pub bitSays : ℕ → ℕ → Bool
-bitSays bits b = eqb (bitAnd (bits / 2 ^ (b % 64)) 1) 1

@@ -3,7 +3,7 @@ ghost use mathlib.Core.Path.{_≡_};
 ghost use Prim.Native.Nat.{_+_, _≤_};
 ghost use lib.ListN.{length};
 ghost use Rattle.model.specs.Words.{isLetter, isDigit, isWordByte};
-ghost use Rattle.text.specs.Places.{bitSays, peekAt, past, isOther, hasNear};
+ghost use Rattle.text.specs.Places.{peekAt, past, isOther, hasNear};
 
 // What stands past the last byte of a text.
 pub const END: usize = 256;
@@ -64,25 +64,16 @@ pub fn is_digit(b: usize) -> bool
     b <= NINE
 }
 
-// The bits among which a byte's own says whether it is a letter, a digit or an underscore.
-fn bits_for(b: u8) -> u64
-    ensures { λ r. ⌜ bitSays r b ≡ isWordByte b ⌝ }
-{
-    if b < 64 {
-        return WORD_BYTES_LOW;
-    }
-    if b < 128 {
-        return WORD_BYTES_HIGH;
-    }
-    0
-}
-
 // A letter, a digit or an underscore: a bit for each byte says it, so that no byte is told from another by a branch.
 pub fn in_word(b: u8) -> bool
     ensures { λ r. ⌜ r ≡ isWordByte b ⌝ }
 {
-    let bits = bits_for(b);
-    bits >> (b % 64) as u32 & 1 == 1
+    let bits = if b < 64 {
+        WORD_BYTES_LOW
+    } else {
+        WORD_BYTES_HIGH
+    };
+    (b < 128) & (bits >> (b % 64) as u32 & 1 == 1)
 }
 
 // The place of the first such byte from a place on, or behind the last byte. Blocks of eight bytes without it are passed over whole.
