@@ -41,8 +41,8 @@ fn shifted(value: Value, base: usize) -> Value
     }
 }
 
-// (ATTR VALUE)... to the end of the form, of an owner's attributes; each is stored behind those before it. In a list of the form `inner` lists may still be opened,
-// and `closes` lists close behind it: as two numbers they are read sooner than as one struct.
+// (ATTR VALUE)... to the end of the form, of an owner's attributes; each is stored behind those before it. In a list of the form `inner` lists
+// may still be opened, and `closes` lists close behind it: as two numbers they are read sooner than as one struct.
 fn read_entries(
     text: &[u8],
     line: &[u8],
@@ -55,8 +55,8 @@ fn read_entries(
     owner: Owner,
 ) -> EntriesAnswer
     requires { ⌜ FormAsked (now text) (now line) (now words) counts base × (from ≤ length (now line)) ⌝ }
-    ensures { λ r. ⌜ EntriesDone (record { inner = inner; closes = closes }) (now (text .entry)) (now (line .entry)) (now (words .entry)) (now (words .exit)) counts
-        (tablesOf owner counts .attributes) (tablesOf owner counts .declared) from r ⌝ }
+    ensures { λ r. ⌜ EntriesDone (record { inner = inner; closes = closes }) (now (text .entry)) (now (line .entry)) (now (words .entry))
+        (now (words .exit)) counts (tablesOf owner counts .attributes) (tablesOf owner counts .declared) from r ⌝ }
 {
     let tables = book_tables::owners::tables(counts, owner);
     let offset = tables.attributes;

@@ -109,8 +109,8 @@ fn begins_one_of_six(b: u8) -> bool
     (b == b'M') | (b == b'W') | (b == b'A') | (b == b'R') | (b == b't') | (b == b'f')
 }
 
-// Whether a word is none of the six words that are never names.
-fn is_none_of_six(w: &[u8]) -> bool
+// Whether a word is none of the six words that are never names. Queries ask this at once: their names are short.
+pub fn is_none_of_six(w: &[u8]) -> bool
     ensures { λ r. ⌜ r ≡ not (mem (now (w .entry)) neverNames) ⌝ }
 {
     if same_bytes(w, b"Match") {

@@ -63,7 +63,8 @@ with-requires c κs =
 
 add-t17 : tie.Need-add-t17
 add-t17 c =
-    let at-pre = c .before .before .before .before .before .before .before .before .before .before .before .before .before .before .before .before .before .before .before .before in
+    let at-if1 = c .before .before .before .before .before .before .before .before .before .before .before .before .before in
+    let at-pre = at-if1 .before .before .before .before .before .before .before in
     omega (arith, at-pre .pre .counted)
 
 returns-2 : tie.Need-returns-2

@@ -92,17 +92,22 @@ loop-less c =
     )
 
 loop-again : tie.Need-loop-again Inv-loop μ-loop
-loop-again c = let s = step-adds (c .before .before .before .before .before .before .before .before .before .before .before .before .before .before .before .before .before .args .text .now) _ _ _ _ (c .before .more .given .1) (c .before .before .before .before .before .line-step .ensures) in (
-  search needs,
-  s .1,
-  omega (
-    arith,
-    line-inside
-        (c .before .before .before .before .before .before .before .before .before .before .before .before .before .before .before .before .before .args .text .now) (c .before .before .before .before .before .before .before .before .before .loop .at) _ (c .before .before .before .before .before .before .before .line-end .ensures) (c .before .before .before .before .before .before .before .before .loop-test .taken),
-  ),
-  omega (arith, c .before .before .before .before .before .before .before .before .before .loop .inv .3, line-forward (c .before .before .before .before .before .before .before .before .before .before .before .before .before .before .before .before .before .args .text .now) (c .before .before .before .before .before .before .before .before .before .loop .at) _ (c .before .before .before .before .before .before .before .line-end .ensures) (c .before .before .before .before .before .before .before .before .loop-test .taken)),
-  sym (lines-known (c .before .before .before .before .before .before .before .before .before .before .before .before .before .before .before .before .before .args .text .now) (c .before .before .before .before .before .before .before .before .before .loop .at) _ (c .before .before .before .before .before .before .before .line-end .ensures) (c .before .before .before .before .before .before .before .before .loop-test .taken) 1 (bookStepBy (c .before .before .before .before .before .before .before .before .before .before .before .before .before .before .before .before .before .args .rule)) (c .before .before .before .before .before .before .before .before .before .loop .line) _ _ (s .0)) ∙ c .before .before .before .before .before .before .before .before .before .loop .inv .4,
-)
+loop-again c =
+    let at-end = c .before .before .before .before .before .before .before in
+    let at-test = at-end .before in
+    let at-loop = at-test .before in
+    let a = at-loop .before .before .before .before .before .before .before .before .args in
+    let text = a .text .now in
+    let at = at-loop .loop .at in
+    let ends = at-end .line-end .ensures in
+    let more = at-test .loop-test .taken in
+    let s = step-adds text _ _ _ _ (c .before .more .given .1) (c .before .before .before .before .before .line-step .ensures) in (
+      search needs,
+      s .1,
+      omega (arith, line-inside text at _ ends more),
+      omega (arith, at-loop .loop .inv .3, line-forward text at _ ends more),
+      sym (lines-known text at _ ends more 1 (bookStepBy (a .rule)) (at-loop .loop .line) _ _ (s .0)) ∙ at-loop .loop .inv .4,
+    )
 
 returns-2 : tie.Need-returns-2 Inv-loop μ-loop
 returns-2 c =

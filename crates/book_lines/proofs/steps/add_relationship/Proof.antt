@@ -42,7 +42,8 @@ is-related-requires c κs =
 
 is-full-requires : tie.Need-is-full-requires
 is-full-requires c κs =
-    let at-pre = c .before .before .before .before .before .before .before .before .before .before .before .before .before .before .before .before .before .before .before in
+    let at-if1 = c .before .before .before .before .before .before .before .before .before .before .before .before in
+    let at-pre = at-if1 .before .before .before .before .before .before .before in
     (at-pre .pre .3 .within .entries, at-pre .pre .4)
 
 returns-4 : tie.Need-returns-4

@@ -1,4 +1,5 @@
--- `book_tables::relationships::is_related` meets its contract. The loop's invariant: no relationship from the node before the entry is the one. Assumes nothing.
+-- `book_tables::relationships::is_related` meets its contract. The loop's invariant: no relationship from the node before the entry is the one.
+-- Assumes nothing.
 use Rattle.book_tables.proofs.Walks.{RelWalk, rels-first, rels-inside, rels-next, rels-fall, rel-found, rel-absent}
 use native.Mathlib.Omega.{arith}
 use borrow.Author.Needs.{needs}

@@ -39,8 +39,8 @@ returns-3 c =
     ∙ not-false (at-is-letter .is-letter .result) (at-if1 .if1 .left)) (c .before .before .before .q .given .0 .0)
     (sym (c .before .before .before .q .given .1) ∙ at-word .word .ensures) (sym (c .before .touches .ensures) ∙ c .if2 .taken)
 
-sub-is-name : tie.Need-sub-is-name
-sub-is-name c =
+sub-is-none-of-six : tie.Need-sub-is-none-of-six
+sub-is-none-of-six c =
     let at-word = c .before .before .before .before .before in
     let at-if1 = at-word .before in
     let at-is-letter = at-if1 .before in
@@ -56,8 +56,8 @@ sub-is-name c =
           (sym (c .before .before .before .q .given .1) ∙ at-word .word .ensures),
     )
 
-part-is-name-start : tie.Need-part-is-name-start
-part-is-name-start c =
+part-is-none-of-six-start : tie.Need-part-is-none-of-six-start
+part-is-none-of-six-start c =
     let at-word = c .before .before .before .before .before in
     let at-if1 = at-word .before in
     let at-is-letter = at-if1 .before in
@@ -73,8 +73,8 @@ part-is-name-start c =
           (sym (c .before .before .before .q .given .1) ∙ at-word .word .ensures),
     )
 
-part-is-name-end : tie.Need-part-is-name-end
-part-is-name-end c =
+part-is-none-of-six-end : tie.Need-part-is-none-of-six-end
+part-is-none-of-six-end c =
     let at-word = c .before .before .before .before .before in
     let at-if1 = at-word .before in
     let at-is-letter = at-if1 .before in
@@ -121,7 +121,7 @@ returns-4 c =
     name-found (at-args .args .chain) (at-args .args .close) (at-args .args .s .now) (at-args .args .from) (at-blanks-end .blanks-end .result)
     (at-blanks-end .blanks-end .ensures) (ap isLetter (sym (at-peek .peek .ensures)) ∙ sym (at-is-letter .is-letter .ensures)
     ∙ not-false (at-is-letter .is-letter .result) (at-if1 .if1 .left)) (at-q .q .given .0 .0) (sym (at-q .q .given .1) ∙ at-word .word .ensures)
-    (sym (at-touches .touches .ensures) ∙ c .before .before .before .if2 .left) (sym (c .before .is-name .ensures) ∙ c .if3 .taken)
+    (sym (at-touches .touches .ensures) ∙ c .before .before .before .if2 .left) (sym (c .before .is-none-of-six .ensures) ∙ c .if3 .taken)
 
 returns-5 : tie.Need-returns-5
 unfolding partOf
@@ -137,7 +137,7 @@ returns-5 c =
     name-reserved (at-args .args .chain) (at-args .args .close) (at-args .args .s .now) (at-args .args .from) (at-blanks-end .blanks-end .result)
     (at-blanks-end .blanks-end .ensures) (ap isLetter (sym (at-peek .peek .ensures)) ∙ sym (at-is-letter .is-letter .ensures)
     ∙ not-false (at-is-letter .is-letter .result) (at-if1 .if1 .left)) (at-q .q .given .0 .0) (sym (at-q .q .given .1) ∙ at-word .word .ensures)
-    (sym (at-touches .touches .ensures) ∙ c .before .before .before .if2 .left) (sym (c .before .is-name .ensures) ∙ c .if3 .left)
+    (sym (at-touches .touches .ensures) ∙ c .before .before .before .if2 .left) (sym (c .before .is-none-of-six .ensures) ∙ c .if3 .left)
 
 pub name-next-spec : {M : Type 1} → statement M
 name-next-spec =
@@ -153,9 +153,9 @@ name-next-spec =
     returns-2
     (λ c κs. search needs)
     returns-3
-    sub-is-name
-    part-is-name-start
-    part-is-name-end
+    sub-is-none-of-six
+    part-is-none-of-six-start
+    part-is-none-of-six-end
     (λ c κs. search needs)
     sub-t16
     returns-4
