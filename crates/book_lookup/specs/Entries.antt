@@ -54,12 +54,6 @@ abbrev pub entriesOf : Owner → Book → ℕ → List Entry
 entriesOf Node b i = nodeEntries b i
 entriesOf Relationship b i = relEntries b i
 
--- the value of an owner's attribute, both by their numbers; of a node's, and of a relationship's
+-- the value of an owner's attribute, both by their numbers
 abbrev pub ownerValue : Owner → Book → ℕ → ℕ → Maybe Value
 ownerValue o b i attribute = valueIn (entriesOf o b i) (getD (attrNames (attrsOf o b)) attribute [])
-
-unfoldable pub nodeValue : Book → ℕ → ℕ → Maybe Value
-nodeValue b node attribute = ownerValue Node b node attribute
-
-unfoldable pub relationshipValue : Book → ℕ → ℕ → Maybe Value
-relationshipValue b relationship attribute = ownerValue Relationship b relationship attribute

@@ -6,7 +6,7 @@ ghost use Rattle.model.specs.Graph.{compares, sameOrNot, inRelation, meets};
 ghost use Rattle.model.specs.Answers.{relationOf, valueOf};
 ghost use Rattle.book_tables.specs.View.{bookAt};
 ghost use Rattle.book_tables.specs.Owners.{tablesOf};
-ghost use Rattle.book_lookup.specs.Entries.{entryValue, valueAt, ownerValue, nodeValue, relationshipValue};
+ghost use Rattle.book_lookup.specs.Entries.{entryValue, valueAt, ownerValue};
 ghost use Rattle.book_lookup.specs.Ready.{Room, EntryReady, FoundReady, ValueInside, Asked};
 use crate::AttributeFound;
 use crate::entries::owner_entry;
@@ -22,64 +22,8 @@ use model::Relation;
 use model::Value;
 use text::Order;
 
-// Whether a node's attribute meets a requirement whose text value is part of `text`.
-pub fn node_meets(
-    book: &[u8],
-    words: &[u32],
-    counts: BookCounts,
-    node: usize,
-    attribute: usize,
-    relation: Relation,
-    value: Value,
-    text: &[u8],
-) -> bool
-    requires { ⌜ Asked (now book) (now words) counts node (counts .nodes) attribute (counts .vattrs) × ValueInside (now text) value ⌝ }
-    ensures { λ r. ⌜ r ≡ meets (nodeValue (bookAt (now (book .entry)) (now (words .entry)) counts) node attribute) (relationOf relation)
-        (valueOf (now (text .entry)) value) ⌝ }
-{
-    owner_meets(
-        book,
-        words,
-        counts,
-        Owner::Node,
-        node,
-        attribute,
-        relation,
-        value,
-        text,
-    )
-}
-
-// Whether a relationship's attribute meets a requirement whose text value is part of `text`.
-pub fn relationship_meets(
-    book: &[u8],
-    words: &[u32],
-    counts: BookCounts,
-    relationship: usize,
-    attribute: usize,
-    relation: Relation,
-    value: Value,
-    text: &[u8],
-) -> bool
-    requires { ⌜ Asked (now book) (now words) counts relationship (counts .relationships) attribute (counts .eattrs) × ValueInside (now text) value ⌝ }
-    ensures { λ r. ⌜ r ≡ meets (relationshipValue (bookAt (now (book .entry)) (now (words .entry)) counts) relationship attribute) (relationOf relation)
-        (valueOf (now (text .entry)) value) ⌝ }
-{
-    owner_meets(
-        book,
-        words,
-        counts,
-        Owner::Relationship,
-        relationship,
-        attribute,
-        relation,
-        value,
-        text,
-    )
-}
-
 // Whether an owner's attribute meets a requirement whose text value is part of `text`.
-fn owner_meets(
+pub fn owner_meets(
     book: &[u8],
     words: &[u32],
     counts: BookCounts,
