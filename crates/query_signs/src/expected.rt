@@ -64,7 +64,7 @@ pub fn name_next(s: &[u8], from: usize, chain: bool, close: bool) -> NameRead
     if kinds::touches(close, from, at) {
         return NameRead::None;
     }
-    if compare::is_none_of_six(&s[at..q]) {
+    if compare::is_query_name(&s[at..q]) {
         return NameRead::Found(
             Part {
                 start: at,

@@ -102,6 +102,16 @@ pub fn is_name(w: &[u8]) -> bool
     true
 }
 
+// The same for the words of a query, most of which are shorter than those six.
+pub fn is_query_name(w: &[u8]) -> bool
+    ensures { λ r. ⌜ r ≡ not (mem (now (w .entry)) neverNames) ⌝ }
+{
+    if w.len() < SHORTEST {
+        return true;
+    }
+    is_none_of_six(w)
+}
+
 // Whether one of the six words that are never names begins with a byte.
 fn begins_one_of_six(b: u8) -> bool
     ensures { λ r. ⌜ r ≡ beginsOneOfSix b ⌝ }
@@ -109,8 +119,8 @@ fn begins_one_of_six(b: u8) -> bool
     (b == b'M') | (b == b'W') | (b == b'A') | (b == b'R') | (b == b't') | (b == b'f')
 }
 
-// Whether a word is none of the six words that are never names. Queries ask this at once: their names are short.
-pub fn is_none_of_six(w: &[u8]) -> bool
+// Whether a word is none of the six words that are never names.
+fn is_none_of_six(w: &[u8]) -> bool
     ensures { λ r. ⌜ r ≡ not (mem (now (w .entry)) neverNames) ⌝ }
 {
     if same_bytes(w, b"Match") {

@@ -39,8 +39,8 @@ returns-3 c =
     ∙ not-false (at-is-letter .is-letter .result) (at-if1 .if1 .left)) (c .before .before .before .q .given .0 .0)
     (sym (c .before .before .before .q .given .1) ∙ at-word .word .ensures) (sym (c .before .touches .ensures) ∙ c .if2 .taken)
 
-sub-is-none-of-six : tie.Need-sub-is-none-of-six
-sub-is-none-of-six c =
+sub-is-query-name : tie.Need-sub-is-query-name
+sub-is-query-name c =
     let at-word = c .before .before .before .before .before in
     let at-if1 = at-word .before in
     let at-is-letter = at-if1 .before in
@@ -56,8 +56,8 @@ sub-is-none-of-six c =
           (sym (c .before .before .before .q .given .1) ∙ at-word .word .ensures),
     )
 
-part-is-none-of-six-start : tie.Need-part-is-none-of-six-start
-part-is-none-of-six-start c =
+part-is-query-name-start : tie.Need-part-is-query-name-start
+part-is-query-name-start c =
     let at-word = c .before .before .before .before .before in
     let at-if1 = at-word .before in
     let at-is-letter = at-if1 .before in
@@ -73,8 +73,8 @@ part-is-none-of-six-start c =
           (sym (c .before .before .before .q .given .1) ∙ at-word .word .ensures),
     )
 
-part-is-none-of-six-end : tie.Need-part-is-none-of-six-end
-part-is-none-of-six-end c =
+part-is-query-name-end : tie.Need-part-is-query-name-end
+part-is-query-name-end c =
     let at-word = c .before .before .before .before .before in
     let at-if1 = at-word .before in
     let at-is-letter = at-if1 .before in
@@ -121,7 +121,7 @@ returns-4 c =
     name-found (at-args .args .chain) (at-args .args .close) (at-args .args .s .now) (at-args .args .from) (at-blanks-end .blanks-end .result)
     (at-blanks-end .blanks-end .ensures) (ap isLetter (sym (at-peek .peek .ensures)) ∙ sym (at-is-letter .is-letter .ensures)
     ∙ not-false (at-is-letter .is-letter .result) (at-if1 .if1 .left)) (at-q .q .given .0 .0) (sym (at-q .q .given .1) ∙ at-word .word .ensures)
-    (sym (at-touches .touches .ensures) ∙ c .before .before .before .if2 .left) (sym (c .before .is-none-of-six .ensures) ∙ c .if3 .taken)
+    (sym (at-touches .touches .ensures) ∙ c .before .before .before .if2 .left) (sym (c .before .is-query-name .ensures) ∙ c .if3 .taken)
 
 returns-5 : tie.Need-returns-5
 unfolding partOf
@@ -137,7 +137,7 @@ returns-5 c =
     name-reserved (at-args .args .chain) (at-args .args .close) (at-args .args .s .now) (at-args .args .from) (at-blanks-end .blanks-end .result)
     (at-blanks-end .blanks-end .ensures) (ap isLetter (sym (at-peek .peek .ensures)) ∙ sym (at-is-letter .is-letter .ensures)
     ∙ not-false (at-is-letter .is-letter .result) (at-if1 .if1 .left)) (at-q .q .given .0 .0) (sym (at-q .q .given .1) ∙ at-word .word .ensures)
-    (sym (at-touches .touches .ensures) ∙ c .before .before .before .if2 .left) (sym (c .before .is-none-of-six .ensures) ∙ c .if3 .left)
+    (sym (at-touches .touches .ensures) ∙ c .before .before .before .if2 .left) (sym (c .before .is-query-name .ensures) ∙ c .if3 .left)
 
 pub name-next-spec : {M : Type 1} → statement M
 name-next-spec =
@@ -153,9 +153,9 @@ name-next-spec =
     returns-2
     (λ c κs. search needs)
     returns-3
-    sub-is-none-of-six
-    part-is-none-of-six-start
-    part-is-none-of-six-end
+    sub-is-query-name
+    part-is-query-name-start
+    part-is-query-name-end
     (λ c κs. search needs)
     sub-t16
     returns-4
