@@ -4,7 +4,6 @@ use Rattle.woven_tables.specs.Tables.{actorsAt}
 use Rattle.model.proofs.Places.{length-map}
 use native.Mathlib.Omega.{arith}
 use mathlib.Core.Path.{sym, _∙_}
-use borrow.Author.Needs.{needs}
 use Rattle.weave.proofs.add_pattern.Statement.{statement}
 use Rattle.weave.proofs.add_pattern.Tie as tie
 
@@ -34,7 +33,8 @@ add-requirement-sum c =
 
 returns-2 : tie.Need-returns-2
 returns-2 c =
-    let at-pre = c .before .before .before .before .before .before .before .before .before .before .before .before .before .before .before .before .before .before .before .before in
+    let at-add-vertices = c .before .before .before .before .before .before .before .before .before .before .before .before in
+    let at-pre = at-add-vertices .before .before .before .before .before .before .before .before in
     let a = at-pre .args in
     passed-by-edges (a .query .now) (a .rules .now) (actorsAt (a .rules .now) (a .actors .now) (a .actor-count)) (a .k) (a .base) (a .pattern)
     (a .words .now) (a .counts)
@@ -104,19 +104,27 @@ add-pattern-spec =
     tie.close
     (tie.spec
     add-vertices-requires
-    (λ c. search needs)
+    (λ c. c .before .before .before .before .add-vertices .kept .1 .1 .1 .1 .1 .1 .1 .1 .0)
     returns
-    (λ c κs. search needs)
-    (λ c. search needs)
-    (λ c. search needs)
-    (λ c. search needs)
+    (λ c κs. c .before .before .before .before .before .before .before .before .before .before .before .before .before .pre .fits .few-clauses)
+    (λ c. let p = c .before .before .before .before .before .before .before .before .before .before .before .before .before .before .before .before .pre in
+    omega (arith, p .kept .edges, p .fits .few-edges))
+    (λ c. let at-count-exclusions = c .before .before .before in
+    let p = at-count-exclusions .before .before .before .before .before .before .before .before .before .before .before .before .before .before .pre in
+    omega (arith, p .kept .exclusions, p .fits .few-clauses, at-count-exclusions .count-exclusions .ensures .some))
+    (λ c. omega (arith, c .before .before .before .before .count-exclusions .ensures .some))
     add-requirement-sum
-    (λ c. search needs)
+    (λ c. c .before .before .before .before .before .before .before .before .before .before .before .before .add-vertices .kept .1 .1 .1 .1 .1 .1 .1 .1 .0)
     returns-2
-    (λ c. search needs)
+    (λ c. let at-add-vertices = c .before .before .before .before .before .before .before .before .before .before .before .before .before in
+    at-add-vertices .add-vertices .kept .1 .1 .1 .1 .1 .1 .1 .1 .0)
     returns-3
-    (λ c. search needs)
+    (λ c. let at-add-vertices = c .before .before .before .before .before .before .before .before .before .before .before .before .before .before in
+    at-add-vertices .add-vertices .kept .1 .1 .1 .1 .1 .1 .1 .1 .0)
     returns-4
     add-rest-requires
-    (λ c. search needs)
+    (λ c. let at-add-rest = c .before .before in
+    let at-if2 = at-add-rest .before .before .before .before .before in
+    let at-add-vertices = at-if2 .before .before .before .before .before .before .before .before .before .before .before .before in
+    at-add-rest .add-rest .kept .1 .1 .1 .1 .0 ∙ at-add-vertices .add-vertices .kept .1 .1 .1 .1 .1 .1 .1 .1 .0)
     returns-5)
