@@ -70,7 +70,8 @@ pub fn edge_of(
     own: usize,
 ) -> Edge
     requires { ⌜ Fits (now book) (now words) counts × HasPart (now s) (link .label) ⌝ }
-    ensures { λ r. ⌜ r ≡ edgeMade (bookAt (now (book .entry)) (now (words .entry)) counts) (now (s .entry)) link (pick points last own) (pick points own last) ⌝ }
+    ensures { λ r. ⌜ r ≡ edgeMade (bookAt (now (book .entry)) (now (words .entry)) counts) (now (s .entry)) link
+        (pick points last own) (pick points own last) ⌝ }
 {
     let word = link.label;
     let label = names::find_label(book, words, counts, parts::part_of(s, word));

@@ -53,7 +53,8 @@ pub fn add_vertices(
     requires { ⌜ VerticesReady base k parts count × («actor_count» ≤ length (now actors)) × (woven ≤ 24) × (wovenWords ≤ length (now words))
         × NamesStand (now query) (now rules) (now actors) «actor_count» (now words) woven base k parts count ⌝ }
     ensures { λ r. ⌜ VerticesAdded (now (query .entry)) (now (rules .entry))
-        (textVertices (drop base (textOf (now (query .entry)) (now (rules .entry)) k)) k (actorsAt (now (rules .entry)) (now (actors .entry)) «actor_count») parts count) count
+        (textVertices (drop base (textOf (now (query .entry)) (now (rules .entry)) k)) k
+        (actorsAt (now (rules .entry)) (now (actors .entry)) «actor_count») parts count) count
         (now (words .entry)) (now (words .exit)) woven r ⌝ }
 {
     let mut numbers = [0usize; MAX_VERTICES];

@@ -56,8 +56,9 @@ loop-again c =
     let at-if1 = at-loop .before in
     let at-args = at-if1 .before .before .before .before in
     let a = at-args .args in
-    let own : identifiedBy (vertexOfWord (a .query .now) (a .rules .now) (a .word)) (identityIn (a .request .now) (getD (a .t4) (at-loop .loop .i) noIdentity)) ≡ false =
-    compared (a .query .now) (a .rules .now) (a .request .now) (a .word) (getD (a .t4) (at-loop .loop .i) noIdentity)
+    let one = getD (a .t4) (at-loop .loop .i) noIdentity in
+    let own : identifiedBy (vertexOfWord (a .query .now) (a .rules .now) (a .word)) (identityIn (a .request .now) one) ≡ false =
+    compared (a .query .now) (a .rules .now) (a .request .now) (a .word) one
     (c .before .before .part-of .result .now) (c .before .says .result) (at-if1 .if1 .taken) (c .before .before .part-of .ensures) (c .before .says .ensures)
     ∙ c .if2 .left in (
       omega arith,
