@@ -43,7 +43,9 @@ fn link_passed(
         → Behind (bookAt (now (book .entry)) (now (words .entry)) counts) (now (s .entry)) (take i (textPieces (now (s .entry)))) (before .survey)
         (goes (nameAt (now (s .entry)) (l .edge)) (nameAt (now (s .entry)) (l .label)) (nameAt (now (s .entry)) (l .vertex))) (now (vertices .exit))
         (now (edges .exit)) returned r
-        × Behind (bookAt (now (book .entry)) (now (words .entry)) counts) (now (s .entry)) (take i (textPieces (now (s .entry)))) (before .survey) (comes (nameAt (now (s .entry)) (l .edge)) (nameAt (now (s .entry)) (l .label)) (nameAt (now (s .entry)) (l .vertex))) (now (vertices .exit)) (now (edges .exit)) returned r) ⌝ }
+        × Behind (bookAt (now (book .entry)) (now (words .entry)) counts) (now (s .entry)) (take i (textPieces (now (s .entry)))) (before .survey)
+        (comes (nameAt (now (s .entry)) (l .edge)) (nameAt (now (s .entry)) (l .label)) (nameAt (now (s .entry)) (l .vertex))) (now (vertices .exit))
+        (now (edges .exit)) returned r) ⌝ }
 {
     let mut met = before.met;
     let t = before.survey;

@@ -47,7 +47,8 @@ fn form_step(
 ) -> RulesStep
     requires { ⌜ FormAsked (now book) (now words) counts (now text) (now «rules_words») known (now s) base ⌝ }
     ensures { λ r. ⌜ Stepped (now (text .entry)) (now («rules_words» .exit)) r
-        (stepOf (bookAt (now (book .entry)) (now (words .entry)) counts) (rulesAt (now (text .entry)) (now («rules_words» .entry)) known) (andThen (lineItems (now (s .entry))) rulesLine)) ⌝ }
+        (stepOf (bookAt (now (book .entry)) (now (words .entry)) counts) (rulesAt (now (text .entry)) (now («rules_words» .entry)) known)
+        (andThen (lineItems (now (s .entry))) rulesLine)) ⌝ }
 {
     match forms::rules_form(s) {
         RulesForm::Category(name, a, o) => {
@@ -74,7 +75,8 @@ fn line_step(
 ) -> RulesStep
     requires { ⌜ LineAsked (now book) (now words) counts (now text) (now «rules_words») known from to ⌝ }
     ensures { λ r. ⌜ Stepped (now (text .entry)) (now («rules_words» .exit)) r
-        (rulesStep (bookAt (now (book .entry)) (now (words .entry)) counts) (rulesAt (now (text .entry)) (now («rules_words» .entry)) known) (lineAt (now (text .entry)) from to)) ⌝ }
+        (rulesStep (bookAt (now (book .entry)) (now (words .entry)) counts) (rulesAt (now (text .entry)) (now («rules_words» .entry)) known)
+        (lineAt (now (text .entry)) from to)) ⌝ }
 {
     if text.len() <= to {
         return RulesStep::Fault(BROKEN);

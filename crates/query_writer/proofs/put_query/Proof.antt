@@ -7,7 +7,9 @@ use Rattle.query_writer.proofs.put_query.Tie as tie
 
 put-returns-requires : tie.Need-put-returns-requires
 put-returns-requires c κs =
-    let at-pre = c .before .before .before .before .before .before .before .before .before .before .before .before .before .before .before .before .before .before .before .before .before .before .before .before .before .before .before in
+    let at-put-conditions = c .before .before .before .before .before .before .before .before in
+    let at-put-vertices = at-put-conditions .before .before .before .before .before .before .before .before in
+    let at-pre = at-put-vertices .before .before .before .before .before .before .before .before .before .before .before in
     at-pre .pre .returns
 
 returns : tie.Need-returns

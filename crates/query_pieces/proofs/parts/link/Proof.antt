@@ -94,8 +94,9 @@ returns-5 c =
 
 mark-next-requires-4 : tie.Need-mark-next-requires-4
 mark-next-requires-4 c κs =
-    let at-before = c .before .before .before .before .before .before .before .before .before .before .before .before .before .before .before .before .before .before .before .before in
-    let at-pre = at-before .before in
+    let at-label = c .before .before .before .before .before in
+    let at-edge = at-label .before .before .before .before .before .before .before .before in
+    let at-pre = at-edge .before .before .before .before .before .before .before .before in
     at-pre .pre
 
 returns-6 : tie.Need-returns-6

@@ -7,7 +7,9 @@ use Rattle.query_writer.proofs.matches.put_edge.Tie as tie
 
 put-declared-requires : tie.Need-put-declared-requires
 put-declared-requires c κs =
-    let at-pre = c .before .before .before .before .before .before .before .before .before .before .before .before .before .before .before .before .before .before .before .before .before .before .before .before .before .before .before .before .before .before .before in
+    let at-put-part2 = c .before .before .before .before .before .before .before .before in
+    let at-put-part = at-put-part2 .before .before .before .before .before .before .before .before .before in
+    let at-pre = at-put-part .before .before .before .before .before .before .before .before .before .before .before .before .before .before in
     at-pre .pre .label
 
 put-part-requires-3 : tie.Need-put-part-requires-3

@@ -73,7 +73,15 @@ loop-less c =
     )
 
 loop-again : tie.Need-loop-again Inv-loop μ-loop
-loop-again c = reading-on _ (c .before .before .before .before .before .before .before .before .before .before .before .before .before .before .before .args .text .now) _ _ (c .before .before .before .before .before .before .before .before .before .loop .at) _ _ (c .before .before .before .before .before .before .before .before .before .loop .inv) _ (c .before .before .before .before .before .before .before .line-end .ensures) (c .before .before .before .before .before .before .before .before .loop-test .taken) _ _ (c .before .before .before .before .before .line-step .ensures) _ (c .before .more .given .1) (search needs)
+loop-again c =
+    let at-more = c .before in
+    let at-line-step = at-more .before .before .before .before in
+    let at-line-end = at-line-step .before .before in
+    let at-loop-test = at-line-end .before in
+    let at-loop = at-loop-test .before in
+    let at-args = at-loop .before .before .before .before .before .before in
+    reading-on _ (at-args .args .text .now) _ _ (at-loop .loop .at) _ _ (at-loop .loop .inv) _ (at-line-end .line-end .ensures)
+    (at-loop-test .loop-test .taken) _ _ (at-line-step .line-step .ensures) _ (at-more .more .given .1) (search needs)
 
 covered-rules-requires : tie.Need-covered-rules-requires Inv-loop μ-loop
 covered-rules-requires c κs = (c .before .before .loop .inv .fits, c .before .before .before .before .before .before .before .before .pre .1)
