@@ -90,7 +90,8 @@ fn read_one(
 ) -> RequestRead
     requires { ⌜ Fits (now book) (now words) counts × RulesFit (now rules) (now table) sizes ⌝ }
     ensures { λ r. ⌜ Reads (counts .nodes) (now (rules .entry)) (now (table .entry)) (sizes .categories) (now (text .entry))
-        (oneLine (bookAt (now (book .entry)) (now (words .entry)) counts) (rulesAt (now (rules .entry)) (now (table .entry)) sizes) (linesOf (now (text .entry)))) r ⌝ }
+        (oneLine (bookAt (now (book .entry)) (now (words .entry)) counts) (rulesAt (now (rules .entry)) (now (table .entry)) sizes)
+        (linesOf (now (text .entry)))) r ⌝ }
 {
     let to = text::lines::line_end(text, 0);
     if text.len() <= to {

@@ -59,7 +59,9 @@ part-weave-text-end c =
 
 add-t37 : tie.Need-add-t37
 add-t37 c =
-    let at-pre = c .before .before .before .before .before .before .before .before .before .before .before .before .before .before .before .before .before .before .before .before .before .before in
+    let at-weave-text = c .before .before .before .before .before in
+    let at-has = at-weave-text .before .before .before .before .before .before .before .before .before in
+    let at-pre = at-has .before .before .before .before .before .before .before .before in
     let a = at-pre .args in
     let given = at-pre .pre in
     omega (
