@@ -8,10 +8,13 @@ use Rattle.service.proofs.list.Tie as tie
 
 returns : tie.Need-returns
 returns c =
-    let a = c .before .before .before .before .before .before .before .before .before .before .before .before .before .before .before .before .before .before .before .before .before .before .before .args in
-    list-refused _ _ _ _ (a .rows .now) (a .work .now) _ _ _ _ _
-    (c .before .before .before .before .before .before .before .before .before .before .before .before .before .before .prepare .ensures)
-    (cleared-all (c .before .before .before .before .before .before .before .before .before .before .before .before .before .before .before .before .before .before .before .before .before .before .before .args .work .now) _ _ (c .before .before .before .before .before .before .clear .ensures) (search needs)) _ (c .before .before .before .before .before .before .before .before .before .verdict .given .1) _ (c .before .before .refuse .ensures)
+    let at-refuse = c .before .before in
+    let at-clear = at-refuse .before .before .before .before in
+    let at-verdict = at-clear .before .before .before in
+    let at-prepare = at-verdict .before .before .before .before .before in
+    let a = at-prepare .before .before .before .before .before .before .before .before .before .args in
+    list-refused _ _ _ _ (a .rows .now) (a .work .now) _ _ _ _ _ (at-prepare .prepare .ensures)
+    (cleared-all (a .work .now) _ _ (at-clear .clear .ensures) (search needs)) _ (at-verdict .verdict .given .1) _ (at-refuse .refuse .ensures)
 
 from-texts-requires : tie.Need-from-texts-requires
 from-texts-requires c κs =

@@ -7,9 +7,12 @@ use Rattle.service.proofs.read_query.Tie as tie
 
 returns : tie.Need-returns
 returns c =
-    let w = query-refused _ _ _ _ _ _ _ _ (c .before .before .before .before .before .before .before .before .before .before .prepare .ensures) _
-    (c .before .before .before .before .before .enum-told .given .1) _ (c .empty .ensures) in
-    (w .0, (w .1, cleared-all (c .before .before .before .before .before .before .before .before .before .before .before .before .before .before .before .before .before .before .args .work .now) _ _ (c .before .before .before .clear .ensures) (search needs)))
+    let at-clear = c .before .before .before in
+    let at-enum-told = at-clear .before .before in
+    let at-prepare = at-enum-told .before .before .before .before .before in
+    let a = at-prepare .before .before .before .before .before .before .before .before .args in
+    let w = query-refused _ _ _ _ _ _ _ _ (at-prepare .prepare .ensures) _ (at-enum-told .enum-told .given .1) _ (c .empty .ensures) in
+    (w .0, (w .1, cleared-all (a .work .now) _ _ (at-clear .clear .ensures) (search needs)))
 
 pattern-of-requires : tie.Need-pattern-of-requires
 pattern-of-requires c κs =
@@ -18,10 +21,13 @@ pattern-of-requires c κs =
 
 returns-2 : tie.Need-returns-2
 returns-2 c =
-    let w = query-accepted-as _ _ _ _ _ _ _ _
-    (c .before .before .before .before .before .before .before .before .before .before .before .before .prepare .ensures)
-    (c .before .before .before .before .before .before .before .enum-told2 .given .1) _ (c .before .before .before .before .pattern-of .ensures) in
-    (w .0, (w .1, cleared-all (c .before .before .before .before .before .before .before .before .before .before .before .before .before .before .before .before .before .before .before .before .args .work .now) _ _ (c .before .before .clear2 .ensures) (search needs)))
+    let at-clear = c .before .before in
+    let at-pattern-of = at-clear .before .before in
+    let at-enum-told = at-pattern-of .before .before .before in
+    let at-prepare = at-enum-told .before .before .before .before .before in
+    let a = at-prepare .before .before .before .before .before .before .before .before .args in
+    let w = query-accepted-as _ _ _ _ _ _ _ _ (at-prepare .prepare .ensures) (at-enum-told .enum-told2 .given .1) _ (at-pattern-of .pattern-of .ensures) in
+    (w .0, (w .1, cleared-all (a .work .now) _ _ (at-clear .clear2 .ensures) (search needs)))
 
 pub read-query-spec : {M : Type 1} → statement M
 read-query-spec =

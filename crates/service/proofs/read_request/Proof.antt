@@ -7,8 +7,11 @@ use Rattle.service.proofs.read_request.Tie as tie
 
 returns : tie.Need-returns
 returns c =
-    let w = request-answered _ _ _ _ _ _ _ _ (c .before .before .before .before .before .before .before .prepare .ensures) in
-    (w .0, (w .1, cleared-all (c .before .before .before .before .before .before .before .before .before .before .before .before .before .before .before .args .work .now) _ _ (c .before .before .before .clear .ensures) (search needs)))
+    let at-clear = c .before .before .before in
+    let at-prepare = at-clear .before .before .before .before in
+    let a = at-prepare .before .before .before .before .before .before .before .before .args in
+    let w = request-answered _ _ _ _ _ _ _ _ (at-prepare .prepare .ensures) in
+    (w .0, (w .1, cleared-all (a .work .now) _ _ (at-clear .clear .ensures) (search needs)))
 
 pub read-request-spec : {M : Type 1} → statement M
 read-request-spec =

@@ -6,19 +6,22 @@ use Rattle.service.proofs.read_rules.Statement.{statement}
 use Rattle.service.proofs.read_rules.Tie as tie
 
 returns : tie.Need-returns
-returns c = (
-  rules-counted _ _ _ _ _ _ _ _ (c .before .before .before .before .before .before .before .before .before .before .prepare .ensures)
-      (c .enum-told .given .1),
-  cleared-all (c .before .before .before .before .before .before .before .before .before .before .before .before .before .before .before .before .before .before .args .work .now) _ _ (c .before .before .before .before .before .before .clear .ensures) (search needs),
-)
+returns c =
+    let at-clear = c .before .before .before .before .before .before in
+    let at-prepare = at-clear .before .before .before .before in
+    let a = at-prepare .before .before .before .before .before .before .before .before .args in (
+      rules-counted _ _ _ _ _ _ _ _ (at-prepare .prepare .ensures) (c .enum-told .given .1),
+      cleared-all (a .work .now) _ _ (at-clear .clear .ensures) (search needs),
+    )
 
 returns-2 : tie.Need-returns-2
-returns-2 c = (
-  rules-refused _ _ _ _ _ _ _ _ (c .before .before .before .before .before .before .before .before .before .before .before .prepare .ensures)
-      _ (c .before .verdict .given .1),
-  cleared-all
-      (c .before .before .before .before .before .before .before .before .before .before .before .before .before .before .before .before .before .before .before .args .work .now) _ _ (c .before .before .before .before .before .before .before .clear .ensures) (search needs),
-)
+returns-2 c =
+    let at-clear = c .before .before .before .before .before .before .before in
+    let at-prepare = at-clear .before .before .before .before in
+    let a = at-prepare .before .before .before .before .before .before .before .before .args in (
+      rules-refused _ _ _ _ _ _ _ _ (at-prepare .prepare .ensures) _ (c .before .verdict .given .1),
+      cleared-all (a .work .now) _ _ (at-clear .clear .ensures) (search needs),
+    )
 
 pub read-rules-spec : {M : Type 1} → statement M
 read-rules-spec =

@@ -1,4 +1,5 @@
 -- `write_query` meets its contract: the text of the query that is ready, 14 where it does not fit, or the refusal; then the memory is filled.
+use native.Mathlib.Omega.{arith}
 use Rattle.prepare.proofs.ThroughLaws.{cleared-all}
 use Rattle.service.proofs.WritingLaws.{writer-refused, writer-asked, writable, wrote-length, wrote-too-long}
 use borrow.Author.Needs.{needs}
@@ -7,8 +8,12 @@ use Rattle.service.proofs.write_query.Tie as tie
 
 returns : tie.Need-returns
 returns c =
-    let w = writer-refused _ (c .before .before .before .before .before .before .before .before .before .before .before .before .before .before .before .before .before .before .before .args .text .now) _ _ _ _ _ _ _ (c .before .before .before .before .before .before .before .before .before .before .prepare .ensures) _ (c .before .before .before .before .before .verdict .given .1) in
-    (w .0, (w .1, cleared-all (c .before .before .before .before .before .before .before .before .before .before .before .before .before .before .before .before .before .before .before .args .work .now) _ _ (c .before .before .clear .ensures) (search needs)))
+    let at-clear = c .before .before in
+    let at-verdict = at-clear .before .before .before in
+    let at-prepare = at-verdict .before .before .before .before .before in
+    let a = at-prepare .before .before .before .before .before .before .before .before .before .args in
+    let w = writer-refused _ (a .text .now) _ _ _ _ _ _ _ (at-prepare .prepare .ensures) _ (at-verdict .verdict .given .1) in
+    (w .0, (w .1, cleared-all (a .work .now) _ _ (at-clear .clear .ensures) (search needs)))
 
 pattern-of-requires : tie.Need-pattern-of-requires
 pattern-of-requires c κs =
@@ -26,13 +31,30 @@ write-query-requires c κs =
 
 returns-2 : tie.Need-returns-2
 returns-2 c =
-    let w = wrote-length _ (c .before .before .before .before .before .before .before .before .before .before .before .before .before .before .before .before .before .before .before .before .before .before .before .before .before .before .before .before .before .args .text .now) _ _ _ _ _ _ _ (c .before .before .before .before .before .before .before .before .before .before .before .before .before .before .before .before .before .before .before .before .prepare .ensures) (c .before .before .before .before .before .before .before .before .before .before .before .before .before .before .before .enum-told .given .1) _ (c .before .before .before .before .before .before .before .before .before .before .before .before .pattern-of .ensures) _ _ (c .before .before .before .before .before .before .before .before .before .write-query .ensures) _ (c .before .written .given .1) in
-    (w .0, (w .1, cleared-all (c .before .before .before .before .before .before .before .before .before .before .before .before .before .before .before .before .before .before .before .before .before .before .before .before .before .before .before .before .before .args .work .now) _ _ (c .before .before .before .before .before .clear2 .ensures) (search needs)))
+    let at-written = c .before in
+    let at-clear = at-written .before .before .before .before in
+    let at-write-query = at-clear .before .before .before .before in
+    let at-pattern-of = at-write-query .before .before .before in
+    let at-enum-told = at-pattern-of .before .before .before in
+    let at-work = at-enum-told .before .before .before .before in
+    let at-prepare = at-work .before in
+    let a = at-prepare .before .before .before .before .before .before .before .before .before .args in
+    let w = wrote-length _ (a .text .now) _ _ _ _ _ _ _ (at-prepare .prepare .ensures) (at-enum-told .enum-told .given .1) _
+    (at-pattern-of .pattern-of .ensures) _ _ (at-write-query .write-query .ensures) _ (at-written .written .given .1) in
+    (w .0, (w .1, cleared-all (a .work .now) _ _ (at-clear .clear2 .ensures) (omega (arith, at-work .work .given))))
 
 returns-3 : tie.Need-returns-3
 returns-3 c =
-    let w = wrote-too-long _ (c .before .before .before .before .before .before .before .before .before .before .before .before .before .before .before .before .before .before .before .before .before .before .before .before .before .before .before .before .args .text .now) _ _ _ _ _ _ _ (c .before .before .before .before .before .before .before .before .before .before .before .before .before .before .before .before .before .before .before .prepare .ensures) (c .before .before .before .before .before .before .before .before .before .before .before .before .before .before .enum-told .given .1) _ (c .before .before .before .before .before .before .before .before .before .before .before .pattern-of .ensures) _ _ (c .before .before .before .before .before .before .before .before .write-query .ensures) (c .enum-told2 .given .1) in
-    (w .0, (w .1, cleared-all (c .before .before .before .before .before .before .before .before .before .before .before .before .before .before .before .before .before .before .before .before .before .before .before .before .before .before .before .before .args .work .now) _ _ (c .before .before .before .before .clear2 .ensures) (search needs)))
+    let at-clear = c .before .before .before .before in
+    let at-write-query = at-clear .before .before .before .before in
+    let at-pattern-of = at-write-query .before .before .before in
+    let at-enum-told = at-pattern-of .before .before .before in
+    let at-work = at-enum-told .before .before .before .before in
+    let at-prepare = at-work .before in
+    let a = at-prepare .before .before .before .before .before .before .before .before .before .args in
+    let w = wrote-too-long _ (a .text .now) _ _ _ _ _ _ _ (at-prepare .prepare .ensures) (at-enum-told .enum-told .given .1) _
+    (at-pattern-of .pattern-of .ensures) _ _ (at-write-query .write-query .ensures) (c .enum-told2 .given .1) in
+    (w .0, (w .1, cleared-all (a .work .now) _ _ (at-clear .clear2 .ensures) (omega (arith, at-work .work .given))))
 
 pub write-query-spec : {M : Type 1} → statement M
 write-query-spec =
