@@ -1,12 +1,13 @@
 -- "Checked by hand": the example and its ten cases marked *, one table and one theorem over it: of each the answer and every word of the row buffer.
 use Prim.Native.Nat.{ℕ, _-_}
 use Prim.Native.String.{String}
-use mathlib.Core.Path.{_≡_, refl}
+use mathlib.Core.Path.{_≡_, refl, ap}
 use mathlib.Core.List.{List, [], _∷_, _++_, map}
 use lib.ListN.{length}
 use Rattle.model.specs.Bytes.{bytesOf}
-use Rattle.model.specs.Refusal.{Outcome, accepted, refused}
-use Rattle.model.specs.Service.{ListAnswer, Listed, ones, listService}
+use Rattle.model.specs.Lists.{joined}
+use Rattle.model.specs.Refusal.{Outcome, accepted, refused, onAccept}
+use Rattle.model.specs.Service.{FoundRows, ListAnswer, Listed, ones, listFound, rowWords, listService}
 use Rattle.model.specs.Computing.{computing}
 use Rattle.model.proofs.Example.{book, rules, request}
 
@@ -74,7 +75,26 @@ cases =
     ∷ asks "Match (requestor)-[a:runs]->(h)<-[b:feeds]-(s) Where s.rate < 50 Return s, s" (returned 5 3 1) []
     ∷ []
 
+-- the words lent for a case and what is found of it, and what is to be found: of each row the node of the one Return name
+abbrev finds : Case → ℕ × Outcome FoundRows
+finds c = (c .words, listFound 16384 (c .words) (bytesOf book) (bytesOf rules) (bytesOf (c .query)) (bytesOf (c .request)))
+
+abbrev to-find : Case → ℕ × Outcome FoundRows
+to-find c = (c .words, onAccept (c .answer) (λ a. accepted (record { rows = map (λ n. n ∷ []) (c .rows); width = a .width })))
+
+-- what the list leaves of what is found; the words of all ones are not written out
+abbrev left : ℕ × Outcome FoundRows → Listed
+left f = record {
+  answer = onAccept (f .1) (λ a. accepted (record { rows = length (a .rows); width = a .width }));
+  rows = rowWords (f .0) (f .1);
+  work = ones 16384;
+}
+
+found-by-hand : map finds cases ≡ map to-find cases
+unfolding computing
+found-by-hand = refl
+
 -- the list leaves of each case what it is to leave
 pub checked-by-hand : map run cases ≡ map leaves cases
-unfolding computing
-checked-by-hand = refl
+unfolding listService rowWords onAccept joined
+checked-by-hand = ap (map left) found-by-hand
