@@ -1,6 +1,6 @@
 -- The texts of "Checked by hand", and what they are read as: theorems are shown to be about something by them.
 use Prim.Native.Nat.{ℕ}
-use Prim.Native.String.{String}
+use Prim.Native.String.{String, _++_ as _then_}
 use mathlib.Core.Path.{_≡_, refl}
 use mathlib.Core.List.{[], _∷_}
 use Rattle.model.specs.Bytes.{bytesOf, same}
@@ -19,7 +19,8 @@ use Rattle.model.specs.Computing.{computing}
 
 -- the book, of the nodes ana, hub, S5, S6, which are 0, 1, 2, 3
 abbrev pub book : String
-book = "(vattr kind str)\n(vattr rate int)\n(label runs)\n(label feeds)\n(node ana)\n(node hub (kind 'hub'))\n(node S5 (rate 40))\n(node S6)\n(rel runs ana hub)\n(rel feeds S5 hub)\n(rel feeds S6 hub)\n"
+book = "(vattr kind str)\n(vattr rate int)\n(label runs)\n(label feeds)\n(node ana)\n"
+    then "(node hub (kind 'hub'))\n(node S5 (rate 40))\n(node S6)\n(rel runs ana hub)\n(rel feeds S5 hub)\n(rel feeds S6 hub)\n"
 
 -- the rules, of one category with one policy
 abbrev pub rules : String

@@ -1,6 +1,6 @@
 -- Texts with two faults at once: the refusal given is the first in the paper's order. One table and one theorem over it.
 use Prim.Native.Nat.{ℕ}
-use Prim.Native.String.{String}
+use Prim.Native.String.{String, _++_ as _then_}
 use mathlib.Core.Path.{_≡_, refl}
 use mathlib.Core.List.{List, [], _∷_, _++_, map}
 use lib.ListN.{replicate}
@@ -73,9 +73,14 @@ inTurn =
     ∷ record { work = 16384; words = 1; book = goodBook; rules = goodRules; query = goodQuery; request = goodRequest; gives = accepted ((1 ∷ []) ∷ []) }
     ∷ []
 
--- three policies of eight vertices that no edge ties, and a query of two: 12 before 13, and 13 before 14
+-- a category over another, and its policy of eight vertices that no edge ties
+abbrev eight : String → String → String
+eight name over = "(category " then name then " (actors requestor) (over" then over then "))\n(policy " then name
+    then " \"Match (a) Match (b) Match (c) Match (d) Match (e) Match (f) Match (g) Match (h) Return a\")\n"
+
+-- three such policies, and a query of two: 12 before 13, and 13 before 14
 abbrev wide : String
-wide = "(category low (actors requestor) (over))\n(policy low \"Match (a) Match (b) Match (c) Match (d) Match (e) Match (f) Match (g) Match (h) Return a\")\n(category mid (actors requestor) (over low))\n(policy mid \"Match (a) Match (b) Match (c) Match (d) Match (e) Match (f) Match (g) Match (h) Return a\")\n(category view (actors requestor) (over mid))\n(policy view \"Match (a) Match (b) Match (c) Match (d) Match (e) Match (f) Match (g) Match (h) Return a\")\n"
+wide = eight "low" "" then eight "mid" " low" then eight "view" " mid"
 
 abbrev inWoven : List Case
 inWoven =
@@ -125,8 +130,10 @@ onLine =
     ∷ inRules "(category c (actors a b c d e f g h i) (over))\n" (returned 7 2 1)
     ∷ inRules "(policy c \"Match (v) Return v, v\")\n" (returned 4 2 1)
     ∷ inRules "(category c (actors requestor) (over))\n(policy c \"Match (v) Where v.rate = 'x' Return v, v\")\n" (returned 5 2 2)
-    ∷ inRules "(category c (actors requestor) (over))\n(policy c \"Match (a) Match (b) Match (c) Match (d) Match (e) Match (f) Match (g) Match (h) Match (i) Where a.rate = 'x' Return a\")\n" (returned 6 2 2)
-    ∷ inRules "(category c (actors requestor) (over))\n(policy c \"Match (a) Match (b) Match (c) Match (d) Match (e) Match (f) Match (g) Match (h) Match (i) Where a <> a Return a\")\n" (returned 7 2 2)
+    ∷ inRules ("(category c (actors requestor) (over))\n(policy c \"Match (a) Match (b) Match (c) Match (d) Match (e) Match (f) Match (g) Match (h)"
+    then " Match (i) Where a.rate = 'x' Return a\")\n") (returned 6 2 2)
+    ∷ inRules ("(category c (actors requestor) (over))\n(policy c \"Match (a) Match (b) Match (c) Match (d) Match (e) Match (f) Match (g) Match (h)"
+    then " Match (i) Where a <> a Return a\")\n") (returned 7 2 2)
     ∷ inQuery "Match (v)-[e:feeds]->(v) Return v, v" (returned 4 3 1)
     ∷ inQuery "Match (v) Where v.rate = 'x' Return v, v" (returned 5 3 1)
     ∷ inQuery "Match (a) Match (b) Match (c) Match (d) Match (e) Match (f) Match (g) Match (h) Match (i) Where a.rate = 'x' Return a" (returned 6 3 1)

@@ -1,7 +1,7 @@
 -- Round trip: the pattern of an accepted text, written out as a query, reads back as the same pattern.
 -- The pattern is `patternOf` of the text, and `writtenQuery` what the query writer gives for it.
 use Prim.Native.Nat.{ℕ, _≤_}
-use Prim.Native.String.{String}
+use Prim.Native.String.{String, _++_ as _then_}
 use mathlib.Core.Path.{_≡_, refl, sym, ap, _∙_}
 use mathlib.Core.List.{[], _++_, map, map-map, List}
 use mathlib.Core.Bool.{Bool, true, false, _||_}
@@ -128,7 +128,8 @@ abbrev example : String
 example = "Match (requestor)-[a:runs]->(h)<-[b:feeds]-(s) Where s.rate >= -5 AND h.kind <> 'gate' Match (h) Where s <> h AND s <> h Return s, h"
 
 abbrev written : String
-written = "Match (requestor) Match (h) Match (s) Match (requestor)-[a:runs]->(h) Match (s)-[b:feeds]->(h) Where s.rate >= -5 AND h.kind <> 'gate' AND s <> h AND s <> h Return s, h"
+written = "Match (requestor) Match (h) Match (s) Match (requestor)-[a:runs]->(h) Match (s)-[b:feeds]->(h)"
+    then " Where s.rate >= -5 AND h.kind <> 'gate' AND s <> h AND s <> h Return s, h"
 
 writer-example : writerText 16384 200 (bytesOf book) (bytesOf rules) (bytesOf example) ≡ accepted (bytesOf written)
 unfolding computing

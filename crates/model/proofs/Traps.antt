@@ -1,6 +1,6 @@
 -- Lists that come out wrong where a definition takes a known wrong turn. Each table has one theorem over it.
 use Prim.Native.Nat.{ℕ}
-use Prim.Native.String.{String}
+use Prim.Native.String.{String, _++_ as _then_}
 use mathlib.Core.Path.{_≡_, refl}
 use mathlib.Core.List.{List, [], _∷_, map}
 use mathlib.Core.Bool.{true, false}
@@ -66,7 +66,8 @@ abbrev joining : List Case
 joining =
     record {
       book = two;
-      rules = "(category low (actors requestor) (over))\n(policy low \"Match (requestor)-[r:runs]->(guest) Return guest\")\n(category high (actors requestor guest) (over low))\n";
+      rules = "(category low (actors requestor) (over))\n(policy low \"Match (requestor)-[r:runs]->(guest) Return guest\")\n"
+          then "(category high (actors requestor guest) (over low))\n";
       query = "Match (requestor)-[a:runs]->(h) Return h";
       request = "(request high (id requestor ana) (id guest bob))\n";
       rows = (1 ∷ []) ∷ [];
@@ -74,7 +75,8 @@ joining =
     -- where low has the actor guest too, the policy's guest is bob, whom ana does not run
     ∷ record {
       book = two;
-      rules = "(category low (actors requestor guest) (over))\n(policy low \"Match (requestor)-[r:runs]->(guest) Return guest\")\n(category high (actors requestor guest) (over low))\n";
+      rules = "(category low (actors requestor guest) (over))\n(policy low \"Match (requestor)-[r:runs]->(guest) Return guest\")\n"
+          then "(category high (actors requestor guest) (over low))\n";
       query = "Match (requestor)-[a:runs]->(h) Return h";
       request = "(request high (id requestor ana) (id guest bob))\n";
       rows = [];
@@ -91,7 +93,8 @@ abbrev far : List Case
 far =
     record {
       book = "(label runs)\n(label owns)\n(node ana)\n(node hub)\n(rel runs ana hub)\n";
-      rules = "(category a (actors requestor) (over))\n(policy a \"Match (requestor)-[r:owns]->(h) Return h\")\n(category b (actors requestor) (over a))\n(category c (actors requestor) (over b))\n(category d (actors requestor) (over c))\n";
+      rules = "(category a (actors requestor) (over))\n(policy a \"Match (requestor)-[r:owns]->(h) Return h\")\n"
+          then "(category b (actors requestor) (over a))\n(category c (actors requestor) (over b))\n(category d (actors requestor) (over c))\n";
       query = "Match (requestor)-[a:runs]->(h) Return h";
       request = "(request d (id requestor ana))\n";
       rows = [];

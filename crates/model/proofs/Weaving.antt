@@ -1,7 +1,7 @@
 -- Weaving: the mappings of the woven pattern that keep the identities are the families of mappings of the query and of each enforced policy.
 -- The mappings of a family agree on actors of one name and on the identities, and the row is the same.
 use Prim.Native.Nat.{ℕ}
-use Prim.Native.String.{String}
+use Prim.Native.String.{String, _++_ as _then_}
 use mathlib.Core.Path.{_≡_, refl, sym, ap, subst, _∙_}
 use mathlib.Core.Logic.{⊎-elim, _↔_, _≢_}
 use mathlib.Core.List.{List, [], _∷_, map, List·Memᴰ·cases-cons as cases-cons, List·Memᴰ·head}
@@ -151,7 +151,8 @@ row-example = rows-of-woven theBook (bytesOf rules) (bytesOf query) theRules the
 
 -- Two categories, one over the other: boss is an actor of audit, and of the query's category, audit, but not of view.
 abbrev more-rules : String
-more-rules = "(category view (actors requestor) (over))\n(category audit (actors requestor boss) (over view))\n(policy audit \"Match (boss)-[f:feeds]->(h) Return h\")\n(policy view \"Match (requestor)-[r:runs]->(boss) Return boss\")\n"
+more-rules = "(category view (actors requestor) (over))\n(category audit (actors requestor boss) (over view))\n"
+    then "(policy audit \"Match (boss)-[f:feeds]->(h) Return h\")\n(policy view \"Match (requestor)-[r:runs]->(boss) Return boss\")\n"
 
 abbrev more-query : String
 more-query = "Match (requestor)-[a:runs]->(h)<-[b:feeds]-(boss) Return h, boss"
