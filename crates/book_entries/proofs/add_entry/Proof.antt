@@ -86,27 +86,6 @@ returns-2 c =
 
 pub add-entry-spec : {M : Type 1} → statement M
 add-entry-spec =
-    tie.close
-    (tie.spec
-    add-end
-    (λ c. search needs)
-    (λ c. search needs)
-    part-find-name-end
-    find-name-requires
-    add-t21
-    (λ c. search needs)
-    returns
-    (λ c. search needs)
-    (λ c. search needs)
-    (λ c. search needs)
-    slice-read-kind
-    has-requires
-    (λ c κs. search needs)
-    (λ c κs. search needs)
-    add-put-entry
-    put-entry-requires
-    (λ c κs. search needs)
-    with-requires
-    add-t17
-    (λ c. search needs)
-    returns-2)
+    tie.close (tie.spec add-end (λ c. search needs) (λ c. search needs) part-find-name-end find-name-requires add-t21 (λ c. search needs) returns
+    (λ c. search needs) (λ c. search needs) (λ c. search needs) slice-read-kind has-requires (λ c κs. search needs) (λ c κs. search needs)
+    add-put-entry put-entry-requires (λ c κs. search needs) with-requires add-t17 (λ c. search needs) returns-2)

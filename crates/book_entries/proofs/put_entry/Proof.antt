@@ -26,13 +26,5 @@ returns-2 c = record { said = c .before .value-words .result; says = c .before .
 
 pub put-entry-spec : {M : Type 1} → statement M
 put-entry-spec =
-    tie.close
-    (tie.spec
-    value-words-requires
-    (λ c. search needs)
-    (λ c. search needs)
-    add-store-entry
-    (λ c κs. search needs)
-    (λ c. search needs)
-    returns
-    returns-2)
+    tie.close (tie.spec value-words-requires (λ c. search needs) (λ c. search needs) add-store-entry (λ c κs. search needs) (λ c. search needs)
+    returns returns-2)

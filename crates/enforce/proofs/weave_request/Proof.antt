@@ -78,15 +78,5 @@ returns-3 c =
 
 pub weave-request-spec : {M : Type 1} → statement M
 weave-request-spec =
-    tie.close
-    (tie.spec
-    (λ c κs. search needs)
-    (λ c. search needs)
-    (λ c. search needs)
-    (λ c. search needs)
-    returns
-    finish-requires
-    (λ c. search needs)
-    returns-2
-    (λ c. search needs)
-    returns-3)
+    tie.close (tie.spec (λ c κs. search needs) (λ c. search needs) (λ c. search needs) (λ c. search needs) returns finish-requires (λ c. search needs)
+    returns-2 (λ c. search needs) returns-3)

@@ -48,19 +48,6 @@ returns c =
 
 pub weave-text-spec : {M : Type 1} → statement M
 weave-text-spec =
-    tie.close
-    (tie.spec
-    (λ c. search needs)
-    (λ c. search needs)
-    (λ c. search needs)
-    (λ c. search needs)
-    cast-actor-count
-    (λ c. search needs)
-    (λ c. search needs)
-    (λ c. search needs)
-    (λ c. search needs)
-    (λ c. search needs)
-    pattern-of-requires
-    add-pattern-requires
-    (λ c. search needs)
+    tie.close (tie.spec (λ c. search needs) (λ c. search needs) (λ c. search needs) (λ c. search needs) cast-actor-count (λ c. search needs)
+    (λ c. search needs) (λ c. search needs) (λ c. search needs) (λ c. search needs) pattern-of-requires add-pattern-requires (λ c. search needs)
     returns)

@@ -37,14 +37,5 @@ weave-policies-requires c κs =
 
 pub weave-texts-spec : {M : Type 1} → statement M
 weave-texts-spec =
-    tie.close
-    (tie.spec
-    (λ c κs. search needs)
-    weave-text-requires
-    (λ c. search needs)
-    (λ c. search needs)
-    (λ c. search needs)
-    returns
-    weave-policies-requires
-    (λ c. search needs)
-    (λ c. search needs))
+    tie.close (tie.spec (λ c κs. search needs) weave-text-requires (λ c. search needs) (λ c. search needs) (λ c. search needs) returns
+    weave-policies-requires (λ c. search needs) (λ c. search needs))

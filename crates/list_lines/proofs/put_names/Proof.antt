@@ -50,17 +50,5 @@ returns c =
 
 pub put-names-spec : {M : Type 1} → statement M
 put-names-spec =
-    tie.close
-    (tie.spec
-    Inv-loop
-    μ-loop
-    loop-holds
-    (λ c. search needs)
-    (λ c. search needs)
-    cast-put-node
-    (λ c κs. search needs)
-    (λ c. search needs)
-    loop-less
-    loop-again
-    same-length
-    returns)
+    tie.close (tie.spec Inv-loop μ-loop loop-holds (λ c. search needs) (λ c. search needs) cast-put-node (λ c κs. search needs) (λ c. search needs)
+    loop-less loop-again same-length returns)

@@ -82,19 +82,5 @@ returns c =
 
 pub put-rows-spec : {M : Type 1} → statement M
 put-rows-spec =
-    tie.close
-    (tie.spec
-    Inv-loop
-    μ-loop
-    loop-holds
-    add-to
-    mul-put-row
-    (λ c. search needs)
-    (λ c. search needs)
-    part-put-row-end
-    put-row-requires
-    (λ c. search needs)
-    loop-less
-    loop-again
-    same-length
-    returns)
+    tie.close (tie.spec Inv-loop μ-loop loop-holds add-to mul-put-row (λ c. search needs) (λ c. search needs) part-put-row-end put-row-requires
+    (λ c. search needs) loop-less loop-again same-length returns)

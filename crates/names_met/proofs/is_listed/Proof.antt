@@ -114,26 +114,6 @@ returns-2 c =
 
 pub is-listed-spec : {M : Type 1} → statement M
 is-listed-spec =
-    tie.close
-    (tie.spec
-    Inv-loop
-    μ-loop
-    words-from-requires
-    (λ c κs. search needs)
-    first-requires
-    loop-holds
-    (λ c. search needs)
-    add-word
-    mul-word
-    shared-slice-read-word
-    cast-word
-    add-end
-    (λ c. search needs)
-    (λ c. search needs)
-    part-same-bytes-end
-    (λ c κs. search needs)
-    returns
-    next-requires
-    loop-less
-    loop-again
-    returns-2)
+    tie.close (tie.spec Inv-loop μ-loop words-from-requires (λ c κs. search needs) first-requires loop-holds (λ c. search needs) add-word mul-word
+    shared-slice-read-word cast-word add-end (λ c. search needs) (λ c. search needs) part-same-bytes-end (λ c κs. search needs) returns next-requires
+    loop-less loop-again returns-2)

@@ -24,12 +24,4 @@ returns-2 c =
 
 pub after-book-spec : {M : Type 1} → statement M
 after-book-spec =
-    tie.close
-    (tie.spec
-    (λ c κs. search needs)
-    (λ c. search needs)
-    after-rules-requires
-    returns
-    (λ c. search needs)
-    (λ c κs. search needs)
-    returns-2)
+    tie.close (tie.spec (λ c κs. search needs) (λ c. search needs) after-rules-requires returns (λ c. search needs) (λ c κs. search needs) returns-2)

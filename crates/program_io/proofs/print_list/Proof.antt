@@ -14,10 +14,4 @@ print-front-requires c κs =
 
 pub print-list-spec : {M : Type 1} → statement M
 print-list-spec =
-    tie.close
-    (tie.spec
-    (λ c. search needs)
-    (λ c κs. search needs)
-    (λ c. search needs)
-    print-front-requires
-    (λ c. search needs))
+    tie.close (tie.spec (λ c. search needs) (λ c κs. search needs) (λ c. search needs) print-front-requires (λ c. search needs))

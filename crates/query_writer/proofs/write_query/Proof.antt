@@ -48,14 +48,5 @@ returns-2 c =
 
 pub write-query-spec : {M : Type 1} → statement M
 write-query-spec =
-    tie.close
-    (tie.spec
-    (λ c. search needs)
-    (λ c. search needs)
-    put-query-requires
-    (λ c κs. search needs)
-    (λ c. search needs)
-    returns
-    put-query-requires-2
-    (λ c. search needs)
-    returns-2)
+    tie.close (tie.spec (λ c. search needs) (λ c. search needs) put-query-requires (λ c κs. search needs) (λ c. search needs) returns
+    put-query-requires-2 (λ c. search needs) returns-2)

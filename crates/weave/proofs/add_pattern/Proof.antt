@@ -101,30 +101,18 @@ returns-5 c =
 
 pub add-pattern-spec : {M : Type 1} → statement M
 add-pattern-spec =
-    tie.close
-    (tie.spec
-    add-vertices-requires
-    (λ c. c .before .before .before .before .add-vertices .kept .1 .1 .1 .1 .1 .1 .1 .1 .0)
-    returns
+    tie.close (tie.spec add-vertices-requires (λ c. c .before .before .before .before .add-vertices .kept .1 .1 .1 .1 .1 .1 .1 .1 .0) returns
     (λ c κs. c .before .before .before .before .before .before .before .before .before .before .before .before .before .pre .fits .few-clauses)
     (λ c. let p = c .before .before .before .before .before .before .before .before .before .before .before .before .before .before .before .before .pre in
-    omega (arith, p .kept .edges, p .fits .few-edges))
-    (λ c. let at-count-exclusions = c .before .before .before in
+    omega (arith, p .kept .edges, p .fits .few-edges)) (λ c. let at-count-exclusions = c .before .before .before in
     let p = at-count-exclusions .before .before .before .before .before .before .before .before .before .before .before .before .before .before .pre in
     omega (arith, p .kept .exclusions, p .fits .few-clauses, at-count-exclusions .count-exclusions .ensures .some))
-    (λ c. omega (arith, c .before .before .before .before .count-exclusions .ensures .some))
-    add-requirement-sum
+    (λ c. omega (arith, c .before .before .before .before .count-exclusions .ensures .some)) add-requirement-sum
     (λ c. c .before .before .before .before .before .before .before .before .before .before .before .before .add-vertices .kept .1 .1 .1 .1 .1 .1 .1 .1 .0)
-    returns-2
-    (λ c. let at-add-vertices = c .before .before .before .before .before .before .before .before .before .before .before .before .before in
-    at-add-vertices .add-vertices .kept .1 .1 .1 .1 .1 .1 .1 .1 .0)
-    returns-3
+    returns-2 (λ c. let at-add-vertices = c .before .before .before .before .before .before .before .before .before .before .before .before .before in
+    at-add-vertices .add-vertices .kept .1 .1 .1 .1 .1 .1 .1 .1 .0) returns-3
     (λ c. let at-add-vertices = c .before .before .before .before .before .before .before .before .before .before .before .before .before .before in
-    at-add-vertices .add-vertices .kept .1 .1 .1 .1 .1 .1 .1 .1 .0)
-    returns-4
-    add-rest-requires
-    (λ c. let at-add-rest = c .before .before in
+    at-add-vertices .add-vertices .kept .1 .1 .1 .1 .1 .1 .1 .1 .0) returns-4 add-rest-requires (λ c. let at-add-rest = c .before .before in
     let at-if2 = at-add-rest .before .before .before .before .before in
     let at-add-vertices = at-if2 .before .before .before .before .before .before .before .before .before .before .before .before in
-    at-add-rest .add-rest .kept .1 .1 .1 .1 .0 ∙ at-add-vertices .add-vertices .kept .1 .1 .1 .1 .1 .1 .1 .1 .0)
-    returns-5)
+    at-add-rest .add-rest .kept .1 .1 .1 .1 .0 ∙ at-add-vertices .add-vertices .kept .1 .1 .1 .1 .1 .1 .1 .1 .0) returns-5)

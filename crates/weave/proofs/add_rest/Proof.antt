@@ -71,13 +71,4 @@ returns-2 c =
 
 pub add-rest-spec : {M : Type 1} → statement M
 add-rest-spec =
-    tie.close
-    (tie.spec
-    add-before
-    add-edges-requires
-    add-clauses-requires
-    add-returns-requires
-    same-length
-    returns
-    same-length-2
-    returns-2)
+    tie.close (tie.spec add-before add-edges-requires add-clauses-requires add-returns-requires same-length returns same-length-2 returns-2)

@@ -19,13 +19,5 @@ returns-3 c = c .requirement-row2 .ensures ∙ sym (ap conditionRow (c .before .
 
 pub clause-row-spec : {M : Type 1} → statement M
 clause-row-spec =
-    tie.close
-    (tie.spec
-    (λ c. search needs)
-    returns
-    (λ c. search needs)
-    (λ c κs. search needs)
-    returns-2
-    (λ c. search needs)
-    (λ c κs. search needs)
+    tie.close (tie.spec (λ c. search needs) returns (λ c. search needs) (λ c κs. search needs) returns-2 (λ c. search needs) (λ c κs. search needs)
     returns-3)

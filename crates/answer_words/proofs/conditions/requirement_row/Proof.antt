@@ -9,11 +9,4 @@ returns c = row-of-requirement _ _ (c .before .before .args .requirement) _ _ (c
 
 pub requirement-row-spec : {M : Type 1} → statement M
 requirement-row-spec =
-    tie.close
-    (tie.spec
-    (λ c κs. search needs)
-    (λ c κs. search needs)
-    (λ c. search needs)
-    (λ c. search needs)
-    (λ c. search needs)
-    returns)
+    tie.close (tie.spec (λ c κs. search needs) (λ c κs. search needs) (λ c. search needs) (λ c. search needs) (λ c. search needs) returns)

@@ -22,12 +22,4 @@ returns-4 c = row-of-false _ _ (c .before .before .value3 .given .1) (c .if1 .le
 
 pub value-row-spec : {M : Type 1} → statement M
 value-row-spec =
-    tie.close
-    (tie.spec
-    (λ c. search needs)
-    returns
-    (λ c. search needs)
-    returns-2
-    (λ c. search needs)
-    returns-3
-    returns-4)
+    tie.close (tie.spec (λ c. search needs) returns (λ c. search needs) returns-2 (λ c. search needs) returns-3 returns-4)

@@ -12,10 +12,4 @@ returns-2 c = in-row 2 _ _ _ _ (c .before .if1 .left) (c .vertex-row .ensures)
 
 pub vertex-word-spec : {M : Type 1} → statement M
 vertex-word-spec =
-    tie.close
-    (tie.spec
-    returns
-    (λ c κs. search needs)
-    (λ c. search needs)
-    (λ c. search needs)
-    returns-2)
+    tie.close (tie.spec returns (λ c κs. search needs) (λ c. search needs) (λ c. search needs) returns-2)

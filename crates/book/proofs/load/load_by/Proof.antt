@@ -53,19 +53,5 @@ returns-3 c =
 
 pub load-by-spec : {M : Type 1} → statement M
 load-by-spec =
-    tie.close
-    (tie.spec
-    (λ c κs. search needs)
-    (λ c. search needs)
-    (λ c κs. search needs)
-    (λ c. search needs)
-    returns
-    (λ c. search needs)
-    (λ c κs. search needs)
-    cast-t13
-    (λ c. search needs)
-    returns-2
-    (λ c. search needs)
-    load-lines-requires
-    (λ c. search needs)
-    returns-3)
+    tie.close (tie.spec (λ c κs. search needs) (λ c. search needs) (λ c κs. search needs) (λ c. search needs) returns (λ c. search needs)
+    (λ c κs. search needs) cast-t13 (λ c. search needs) returns-2 (λ c. search needs) load-lines-requires (λ c. search needs) returns-3)

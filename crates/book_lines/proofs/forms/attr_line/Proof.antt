@@ -49,13 +49,5 @@ returns-2 c =
 
 pub attr-line-spec : {M : Type 1} → statement M
 attr-line-spec =
-    tie.close
-    (tie.spec
-    (λ c κs. search needs)
-    (λ c. search needs)
-    moved-requires
-    add-attr-requires
-    (λ c. search needs)
-    (λ c. search needs)
-    returns
+    tie.close (tie.spec (λ c κs. search needs) (λ c. search needs) moved-requires add-attr-requires (λ c. search needs) (λ c. search needs) returns
     returns-2)

@@ -68,16 +68,5 @@ returns-3 c =
 
 pub label-line-spec : {M : Type 1} → statement M
 label-line-spec =
-    tie.close
-    (tie.spec
-    (λ c κs. search needs)
-    (λ c. search needs)
-    add-form-closes
-    (λ c κs. search needs)
-    moved-requires
-    add-label-requires
-    (λ c. search needs)
-    returns
-    (λ c. search needs)
-    returns-2
-    returns-3)
+    tie.close (tie.spec (λ c κs. search needs) (λ c. search needs) add-form-closes (λ c κs. search needs) moved-requires add-label-requires
+    (λ c. search needs) returns (λ c. search needs) returns-2 returns-3)

@@ -37,15 +37,5 @@ returns-2 c =
 
 pub read-head-spec : {M : Type 1} → statement M
 read-head-spec =
-    tie.close
-    (tie.spec
-    (λ c κs. search needs)
-    (λ c. search needs)
-    add-read-rest
-    part-of-requires
-    (λ c κs. search needs)
-    (λ c κs. search needs)
-    (λ c. search needs)
-    (λ c. search needs)
-    returns
-    returns-2)
+    tie.close (tie.spec (λ c κs. search needs) (λ c. search needs) add-read-rest part-of-requires (λ c κs. search needs) (λ c κs. search needs)
+    (λ c. search needs) (λ c. search needs) returns returns-2)

@@ -83,19 +83,5 @@ returns-3 c =
 
 pub node-line-spec : {M : Type 1} → statement M
 node-line-spec =
-    tie.close
-    (tie.spec
-    (λ c κs. search needs)
-    (λ c. search needs)
-    add-read-entries
-    read-entries-requires
-    (λ c. search needs)
-    moved-requires
-    add-node-requires
-    (λ c. search needs)
-    (λ c. search needs)
-    (λ c. search needs)
-    returns
-    (λ c. search needs)
-    returns-2
-    returns-3)
+    tie.close (tie.spec (λ c κs. search needs) (λ c. search needs) add-read-entries read-entries-requires (λ c. search needs) moved-requires
+    add-node-requires (λ c. search needs) (λ c. search needs) (λ c. search needs) returns (λ c. search needs) returns-2 returns-3)

@@ -150,25 +150,6 @@ returns-3 c =
 
 pub read-entries-spec : {M : Type 1} → statement M
 read-entries-spec =
-    tie.close
-    (tie.spec
-    Inv-loop
-    μ-loop
-    (λ c κs. search needs)
-    loop-holds
-    (λ c κs. search needs)
-    (λ c. search needs)
-    moved-requires
-    shifted-requires
-    add-entry-requires
-    loop-less
-    loop-again
-    (λ c. search needs)
-    (λ c κs. search needs)
-    same-length
-    returns
-    same-length-2
-    returns-2
-    (λ c. search needs)
-    same-length-3
-    returns-3)
+    tie.close (tie.spec Inv-loop μ-loop (λ c κs. search needs) loop-holds (λ c κs. search needs) (λ c. search needs) moved-requires shifted-requires
+    add-entry-requires loop-less loop-again (λ c. search needs) (λ c κs. search needs) same-length returns same-length-2 returns-2 (λ c. search needs)
+    same-length-3 returns-3)

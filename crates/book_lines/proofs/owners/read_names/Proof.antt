@@ -65,21 +65,6 @@ returns-4 c =
 
 pub read-names-spec : {M : Type 1} → statement M
 read-names-spec =
-    tie.close
-    (tie.spec
-    (λ c κs. search needs)
-    (λ c. search needs)
-    add-next-name
-    (λ c κs. search needs)
-    (λ c. search needs)
-    add-next-name-2
-    (λ c κs. search needs)
-    (λ c. search needs)
-    add-t15
-    (λ c. search needs)
-    (λ c. search needs)
-    (λ c. search needs)
-    returns
-    returns-2
-    returns-3
+    tie.close (tie.spec (λ c κs. search needs) (λ c. search needs) add-next-name (λ c κs. search needs) (λ c. search needs) add-next-name-2
+    (λ c κs. search needs) (λ c. search needs) add-t15 (λ c. search needs) (λ c. search needs) (λ c. search needs) returns returns-2 returns-3
     returns-4)

@@ -103,20 +103,6 @@ returns-3 c =
 
 pub rel-line-spec : {M : Type 1} → statement M
 rel-line-spec =
-    tie.close
-    (tie.spec
-    (λ c κs. search needs)
-    (λ c. search needs)
-    read-entries-requires
-    (λ c. search needs)
-    moved-requires
-    moved-requires-2
-    moved-requires-3
-    add-relationship-requires
-    (λ c. search needs)
-    (λ c. search needs)
-    (λ c. search needs)
-    returns
-    (λ c. search needs)
-    returns-2
+    tie.close (tie.spec (λ c κs. search needs) (λ c. search needs) read-entries-requires (λ c. search needs) moved-requires moved-requires-2
+    moved-requires-3 add-relationship-requires (λ c. search needs) (λ c. search needs) (λ c. search needs) returns (λ c. search needs) returns-2
     returns-3)

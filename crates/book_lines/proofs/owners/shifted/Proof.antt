@@ -25,12 +25,4 @@ returns-3 c = sym (ap (shift (c .before .before .before .args .base)) (c .before
 
 pub shifted-spec : {M : Type 1} → statement M
 shifted-spec =
-    tie.close
-    (tie.spec
-    (λ c. search needs)
-    (λ c. search needs)
-    add-t8
-    (λ c. search needs)
-    returns
-    returns-2
-    returns-3)
+    tie.close (tie.spec (λ c. search needs) (λ c. search needs) add-t8 (λ c. search needs) returns returns-2 returns-3)

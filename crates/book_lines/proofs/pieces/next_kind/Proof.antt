@@ -38,13 +38,5 @@ returns-2 c =
 
 pub next-kind-spec : {M : Type 1} → statement M
 next-kind-spec =
-    tie.close
-    (tie.spec
-    (λ c κs. search needs)
-    (λ c. search needs)
-    part-of-requires
-    add-kind-of
-    (λ c κs. search needs)
-    (λ c. search needs)
-    returns
+    tie.close (tie.spec (λ c κs. search needs) (λ c. search needs) part-of-requires add-kind-of (λ c κs. search needs) (λ c. search needs) returns
     returns-2)

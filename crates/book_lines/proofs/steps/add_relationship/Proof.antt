@@ -140,30 +140,7 @@ returns-5 c =
 
 pub add-relationship-spec : {M : Type 1} → statement M
 add-relationship-spec =
-    tie.close
-    (tie.spec
-    (λ c κs. search needs)
-    (λ c κs. search needs)
-    (λ c. search needs)
-    returns
-    (λ c κs. search needs)
-    (λ c κs. search needs)
-    (λ c. search needs)
-    returns-2
-    (λ c κs. search needs)
-    (λ c κs. search needs)
-    (λ c. search needs)
-    returns-3
-    is-related-requires
-    is-full-requires
-    (λ c κs. search needs)
-    (λ c. search needs)
-    returns-4
-    mul-word
-    mul-word-2
-    add-word
-    add-word-2
-    cast-word
-    store-owner-requires
-    (λ c. search needs)
+    tie.close (tie.spec (λ c κs. search needs) (λ c κs. search needs) (λ c. search needs) returns (λ c κs. search needs) (λ c κs. search needs)
+    (λ c. search needs) returns-2 (λ c κs. search needs) (λ c κs. search needs) (λ c. search needs) returns-3 is-related-requires is-full-requires
+    (λ c κs. search needs) (λ c. search needs) returns-4 mul-word mul-word-2 add-word add-word-2 cast-word store-owner-requires (λ c. search needs)
     returns-5)

@@ -40,11 +40,4 @@ returns c =
 
 pub owner-entry-spec : {M : Type 1} → statement M
 owner-entry-spec =
-    tie.close
-    (tie.spec
-    (λ c κs. search needs)
-    add-entry-of
-    mul-entry-of
-    shared-slice-read-entry-of
-    entry-of-requires
-    returns)
+    tie.close (tie.spec (λ c κs. search needs) add-entry-of mul-entry-of shared-slice-read-entry-of entry-of-requires returns)

@@ -43,18 +43,5 @@ returns-3 c =
 
 pub entry-meets-spec : {M : Type 1} → statement M
 entry-meets-spec =
-    tie.close
-    (tie.spec
-    (λ c. search needs)
-    (λ c κs. search needs)
-    (λ c. search needs)
-    add-entry-meets-text
-    (λ c. search needs)
-    (λ c. search needs)
-    part-entry-meets-text-end
-    (λ c κs. search needs)
-    (λ c. search needs)
-    (λ c κs. search needs)
-    returns
-    returns-2
-    returns-3)
+    tie.close (tie.spec (λ c. search needs) (λ c κs. search needs) (λ c. search needs) add-entry-meets-text (λ c. search needs) (λ c. search needs)
+    part-entry-meets-text-end (λ c κs. search needs) (λ c. search needs) (λ c κs. search needs) returns returns-2 returns-3)

@@ -24,14 +24,5 @@ returns c = let a = c .before .before .args in
 
 pub node-name-spec : {M : Type 1} → statement M
 node-name-spec =
-    tie.close
-    (tie.spec
-    (λ c. search needs)
-    (λ c. search needs)
-    (λ c. search needs)
-    cast-word
-    add-end
-    (λ c. search needs)
-    (λ c. search needs)
-    part-result-end
-    returns)
+    tie.close (tie.spec (λ c. search needs) (λ c. search needs) (λ c. search needs) cast-word add-end (λ c. search needs) (λ c. search needs)
+    part-result-end returns)

@@ -72,18 +72,5 @@ returns-2 c =
 
 pub find-alike-spec : {M : Type 1} → statement M
 find-alike-spec =
-    tie.close
-    (tie.spec
-    Inv-loop
-    μ-loop
-    (λ c κs. search needs)
-    first-requires
-    loop-holds
-    (λ c. search needs)
-    add-is-named
-    is-named-requires
-    returns
-    next-requires
-    loop-less
-    loop-again
-    returns-2)
+    tie.close (tie.spec Inv-loop μ-loop (λ c κs. search needs) first-requires loop-holds (λ c. search needs) add-is-named is-named-requires returns
+    next-requires loop-less loop-again returns-2)

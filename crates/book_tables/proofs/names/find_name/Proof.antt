@@ -50,15 +50,5 @@ returns-2 c =
 
 pub find-name-spec : {M : Type 1} → statement M
 find-name-spec =
-    tie.close
-    (tie.spec
-    Inv-loop
-    μ-loop
-    loop-holds
-    (λ c. search needs)
-    is-named-requires
-    returns
-    (λ c. search needs)
-    (λ c. search needs)
-    loop-again
+    tie.close (tie.spec Inv-loop μ-loop loop-holds (λ c. search needs) is-named-requires returns (λ c. search needs) (λ c. search needs) loop-again
     returns-2)

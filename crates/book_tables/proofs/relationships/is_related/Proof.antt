@@ -76,23 +76,5 @@ returns-2 c =
 
 pub is-related-spec : {M : Type 1} → statement M
 is-related-spec =
-    tie.close
-    (tie.spec
-    Inv-loop
-    μ-loop
-    (λ c. search needs)
-    (λ c. search needs)
-    (λ c. search needs)
-    (λ c. search needs)
-    (λ c. search needs)
-    (λ c κs. search needs)
-    loop-holds
-    (λ c. search needs)
-    add-if1
-    mul-if1
-    shared-slice-read-if1
-    returns
-    next-requires
-    loop-less
-    loop-again
-    returns-2)
+    tie.close (tie.spec Inv-loop μ-loop (λ c. search needs) (λ c. search needs) (λ c. search needs) (λ c. search needs) (λ c. search needs)
+    (λ c κs. search needs) loop-holds (λ c. search needs) add-if1 mul-if1 shared-slice-read-if1 returns next-requires loop-less loop-again returns-2)

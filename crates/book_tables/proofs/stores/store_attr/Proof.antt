@@ -14,16 +14,5 @@ returns c = (rw (← c .before .tables .ensures .is), c .more-attrs .ensures)
 
 pub store-attr-spec : {M : Type 1} → statement M
 store-attr-spec =
-    tie.close
-    (tie.spec
-    (λ c κs. search needs)
-    (λ c. search needs)
-    (λ c. search needs)
-    (λ c. search needs)
-    (λ c. search needs)
-    (λ c. search needs)
-    (λ c. search needs)
-    slice-write-words-2
-    (λ c κs. search needs)
-    (λ c. search needs)
-    returns)
+    tie.close (tie.spec (λ c κs. search needs) (λ c. search needs) (λ c. search needs) (λ c. search needs) (λ c. search needs) (λ c. search needs)
+    (λ c. search needs) slice-write-words-2 (λ c κs. search needs) (λ c. search needs) returns)

@@ -21,19 +21,5 @@ returns c = (rw (← c .before .before .before .before .before .before .tables .
 
 pub store-owner-spec : {M : Type 1} → statement M
 store-owner-spec =
-    tie.close
-    (tie.spec
-    (λ c κs. search needs)
-    (λ c. search needs)
-    (λ c. search needs)
-    (λ c. search needs)
-    (λ c. search needs)
-    (λ c. search needs)
-    (λ c. search needs)
-    (λ c. search needs)
-    (λ c. search needs)
-    slice-write-words-2
-    add-requires
-    (λ c κs. search needs)
-    same-length
-    returns)
+    tie.close (tie.spec (λ c κs. search needs) (λ c. search needs) (λ c. search needs) (λ c. search needs) (λ c. search needs) (λ c. search needs)
+    (λ c. search needs) (λ c. search needs) (λ c. search needs) slice-write-words-2 add-requires (λ c κs. search needs) same-length returns)

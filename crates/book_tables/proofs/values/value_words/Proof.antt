@@ -26,16 +26,5 @@ returns-4 c = says-false (c .before .before .before .before .args .value) _ (c .
 
 pub value-words-spec : {M : Type 1} → statement M
 value-words-spec =
-    tie.close
-    (tie.spec
-    (λ c. search needs)
-    (λ c. search needs)
-    (λ c. search needs)
-    (λ c. search needs)
-    cast-t11
-    cast-t12
-    (λ c. search needs)
-    returns
-    returns-2
-    returns-3
-    returns-4)
+    tie.close (tie.spec (λ c. search needs) (λ c. search needs) (λ c. search needs) (λ c. search needs) cast-t11 cast-t12 (λ c. search needs) returns
+    returns-2 returns-3 returns-4)

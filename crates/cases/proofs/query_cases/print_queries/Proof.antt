@@ -93,17 +93,5 @@ loop-again c =
 
 pub print-queries-spec : {M : Type 1} → statement M
 print-queries-spec =
-    tie.close
-    (tie.spec
-    Inv-loop
-    μ-loop
-    (λ c. search needs)
-    (λ c κs. search needs)
-    sub-print-query
-    part-print-query-start
-    part-print-query-end
-    (λ c κs. search needs)
-    add-at
-    loop-less
-    loop-again
-    (λ c. search needs))
+    tie.close (tie.spec Inv-loop μ-loop (λ c. search needs) (λ c κs. search needs) sub-print-query part-print-query-start part-print-query-end
+    (λ c κs. search needs) add-at loop-less loop-again (λ c. search needs))

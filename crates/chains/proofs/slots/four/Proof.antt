@@ -9,7 +9,4 @@ returns c = (c .four-bytes .ensures .1, and-le-r (c .four-bytes .result) 5221332
 
 pub four-spec : {M : Type 1} → statement M
 four-spec =
-    tie.close
-    (tie.spec
-    (λ c κs. search needs)
-    returns)
+    tie.close (tie.spec (λ c κs. search needs) returns)

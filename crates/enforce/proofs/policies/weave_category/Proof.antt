@@ -124,36 +124,8 @@ weave-text-requires c κs =
 
 pub weave-category-spec : {M : Type 1} → statement M
 weave-category-spec =
-    tie.close
-    (tie.spec
-    (λ c. search needs)
-    (λ c. search needs)
-    (λ c. search needs)
-    (λ c. search needs)
-    (λ c. search needs)
-    (λ c κs. search needs)
-    returns
-    (λ c κs. search needs)
-    returns-2
-    (λ c. search needs)
-    (λ c. search needs)
-    (λ c. search needs)
-    (λ c. search needs)
-    (λ c. search needs)
-    cast-start
-    (λ c. search needs)
-    (λ c. search needs)
-    (λ c. search needs)
-    cast-end
-    add-end-2
-    (λ c. search needs)
-    (λ c. search needs)
-    part-weave-text-end
-    weave-text-requires
-    (λ c. search needs)
-    add-t37
-    (λ c. search needs)
-    (λ c. search needs)
-    returns-3
-    (λ c. search needs)
+    tie.close (tie.spec (λ c. search needs) (λ c. search needs) (λ c. search needs) (λ c. search needs) (λ c. search needs) (λ c κs. search needs)
+    returns (λ c κs. search needs) returns-2 (λ c. search needs) (λ c. search needs) (λ c. search needs) (λ c. search needs) (λ c. search needs)
+    cast-start (λ c. search needs) (λ c. search needs) (λ c. search needs) cast-end add-end-2 (λ c. search needs) (λ c. search needs)
+    part-weave-text-end weave-text-requires (λ c. search needs) add-t37 (λ c. search needs) (λ c. search needs) returns-3 (λ c. search needs)
     returns-4)

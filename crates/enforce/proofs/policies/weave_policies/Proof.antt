@@ -75,18 +75,5 @@ returns-2 c =
 
 pub weave-policies-spec : {M : Type 1} → statement M
 weave-policies-spec =
-    tie.close
-    (tie.spec
-    Inv-loop
-    μ-loop
-    loop-holds
-    weave-category-requires
-    (λ c. search needs)
-    (λ c. search needs)
-    same-length
-    returns
-    (λ c. search needs)
-    loop-less
-    loop-again
-    same-length-2
-    returns-2)
+    tie.close (tie.spec Inv-loop μ-loop loop-holds weave-category-requires (λ c. search needs) (λ c. search needs) same-length returns
+    (λ c. search needs) loop-less loop-again same-length-2 returns-2)

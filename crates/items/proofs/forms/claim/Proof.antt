@@ -69,22 +69,6 @@ returns-5 c =
 
 pub claim-spec : {M : Type 1} → statement M
 claim-spec =
-    tie.close
-    (tie.spec
-    (λ c κs. search needs)
-    (λ c. search needs)
-    (λ c κs. search needs)
-    (λ c. search needs)
-    (λ c. search needs)
-    returns
-    part-of-requires
-    (λ c. search needs)
-    (λ c κs. search needs)
-    add-claim-rest
-    (λ c κs. search needs)
-    returns-2
-    (λ c. search needs)
-    (λ c. search needs)
-    returns-3
-    returns-4
-    returns-5)
+    tie.close (tie.spec (λ c κs. search needs) (λ c. search needs) (λ c κs. search needs) (λ c. search needs) (λ c. search needs) returns
+    part-of-requires (λ c. search needs) (λ c κs. search needs) add-claim-rest (λ c κs. search needs) returns-2 (λ c. search needs)
+    (λ c. search needs) returns-3 returns-4 returns-5)

@@ -79,22 +79,6 @@ returns-5 c =
 
 pub claim-rest-spec : {M : Type 1} → statement M
 claim-rest-spec =
-    tie.close
-    (tie.spec
-    (λ c κs. search needs)
-    (λ c. search needs)
-    (λ c. search needs)
-    returns
-    (λ c κs. search needs)
-    (λ c. search needs)
-    (λ c. search needs)
-    returns-2
-    add-next-name
-    (λ c κs. search needs)
-    (λ c. search needs)
-    (λ c. search needs)
-    returns-3
-    add-only-closes
-    only-closes-requires
-    returns-4
-    returns-5)
+    tie.close (tie.spec (λ c κs. search needs) (λ c. search needs) (λ c. search needs) returns (λ c κs. search needs) (λ c. search needs)
+    (λ c. search needs) returns-2 add-next-name (λ c κs. search needs) (λ c. search needs) (λ c. search needs) returns-3 add-only-closes
+    only-closes-requires returns-4 returns-5)

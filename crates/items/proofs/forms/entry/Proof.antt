@@ -112,28 +112,6 @@ returns-7 c =
 
 pub entry-spec : {M : Type 1} → statement M
 entry-spec =
-    tie.close
-    (tie.spec
-    (λ c κs. search needs)
-    (λ c. search needs)
-    (λ c κs. search needs)
-    (λ c. search needs)
-    (λ c. search needs)
-    returns
-    (λ c κs. search needs)
-    (λ c κs. search needs)
-    (λ c. search needs)
-    (λ c. search needs)
-    returns-2
-    add-end
-    (λ c κs. search needs)
-    (λ c. search needs)
-    (λ c. search needs)
-    returns-3
-    only-closes-requires
-    returns-4
-    (λ c. search needs)
-    (λ c. search needs)
-    returns-5
-    returns-6
-    returns-7)
+    tie.close (tie.spec (λ c κs. search needs) (λ c. search needs) (λ c κs. search needs) (λ c. search needs) (λ c. search needs) returns
+    (λ c κs. search needs) (λ c κs. search needs) (λ c. search needs) (λ c. search needs) returns-2 add-end (λ c κs. search needs) (λ c. search needs)
+    (λ c. search needs) returns-3 only-closes-requires returns-4 (λ c. search needs) (λ c. search needs) returns-5 returns-6 returns-7)

@@ -71,20 +71,5 @@ returns-5 c =
 
 pub next-name-spec : {M : Type 1} → statement M
 next-name-spec =
-    tie.close
-    (tie.spec
-    (λ c κs. search needs)
-    (λ c. search needs)
-    (λ c κs. search needs)
-    (λ c. search needs)
-    (λ c. search needs)
-    returns
-    sub-t12
-    part-of-requires
-    (λ c κs. search needs)
-    returns-2
-    (λ c. search needs)
-    (λ c. search needs)
-    returns-3
-    returns-4
-    returns-5)
+    tie.close (tie.spec (λ c κs. search needs) (λ c. search needs) (λ c κs. search needs) (λ c. search needs) (λ c. search needs) returns sub-t12
+    part-of-requires (λ c κs. search needs) returns-2 (λ c. search needs) (λ c. search needs) returns-3 returns-4 returns-5)

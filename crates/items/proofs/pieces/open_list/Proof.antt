@@ -39,15 +39,5 @@ returns-4 c = ap (openAfter (c .before .before .before .before .args .s .now)) (
 
 pub open-list-spec : {M : Type 1} → statement M
 open-list-spec =
-    tie.close
-    (tie.spec
-    (λ c κs. search needs)
-    (λ c. search needs)
-    (λ c κs. search needs)
-    add-t9
-    returns
-    (λ c. search needs)
-    (λ c. search needs)
-    returns-2
-    returns-3
-    returns-4)
+    tie.close (tie.spec (λ c κs. search needs) (λ c. search needs) (λ c κs. search needs) add-t9 returns (λ c. search needs) (λ c. search needs)
+    returns-2 returns-3 returns-4)

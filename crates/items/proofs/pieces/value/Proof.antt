@@ -161,33 +161,7 @@ returns-8 c =
 
 pub value-spec : {M : Type 1} → statement M
 value-spec =
-    tie.close
-    (tie.spec
-    (λ c κs. search needs)
-    (λ c. search needs)
-    sub-same-bytes
-    part-same-bytes-start
-    part-same-bytes-end
-    (λ c. search needs)
-    (λ c κs. search needs)
-    returns
-    sub-same-bytes-2
-    part-same-bytes-start-2
-    part-same-bytes-end-2
-    (λ c. search needs)
-    (λ c κs. search needs)
-    returns-2
-    (λ c. search needs)
-    (λ c. search needs)
-    add-t28
-    sub-t29
-    sub-t30
-    (λ c. search needs)
-    (λ c. search needs)
-    (λ c. search needs)
-    returns-3
-    returns-4
-    returns-5
-    returns-6
-    returns-7
-    returns-8)
+    tie.close (tie.spec (λ c κs. search needs) (λ c. search needs) sub-same-bytes part-same-bytes-start part-same-bytes-end (λ c. search needs)
+    (λ c κs. search needs) returns sub-same-bytes-2 part-same-bytes-start-2 part-same-bytes-end-2 (λ c. search needs) (λ c κs. search needs) returns-2
+    (λ c. search needs) (λ c. search needs) add-t28 sub-t29 sub-t30 (λ c. search needs) (λ c. search needs) (λ c. search needs) returns-3 returns-4
+    returns-5 returns-6 returns-7 returns-8)

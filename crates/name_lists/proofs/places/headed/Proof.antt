@@ -66,19 +66,5 @@ returns-4 c =
 
 pub headed-spec : {M : Type 1} → statement M
 headed-spec =
-    tie.close
-    (tie.spec
-    (λ c κs. search needs)
-    (λ c κs. search needs)
-    (λ c. search needs)
-    (λ c. search needs)
-    returns
-    (λ c κs. search needs)
-    (λ c. search needs)
-    (λ c. search needs)
-    returns-2
-    part-of-requires
-    (λ c κs. search needs)
-    add-t11
-    returns-3
-    returns-4)
+    tie.close (tie.spec (λ c κs. search needs) (λ c κs. search needs) (λ c. search needs) (λ c. search needs) returns (λ c κs. search needs)
+    (λ c. search needs) (λ c. search needs) returns-2 part-of-requires (λ c κs. search needs) add-t11 returns-3 returns-4)

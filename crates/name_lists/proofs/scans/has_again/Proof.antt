@@ -85,19 +85,5 @@ returns-3 c =
 
 pub has-again-spec : {M : Type 1} → statement M
 has-again-spec =
-    tie.close
-    (tie.spec
-    Inv-loop
-    μ-loop
-    loop-holds
-    (λ c κs. search needs)
-    (λ c. search needs)
-    (λ c. search needs)
-    returns
-    add-end
-    part-of-requires
-    (λ c κs. search needs)
-    returns-2
-    loop-less
-    loop-again
-    returns-3)
+    tie.close (tie.spec Inv-loop μ-loop loop-holds (λ c κs. search needs) (λ c. search needs) (λ c. search needs) returns add-end part-of-requires
+    (λ c κs. search needs) returns-2 loop-less loop-again returns-3)

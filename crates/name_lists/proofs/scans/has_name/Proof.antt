@@ -83,19 +83,5 @@ returns-3 c =
 
 pub has-name-spec : {M : Type 1} → statement M
 has-name-spec =
-    tie.close
-    (tie.spec
-    Inv-loop
-    μ-loop
-    loop-holds
-    (λ c κs. search needs)
-    (λ c. search needs)
-    (λ c. search needs)
-    returns
-    part-of-requires
-    (λ c κs. search needs)
-    returns-2
-    add-i
-    loop-less
-    loop-again
-    returns-3)
+    tie.close (tie.spec Inv-loop μ-loop loop-holds (λ c κs. search needs) (λ c. search needs) (λ c. search needs) returns part-of-requires
+    (λ c κs. search needs) returns-2 add-i loop-less loop-again returns-3)

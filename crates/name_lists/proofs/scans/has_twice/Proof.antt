@@ -10,12 +10,5 @@ has-twice-with-requires c κs = holds-none _ 16640 (omega arith)
 
 pub has-twice-spec : {M : Type 1} → statement M
 has-twice-spec =
-    tie.close
-    (tie.spec
-    (λ c κs. search needs)
-    (λ c. search needs)
-    (λ c κs. search needs)
-    (λ c. search needs)
-    (λ c. search needs)
-    has-twice-with-requires
-    (λ c. search needs))
+    tie.close (tie.spec (λ c κs. search needs) (λ c. search needs) (λ c κs. search needs) (λ c. search needs) (λ c. search needs)
+    has-twice-with-requires (λ c. search needs))

@@ -116,26 +116,6 @@ returns-4 c =
 
 pub has-twice-with-spec : {M : Type 1} → statement M
 has-twice-with-spec =
-    tie.close
-    (tie.spec
-    Inv-loop
-    μ-loop
-    loop-holds
-    (λ c κs. search needs)
-    (λ c. search needs)
-    (λ c. search needs)
-    same-length
-    returns
-    (λ c κs. search needs)
-    same-length-2
-    returns-2
-    part-of-requires
-    is-listed-requires
-    same-length-3
-    returns-3
-    (λ c κs. search needs)
-    add-i
-    loop-less
-    loop-again
-    same-length-4
-    returns-4)
+    tie.close (tie.spec Inv-loop μ-loop loop-holds (λ c κs. search needs) (λ c. search needs) (λ c. search needs) same-length returns
+    (λ c κs. search needs) same-length-2 returns-2 part-of-requires is-listed-requires same-length-3 returns-3 (λ c κs. search needs) add-i loop-less
+    loop-again same-length-4 returns-4)

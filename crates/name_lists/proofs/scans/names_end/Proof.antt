@@ -90,22 +90,5 @@ returns-4 c =
 
 pub names-end-spec : {M : Type 1} → statement M
 names-end-spec =
-    tie.close
-    (tie.spec
-    Inv-loop
-    μ-loop
-    (λ c κs. search needs)
-    (λ c. search needs)
-    (λ c. search needs)
-    returns
-    loop-holds
-    (λ c κs. search needs)
-    (λ c. search needs)
-    (λ c. search needs)
-    only-closes-requires
-    returns-2
-    returns-3
-    add-i
-    loop-less
-    loop-again
-    returns-4)
+    tie.close (tie.spec Inv-loop μ-loop (λ c κs. search needs) (λ c. search needs) (λ c. search needs) returns loop-holds (λ c κs. search needs)
+    (λ c. search needs) (λ c. search needs) only-closes-requires returns-2 returns-3 add-i loop-less loop-again returns-4)

@@ -15,15 +15,5 @@ print-identity-requires c κs = c .before .before .before .before .pre .actors (
 
 pub print-identities-spec : {M : Type 1} → statement M
 print-identities-spec =
-    tie.close
-    (tie.spec
-    Inv-loop
-    μ-loop
-    (λ c. search needs)
-    (λ c. search needs)
-    (λ c. search needs)
-    print-identity-requires
-    (λ c. search needs)
-    (λ c. search needs)
-    (λ c. search needs)
-    (λ c. search needs))
+    tie.close (tie.spec Inv-loop μ-loop (λ c. search needs) (λ c. search needs) (λ c. search needs) print-identity-requires (λ c. search needs)
+    (λ c. search needs) (λ c. search needs) (λ c. search needs))

@@ -16,12 +16,4 @@ returns c = c .before .before .put-part .ensures
 
 pub put-declared-spec : {M : Type 1} → statement M
 put-declared-spec =
-    tie.close
-    (tie.spec
-    (λ c. search needs)
-    (λ c. search needs)
-    (λ c. search needs)
-    cast-word
-    (λ c κs. search needs)
-    (λ c. search needs)
-    returns)
+    tie.close (tie.spec (λ c. search needs) (λ c. search needs) (λ c. search needs) cast-word (λ c κs. search needs) (λ c. search needs) returns)

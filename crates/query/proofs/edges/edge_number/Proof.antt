@@ -63,16 +63,5 @@ returns-2 c =
 
 pub edge-number-spec : {M : Type 1} → statement M
 edge-number-spec =
-    tie.close
-    (tie.spec
-    Inv-loop
-    μ-loop
-    loop-holds
-    (λ c. search needs)
-    element-copy-out-e
-    same-part-requires
-    returns
-    (λ c. search needs)
-    (λ c. search needs)
-    loop-again
-    returns-2)
+    tie.close (tie.spec Inv-loop μ-loop loop-holds (λ c. search needs) element-copy-out-e same-part-requires returns (λ c. search needs)
+    (λ c. search needs) loop-again returns-2)

@@ -61,16 +61,5 @@ returns-2 c =
 
 pub vertex-number-spec : {M : Type 1} → statement M
 vertex-number-spec =
-    tie.close
-    (tie.spec
-    Inv-loop
-    μ-loop
-    loop-holds
-    (λ c. search needs)
-    element-copy-out-v
-    same-part-requires
-    returns
-    (λ c. search needs)
-    (λ c. search needs)
-    loop-again
-    returns-2)
+    tie.close (tie.spec Inv-loop μ-loop loop-holds (λ c. search needs) element-copy-out-v same-part-requires returns (λ c. search needs)
+    (λ c. search needs) loop-again returns-2)

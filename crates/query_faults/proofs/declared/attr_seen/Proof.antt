@@ -47,15 +47,5 @@ returns-2 c =
 
 pub attr-seen-spec : {M : Type 1} → statement M
 attr-seen-spec =
-    tie.close
-    (tie.spec
-    (λ c κs. search needs)
-    (λ c κs. search needs)
-    (λ c κs. search needs)
-    (λ c. search needs)
-    add-is-suited-2
-    mul-is-suited
-    shared-slice-read-is-suited
-    (λ c κs. search needs)
-    returns
-    returns-2)
+    tie.close (tie.spec (λ c κs. search needs) (λ c κs. search needs) (λ c κs. search needs) (λ c. search needs) add-is-suited-2 mul-is-suited
+    shared-slice-read-is-suited (λ c κs. search needs) returns returns-2)

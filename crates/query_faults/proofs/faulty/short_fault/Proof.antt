@@ -10,10 +10,4 @@ fault-with-requires c κs = (search needs, holds-none _ 384 (omega arith), holds
 
 pub short-fault-spec : {M : Type 1} → statement M
 short-fault-spec =
-    tie.close
-    (tie.spec
-    (λ c. search needs)
-    (λ c. search needs)
-    (λ c. search needs)
-    fault-with-requires
-    (λ c. search needs))
+    tie.close (tie.spec (λ c. search needs) (λ c. search needs) (λ c. search needs) fault-with-requires (λ c. search needs))

@@ -69,14 +69,5 @@ returns-5 c =
 
 pub link-twice-spec : {M : Type 1} → statement M
 link-twice-spec =
-    tie.close
-    (tie.spec
-    returns
-    stands-before-requires
-    returns-2
-    stands-before-requires-2
-    returns-3
-    stands-before-requires-3
-    returns-4
-    (λ c κs. search needs)
-    returns-5)
+    tie.close (tie.spec returns stands-before-requires returns-2 stands-before-requires-2 returns-3 stands-before-requires-3 returns-4
+    (λ c κs. search needs) returns-5)

@@ -33,15 +33,5 @@ returns-5 c = (λ s. sym (ap (λ (x : Piece). edgeIn (pieceOf s x)) (c .enum-tol
 
 pub edge-of-spec : {M : Type 1} → statement M
 edge-of-spec =
-    tie.close
-    (tie.spec
-    (λ c. search needs)
-    (λ c. search needs)
-    (λ c. search needs)
-    (λ c. search needs)
-    (λ c. search needs)
-    returns
-    returns-2
-    returns-3
-    returns-4
-    returns-5)
+    tie.close (tie.spec (λ c. search needs) (λ c. search needs) (λ c. search needs) (λ c. search needs) (λ c. search needs) returns returns-2
+    returns-3 returns-4 returns-5)

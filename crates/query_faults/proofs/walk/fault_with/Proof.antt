@@ -110,28 +110,6 @@ returns-2 c =
 
 pub fault-with-spec : {M : Type 1} → statement M
 fault-with-spec =
-    tie.close
-    (tie.spec
-    Inv-loop
-    μ-loop
-    (λ c κs. search needs)
-    (λ c κs. search needs)
-    loop-holds
-    (λ c κs. search needs)
-    (λ c. search needs)
-    piece-passed-requires
-    (λ c κs. search needs)
-    (λ c κs. search needs)
-    same-length
-    same-length-2
-    same-length-3
-    returns
-    add-i
-    loop-less
-    loop-again
-    (λ c. search needs)
-    (λ c κs. search needs)
-    same-length-4
-    same-length-5
-    same-length-6
-    returns-2)
+    tie.close (tie.spec Inv-loop μ-loop (λ c κs. search needs) (λ c κs. search needs) loop-holds (λ c κs. search needs) (λ c. search needs)
+    piece-passed-requires (λ c κs. search needs) (λ c κs. search needs) same-length same-length-2 same-length-3 returns add-i loop-less loop-again
+    (λ c. search needs) (λ c κs. search needs) same-length-4 same-length-5 same-length-6 returns-2)

@@ -86,32 +86,7 @@ returns-5 c =
 
 pub piece-passed-spec : {M : Type 1} → statement M
 piece-passed-spec =
-    tie.close
-    (tie.spec
-    (λ c. search needs)
-    start-seen-requires
-    (λ c κs. search needs)
-    (λ c. search needs)
-    link-passed-requires
-    (λ c. search needs)
-    differ-seen-requires
-    (λ c. search needs)
-    demand-seen-requires
-    (λ c. search needs)
-    return-seen-requires
-    (λ c κs. search needs)
-    (λ c. search needs)
-    (λ c. search needs)
-    returns
-    (λ c. search needs)
-    (λ c. search needs)
-    returns-2
-    (λ c. search needs)
-    (λ c. search needs)
-    returns-3
-    (λ c. search needs)
-    (λ c. search needs)
-    returns-4
-    (λ c. search needs)
-    (λ c. search needs)
-    returns-5)
+    tie.close (tie.spec (λ c. search needs) start-seen-requires (λ c κs. search needs) (λ c. search needs) link-passed-requires (λ c. search needs)
+    differ-seen-requires (λ c. search needs) demand-seen-requires (λ c. search needs) return-seen-requires (λ c κs. search needs) (λ c. search needs)
+    (λ c. search needs) returns (λ c. search needs) (λ c. search needs) returns-2 (λ c. search needs) (λ c. search needs) returns-3
+    (λ c. search needs) (λ c. search needs) returns-4 (λ c. search needs) (λ c. search needs) returns-5)

@@ -90,16 +90,5 @@ returns-3 c =
 
 pub condition-spec : {M : Type 1} → statement M
 condition-spec =
-    tie.close
-    (tie.spec
-    (λ c κs. search needs)
-    (λ c. search needs)
-    (λ c. search needs)
-    returns
-    (λ c κs. search needs)
-    (λ c. search needs)
-    differ-requires
-    (λ c. search needs)
-    demand-requires
-    returns-2
-    returns-3)
+    tie.close (tie.spec (λ c κs. search needs) (λ c. search needs) (λ c. search needs) returns (λ c κs. search needs) (λ c. search needs)
+    differ-requires (λ c. search needs) demand-requires returns-2 returns-3)

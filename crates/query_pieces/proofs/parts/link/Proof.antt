@@ -237,35 +237,7 @@ returns-8 c =
 
 pub link-spec : {M : Type 1} → statement M
 link-spec =
-    tie.close
-    (tie.spec
-    (λ c κs. search needs)
-    (λ c. search needs)
-    (λ c. search needs)
-    returns
-    (λ c κs. search needs)
-    (λ c. search needs)
-    (λ c. search needs)
-    returns-2
-    (λ c κs. search needs)
-    (λ c. search needs)
-    (λ c. search needs)
-    returns-3
-    (λ c κs. search needs)
-    (λ c. search needs)
-    (λ c. search needs)
-    returns-4
-    (λ c κs. search needs)
-    (λ c. search needs)
-    (λ c. search needs)
-    returns-5
-    mark-next-requires-4
-    (λ c. search needs)
-    (λ c. search needs)
-    returns-6
-    (λ c κs. search needs)
-    (λ c. search needs)
-    (λ c. search needs)
-    returns-7
-    (λ c κs. search needs)
-    returns-8)
+    tie.close (tie.spec (λ c κs. search needs) (λ c. search needs) (λ c. search needs) returns (λ c κs. search needs) (λ c. search needs)
+    (λ c. search needs) returns-2 (λ c κs. search needs) (λ c. search needs) (λ c. search needs) returns-3 (λ c κs. search needs) (λ c. search needs)
+    (λ c. search needs) returns-4 (λ c κs. search needs) (λ c. search needs) (λ c. search needs) returns-5 mark-next-requires-4 (λ c. search needs)
+    (λ c. search needs) returns-6 (λ c κs. search needs) (λ c. search needs) (λ c. search needs) returns-7 (λ c κs. search needs) returns-8)

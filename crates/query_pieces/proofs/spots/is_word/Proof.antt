@@ -39,15 +39,5 @@ returns-4 c =
 
 pub is-word-spec : {M : Type 1} → statement M
 is-word-spec =
-    tie.close
-    (tie.spec
-    (λ c. search needs)
-    part-of-requires
-    (λ c κs. search needs)
-    (λ c. search needs)
-    (λ c. search needs)
-    (λ c. search needs)
-    returns
-    returns-2
-    returns-3
-    returns-4)
+    tie.close (tie.spec (λ c. search needs) part-of-requires (λ c κs. search needs) (λ c. search needs) (λ c. search needs) (λ c. search needs)
+    returns returns-2 returns-3 returns-4)

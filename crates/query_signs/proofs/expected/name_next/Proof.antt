@@ -141,22 +141,6 @@ returns-5 c =
 
 pub name-next-spec : {M : Type 1} → statement M
 name-next-spec =
-    tie.close
-    (tie.spec
-    (λ c κs. search needs)
-    (λ c κs. search needs)
-    (λ c κs. search needs)
-    returns
-    (λ c κs. search needs)
-    (λ c. search needs)
-    (λ c. search needs)
-    returns-2
-    (λ c κs. search needs)
-    returns-3
-    sub-is-query-name
-    part-is-query-name-start
-    part-is-query-name-end
-    (λ c κs. search needs)
-    sub-t16
-    returns-4
-    returns-5)
+    tie.close (tie.spec (λ c κs. search needs) (λ c κs. search needs) (λ c κs. search needs) returns (λ c κs. search needs) (λ c. search needs)
+    (λ c. search needs) returns-2 (λ c κs. search needs) returns-3 sub-is-query-name part-is-query-name-start part-is-query-name-end
+    (λ c κs. search needs) sub-t16 returns-4 returns-5)

@@ -45,14 +45,4 @@ returns c =
 
 pub blanks-end-spec : {M : Type 1} → statement M
 blanks-end-spec =
-    tie.close
-    (tie.spec
-    Inv-loop
-    μ-loop
-    loop-holds
-    (λ c κs. search needs)
-    (λ c κs. search needs)
-    add-i
-    loop-less
-    loop-again
-    returns)
+    tie.close (tie.spec Inv-loop μ-loop loop-holds (λ c κs. search needs) (λ c κs. search needs) add-i loop-less loop-again returns)

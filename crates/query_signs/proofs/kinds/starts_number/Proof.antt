@@ -27,13 +27,5 @@ returns-3 c =
 
 pub starts-number-spec : {M : Type 1} → statement M
 starts-number-spec =
-    tie.close
-    (tie.spec
-    (λ c κs. search needs)
-    (λ c κs. search needs)
-    returns
-    returns-2
-    (λ c. search needs)
-    (λ c κs. search needs)
-    (λ c κs. search needs)
-    returns-3)
+    tie.close (tie.spec (λ c κs. search needs) (λ c κs. search needs) returns returns-2 (λ c. search needs) (λ c κs. search needs)
+    (λ c κs. search needs) returns-3)

@@ -70,17 +70,5 @@ returns-4 c =
 
 pub mark-at-spec : {M : Type 1} → statement M
 mark-at-spec =
-    tie.close
-    (tie.spec
-    (λ c κs. search needs)
-    mul-pair
-    (λ c. search needs)
-    (λ c κs. search needs)
-    add-pair
-    (λ c κs. search needs)
-    returns
-    (λ c κs. search needs)
-    returns-2
-    (λ c κs. search needs)
-    returns-3
-    returns-4)
+    tie.close (tie.spec (λ c κs. search needs) mul-pair (λ c. search needs) (λ c κs. search needs) add-pair (λ c κs. search needs) returns
+    (λ c κs. search needs) returns-2 (λ c κs. search needs) returns-3 returns-4)

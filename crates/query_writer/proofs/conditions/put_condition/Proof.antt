@@ -96,25 +96,6 @@ returns-3 c =
 
 pub put-condition-spec : {M : Type 1} → statement M
 put-condition-spec =
-    tie.close
-    (tie.spec
-    (λ c. search needs)
-    mul-put-exclusion
-    array-copy-out-put-exclusion
-    mul-put-exclusion-2
-    array-copy-out-put-exclusion-2
-    put-exclusion-requires
-    (λ c. search needs)
-    mul-put-requirement
-    array-copy-out-put-requirement
-    put-requirement-requires
-    (λ c. search needs)
-    mul-edge
-    array-copy-out-edge
-    put-requirement-requires-2
-    (λ c. search needs)
-    returns
-    (λ c. search needs)
-    returns-2
-    (λ c. search needs)
-    returns-3)
+    tie.close (tie.spec (λ c. search needs) mul-put-exclusion array-copy-out-put-exclusion mul-put-exclusion-2 array-copy-out-put-exclusion-2
+    put-exclusion-requires (λ c. search needs) mul-put-requirement array-copy-out-put-requirement put-requirement-requires (λ c. search needs)
+    mul-edge array-copy-out-edge put-requirement-requires-2 (λ c. search needs) returns (λ c. search needs) returns-2 (λ c. search needs) returns-3)

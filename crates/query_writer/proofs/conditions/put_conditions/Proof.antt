@@ -53,17 +53,5 @@ returns c =
 
 pub put-conditions-spec : {M : Type 1} → statement M
 put-conditions-spec =
-    tie.close
-    (tie.spec
-    Inv-loop
-    μ-loop
-    loop-holds
-    (λ c. search needs)
-    (λ c. search needs)
-    (λ c κs. search needs)
-    put-condition-requires
-    (λ c. search needs)
-    (λ c. search needs)
-    loop-again
-    same-length
-    returns)
+    tie.close (tie.spec Inv-loop μ-loop loop-holds (λ c. search needs) (λ c. search needs) (λ c κs. search needs) put-condition-requires
+    (λ c. search needs) (λ c. search needs) loop-again same-length returns)

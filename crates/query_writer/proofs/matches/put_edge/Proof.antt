@@ -54,25 +54,7 @@ returns c =
 
 pub put-edge-spec : {M : Type 1} → statement M
 put-edge-spec =
-    tie.close
-    (tie.spec
-    (λ c. search needs)
-    (λ c. search needs)
-    (λ c. search needs)
-    (λ c. search needs)
-    (λ c. search needs)
-    (λ c κs. search needs)
-    (λ c κs. search needs)
-    (λ c. search needs)
-    (λ c κs. search needs)
-    (λ c κs. search needs)
-    (λ c. search needs)
-    (λ c κs. search needs)
-    put-declared-requires
-    (λ c. search needs)
-    (λ c κs. search needs)
-    put-part-requires-3
-    (λ c. search needs)
-    (λ c κs. search needs)
-    same-length
+    tie.close (tie.spec (λ c. search needs) (λ c. search needs) (λ c. search needs) (λ c. search needs) (λ c. search needs) (λ c κs. search needs)
+    (λ c κs. search needs) (λ c. search needs) (λ c κs. search needs) (λ c κs. search needs) (λ c. search needs) (λ c κs. search needs)
+    put-declared-requires (λ c. search needs) (λ c κs. search needs) put-part-requires-3 (λ c. search needs) (λ c κs. search needs) same-length
     returns)

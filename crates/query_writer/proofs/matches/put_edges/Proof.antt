@@ -50,16 +50,5 @@ returns c =
 
 pub put-edges-spec : {M : Type 1} → statement M
 put-edges-spec =
-    tie.close
-    (tie.spec
-    Inv-loop
-    μ-loop
-    loop-holds
-    (λ c. search needs)
-    (λ c. search needs)
-    put-edge-requires
-    (λ c. search needs)
-    (λ c. search needs)
-    loop-again
-    same-length
-    returns)
+    tie.close (tie.spec Inv-loop μ-loop loop-holds (λ c. search needs) (λ c. search needs) put-edge-requires (λ c. search needs) (λ c. search needs)
+    loop-again same-length returns)

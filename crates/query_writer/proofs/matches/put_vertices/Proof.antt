@@ -47,16 +47,5 @@ returns c =
 
 pub put-vertices-spec : {M : Type 1} → statement M
 put-vertices-spec =
-    tie.close
-    (tie.spec
-    Inv-loop
-    μ-loop
-    loop-holds
-    (λ c. search needs)
-    (λ c. search needs)
-    put-vertex-requires
-    (λ c. search needs)
-    (λ c. search needs)
-    loop-again
-    same-length
-    returns)
+    tie.close (tie.spec Inv-loop μ-loop loop-holds (λ c. search needs) (λ c. search needs) put-vertex-requires (λ c. search needs) (λ c. search needs)
+    loop-again same-length returns)

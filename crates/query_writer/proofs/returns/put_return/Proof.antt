@@ -9,11 +9,4 @@ returns c = puts-then (c .before .before .before .before .before .before .put-be
 
 pub put-return-spec : {M : Type 1} → statement M
 put-return-spec =
-    tie.close
-    (tie.spec
-    (λ c. search needs)
-    (λ c. search needs)
-    (λ c κs. search needs)
-    (λ c κs. search needs)
-    (λ c. search needs)
-    returns)
+    tie.close (tie.spec (λ c. search needs) (λ c. search needs) (λ c κs. search needs) (λ c κs. search needs) (λ c. search needs) returns)

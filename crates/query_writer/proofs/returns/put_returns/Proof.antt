@@ -52,18 +52,5 @@ returns c =
 
 pub put-returns-spec : {M : Type 1} → statement M
 put-returns-spec =
-    tie.close
-    (tie.spec
-    Inv-loop
-    μ-loop
-    loop-holds
-    (λ c. search needs)
-    (λ c. search needs)
-    mul-name
-    array-copy-out-name
-    put-return-requires
-    (λ c. search needs)
-    (λ c. search needs)
-    loop-again
-    same-length
-    returns)
+    tie.close (tie.spec Inv-loop μ-loop loop-holds (λ c. search needs) (λ c. search needs) mul-name array-copy-out-name put-return-requires
+    (λ c. search needs) (λ c. search needs) loop-again same-length returns)

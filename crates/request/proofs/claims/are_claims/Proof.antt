@@ -51,18 +51,5 @@ returns-3 c = read-over (c .before .before .before .args .s .now) (c .before .lo
 
 pub are-claims-spec : {M : Type 1} → statement M
 are-claims-spec =
-    tie.close
-    (tie.spec
-    Inv-loop
-    μ-loop
-    loop-holds
-    (λ c κs. search needs)
-    (λ c. search needs)
-    loop-less
-    loop-again
-    (λ c. search needs)
-    (λ c κs. search needs)
-    returns
-    (λ c. search needs)
-    returns-2
-    returns-3)
+    tie.close (tie.spec Inv-loop μ-loop loop-holds (λ c κs. search needs) (λ c. search needs) loop-less loop-again (λ c. search needs)
+    (λ c κs. search needs) returns (λ c. search needs) returns-2 returns-3)

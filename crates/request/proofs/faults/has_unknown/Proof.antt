@@ -129,21 +129,5 @@ returns-4 c =
 
 pub has-unknown-spec : {M : Type 1} → statement M
 has-unknown-spec =
-    tie.close
-    (tie.spec
-    Inv-loop
-    μ-loop
-    loop-holds
-    (λ c κs. search needs)
-    (λ c. search needs)
-    (λ c. search needs)
-    returns
-    part-of-requires
-    is-actor-requires
-    returns-2
-    part-of-requires-2
-    is-node-requires
-    returns-3
-    loop-less
-    loop-again
-    returns-4)
+    tie.close (tie.spec Inv-loop μ-loop loop-holds (λ c κs. search needs) (λ c. search needs) (λ c. search needs) returns part-of-requires
+    is-actor-requires returns-2 part-of-requires-2 is-node-requires returns-3 loop-less loop-again returns-4)

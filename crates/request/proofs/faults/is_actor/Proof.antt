@@ -50,15 +50,4 @@ returns c =
 
 pub is-actor-spec : {M : Type 1} → statement M
 is-actor-spec =
-    tie.close
-    (tie.spec
-    mul-count
-    add-count
-    mul-count-2
-    shared-slice-read-count
-    cast-count
-    mul-at
-    add-at
-    add-at-2
-    find-name-requires
-    returns)
+    tie.close (tie.spec mul-count add-count mul-count-2 shared-slice-read-count cast-count mul-at add-at add-at-2 find-name-requires returns)

@@ -103,26 +103,6 @@ returns-6 c =
 
 pub request-form-spec : {M : Type 1} → statement M
 request-form-spec =
-    tie.close
-    (tie.spec
-    (λ c κs. search needs)
-    (λ c. search needs)
-    (λ c. search needs)
-    returns
-    (λ c κs. search needs)
-    (λ c. search needs)
-    (λ c. search needs)
-    returns-2
-    part-of-requires
-    (λ c. search needs)
-    (λ c κs. search needs)
-    returns-3
-    add-next-name
-    (λ c κs. search needs)
-    (λ c. search needs)
-    (λ c. search needs)
-    returns-4
-    add-are-claims
-    (λ c κs. search needs)
-    returns-5
-    returns-6)
+    tie.close (tie.spec (λ c κs. search needs) (λ c. search needs) (λ c. search needs) returns (λ c κs. search needs) (λ c. search needs)
+    (λ c. search needs) returns-2 part-of-requires (λ c. search needs) (λ c κs. search needs) returns-3 add-next-name (λ c κs. search needs)
+    (λ c. search needs) (λ c. search needs) returns-4 add-are-claims (λ c κs. search needs) returns-5 returns-6)

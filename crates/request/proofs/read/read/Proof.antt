@@ -39,16 +39,5 @@ returns-3 c =
 
 pub read-spec : {M : Type 1} → statement M
 read-spec =
-    tie.close
-    (tie.spec
-    (λ c κs. search needs)
-    (λ c. search needs)
-    (λ c κs. search needs)
-    (λ c. search needs)
-    cast-refused
-    (λ c κs. search needs)
-    (λ c. search needs)
-    read-one-requires
-    returns
-    returns-2
-    returns-3)
+    tie.close (tie.spec (λ c κs. search needs) (λ c. search needs) (λ c κs. search needs) (λ c. search needs) cast-refused (λ c κs. search needs)
+    (λ c. search needs) read-one-requires returns returns-2 returns-3)

@@ -114,19 +114,5 @@ returns-4 c =
 
 pub read-line-spec : {M : Type 1} → statement M
 read-line-spec =
-    tie.close
-    (tie.spec
-    (λ c κs. search needs)
-    (λ c. search needs)
-    (λ c. search needs)
-    (λ c κs. search needs)
-    returns
-    part-of-requires
-    find-name-requires
-    (λ c κs. search needs)
-    returns-2
-    add-end
-    identities-requires
-    (λ c κs. search needs)
-    returns-3
-    returns-4)
+    tie.close (tie.spec (λ c κs. search needs) (λ c. search needs) (λ c. search needs) (λ c κs. search needs) returns part-of-requires
+    find-name-requires (λ c κs. search needs) returns-2 add-end identities-requires (λ c κs. search needs) returns-3 returns-4)

@@ -276,37 +276,7 @@ returns-7 c =
 
 pub identities-spec : {M : Type 1} → statement M
 identities-spec =
-    tie.close
-    (tie.spec
-    Inv-loop
-    μ-loop
-    loop-holds
-    (λ c κs. search needs)
-    (λ c. search needs)
-    (λ c. search needs)
-    (λ c. search needs)
-    is-given-requires
-    returns
-    (λ c κs. search needs)
-    returns-2
-    part-of-requires
-    is-actor-requires
-    (λ c κs. search needs)
-    returns-3
-    part-of-requires-2
-    find-node-requires
-    (λ c κs. search needs)
-    returns-4
-    is-given-requires-2
-    has-unknown-requires
-    (λ c κs. search needs)
-    returns-5
-    (λ c κs. search needs)
-    returns-6
-    mul-list
-    array-set-from-list
-    add-count
-    loop-less
-    loop-again
-    (λ c κs. search needs)
-    returns-7)
+    tie.close (tie.spec Inv-loop μ-loop loop-holds (λ c κs. search needs) (λ c. search needs) (λ c. search needs) (λ c. search needs)
+    is-given-requires returns (λ c κs. search needs) returns-2 part-of-requires is-actor-requires (λ c κs. search needs) returns-3 part-of-requires-2
+    find-node-requires (λ c κs. search needs) returns-4 is-given-requires-2 has-unknown-requires (λ c κs. search needs) returns-5
+    (λ c κs. search needs) returns-6 mul-list array-set-from-list add-count loop-less loop-again (λ c κs. search needs) returns-7)

@@ -58,17 +58,5 @@ returns-2 c =
 
 pub is-given-spec : {M : Type 1} → statement M
 is-given-spec =
-    tie.close
-    (tie.spec
-    Inv-loop
-    μ-loop
-    loop-holds
-    (λ c. search needs)
-    (λ c. search needs)
-    part-of-requires
-    (λ c κs. search needs)
-    returns
-    (λ c. search needs)
-    (λ c. search needs)
-    loop-again
-    returns-2)
+    tie.close (tie.spec Inv-loop μ-loop loop-holds (λ c. search needs) (λ c. search needs) part-of-requires (λ c κs. search needs) returns
+    (λ c. search needs) (λ c. search needs) loop-again returns-2)

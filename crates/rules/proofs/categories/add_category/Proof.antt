@@ -63,22 +63,6 @@ returns c =
 
 pub add-category-spec : {M : Type 1} → statement M
 add-category-spec =
-    tie.close
-    (tie.spec
-    (λ c. search needs)
-    (λ c. search needs)
-    (λ c. search needs)
-    store-names-requires
-    (λ c. search needs)
-    (λ c. search needs)
-    (λ c. search needs)
-    store-names-requires-2
-    lower-set-requires
-    (λ c. search needs)
-    (λ c. search needs)
-    (λ c. search needs)
-    (λ c. search needs)
-    store-category-requires
-    (λ c. search needs)
-    (λ c. search needs)
-    returns)
+    tie.close (tie.spec (λ c. search needs) (λ c. search needs) (λ c. search needs) store-names-requires (λ c. search needs) (λ c. search needs)
+    (λ c. search needs) store-names-requires-2 lower-set-requires (λ c. search needs) (λ c. search needs) (λ c. search needs) (λ c. search needs)
+    store-category-requires (λ c. search needs) (λ c. search needs) returns)

@@ -127,22 +127,5 @@ returns-2 c =
 
 pub store-names-spec : {M : Type 1} → statement M
 store-names-spec =
-    tie.close
-    (tie.spec
-    Inv-loop
-    μ-loop
-    loop-holds
-    (λ c κs. search needs)
-    (λ c. search needs)
-    (λ c. search needs)
-    same-length
-    returns
-    add-store-name
-    add-store-name-2
-    store-name-requires
-    add-n
-    add-i
-    loop-less
-    loop-again
-    same-length-2
-    returns-2)
+    tie.close (tie.spec Inv-loop μ-loop loop-holds (λ c κs. search needs) (λ c. search needs) (λ c. search needs) same-length returns add-store-name
+    add-store-name-2 store-name-requires add-n add-i loop-less loop-again same-length-2 returns-2)

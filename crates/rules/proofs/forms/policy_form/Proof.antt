@@ -65,19 +65,5 @@ returns-4 c =
 
 pub policy-form-spec : {M : Type 1} → statement M
 policy-form-spec =
-    tie.close
-    (tie.spec
-    (λ c κs. search needs)
-    (λ c. search needs)
-    (λ c. search needs)
-    returns
-    add-next-quoted
-    (λ c κs. search needs)
-    (λ c. search needs)
-    (λ c. search needs)
-    returns-2
-    add-form-closes
-    add-form-closes-2
-    (λ c κs. search needs)
-    returns-3
-    returns-4)
+    tie.close (tie.spec (λ c κs. search needs) (λ c. search needs) (λ c. search needs) returns add-next-quoted (λ c κs. search needs)
+    (λ c. search needs) (λ c. search needs) returns-2 add-form-closes add-form-closes-2 (λ c κs. search needs) returns-3 returns-4)

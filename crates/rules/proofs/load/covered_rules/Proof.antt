@@ -17,8 +17,4 @@ returns-2 c b =
 
 pub covered-rules-spec : {M : Type 1} → statement M
 covered-rules-spec =
-    tie.close
-    (tie.spec
-    (λ c κs. search needs)
-    returns
-    returns-2)
+    tie.close (tie.spec (λ c κs. search needs) returns returns-2)

@@ -69,18 +69,5 @@ returns-3 c = of-none _ _ _ (c .before .before .rules-form .ensures) _ _ (c .enu
 
 pub form-step-spec : {M : Type 1} → statement M
 form-step-spec =
-    tie.close
-    (tie.spec
-    (λ c κs. search needs)
-    (λ c. search needs)
-    category-step-requires
-    (λ c. search needs)
-    part-of-requires
-    fault-of-requires
-    policy-step-requires
-    (λ c. search needs)
-    (λ c. search needs)
-    returns
-    (λ c. search needs)
-    returns-2
-    returns-3)
+    tie.close (tie.spec (λ c κs. search needs) (λ c. search needs) category-step-requires (λ c. search needs) part-of-requires fault-of-requires
+    policy-step-requires (λ c. search needs) (λ c. search needs) returns (λ c. search needs) returns-2 returns-3)

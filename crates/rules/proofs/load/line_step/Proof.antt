@@ -24,12 +24,4 @@ returns-2 c =
 
 pub line-step-spec : {M : Type 1} → statement M
 line-step-spec =
-    tie.close
-    (tie.spec
-    returns
-    (λ c. search needs)
-    (λ c. search needs)
-    (λ c. search needs)
-    form-step-requires
-    (λ c. search needs)
-    returns-2)
+    tie.close (tie.spec returns (λ c. search needs) (λ c. search needs) (λ c. search needs) form-step-requires (λ c. search needs) returns-2)

@@ -44,15 +44,5 @@ returns-3 c =
 
 pub load-spec : {M : Type 1} → statement M
 load-spec =
-    tie.close
-    (tie.spec
-    (λ c κs. search needs)
-    (λ c. search needs)
-    returns
-    (λ c. search needs)
-    cast-t9
-    returns-2
-    (λ c. search needs)
-    load-lines-requires
-    (λ c. search needs)
-    returns-3)
+    tie.close (tie.spec (λ c κs. search needs) (λ c. search needs) returns (λ c. search needs) cast-t9 returns-2 (λ c. search needs)
+    load-lines-requires (λ c. search needs) returns-3)

@@ -95,22 +95,5 @@ returns-2 c =
 
 pub load-lines-spec : {M : Type 1} → statement M
 load-lines-spec =
-    tie.close
-    (tie.spec
-    Inv-loop
-    μ-loop
-    (λ c κs. search needs)
-    loop-holds
-    (λ c κs. search needs)
-    line-step-requires
-    (λ c. search needs)
-    (λ c. search needs)
-    returns
-    (λ c. search needs)
-    add-at
-    add-line
-    loop-less
-    loop-again
-    covered-rules-requires
-    (λ c. search needs)
-    returns-2)
+    tie.close (tie.spec Inv-loop μ-loop (λ c κs. search needs) loop-holds (λ c κs. search needs) line-step-requires (λ c. search needs)
+    (λ c. search needs) returns (λ c. search needs) add-at add-line loop-less loop-again covered-rules-requires (λ c. search needs) returns-2)

@@ -33,12 +33,5 @@ returns c =
 
 pub add-policy-spec : {M : Type 1} → statement M
 add-policy-spec =
-    tie.close
-    (tie.spec
-    (λ c κs. search needs)
-    (λ c κs. search needs)
-    (λ c. search needs)
-    store-policy-requires
-    (λ c. search needs)
-    (λ c. search needs)
-    returns)
+    tie.close (tie.spec (λ c κs. search needs) (λ c κs. search needs) (λ c. search needs) store-policy-requires (λ c. search needs)
+    (λ c. search needs) returns)

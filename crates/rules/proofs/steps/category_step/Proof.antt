@@ -30,11 +30,4 @@ returns-2 c b x y ex ey =
 
 pub category-step-spec : {M : Type 1} → statement M
 category-step-spec =
-    tie.close
-    (tie.spec
-    (λ c κs. search needs)
-    (λ c. search needs)
-    returns
-    add-category-requires
-    (λ c. search needs)
-    returns-2)
+    tie.close (tie.spec (λ c κs. search needs) (λ c. search needs) returns add-category-requires (λ c. search needs) returns-2)

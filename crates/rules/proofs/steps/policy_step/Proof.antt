@@ -28,11 +28,4 @@ returns-2 c b e =
 
 pub policy-step-spec : {M : Type 1} → statement M
 policy-step-spec =
-    tie.close
-    (tie.spec
-    (λ c κs. search needs)
-    (λ c. search needs)
-    returns
-    add-policy-requires
-    (λ c. search needs)
-    returns-2)
+    tie.close (tie.spec (λ c κs. search needs) (λ c. search needs) returns add-policy-requires (λ c. search needs) returns-2)

@@ -69,14 +69,5 @@ returns-5 c =
 
 pub category-fault-spec : {M : Type 1} → statement M
 category-fault-spec =
-    tie.close
-    (tie.spec
-    is-unknown-requires
-    returns
-    is-second-requires
-    returns-2
-    (λ c κs. search needs)
-    returns-3
-    lacks-actor-requires
-    returns-4
+    tie.close (tie.spec is-unknown-requires returns is-second-requires returns-2 (λ c κs. search needs) returns-3 lacks-actor-requires returns-4
     returns-5)

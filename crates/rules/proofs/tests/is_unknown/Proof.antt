@@ -102,19 +102,5 @@ returns-3 c =
 
 pub is-unknown-spec : {M : Type 1} → statement M
 is-unknown-spec =
-    tie.close
-    (tie.spec
-    Inv-loop
-    μ-loop
-    loop-holds
-    (λ c κs. search needs)
-    (λ c. search needs)
-    (λ c. search needs)
-    returns
-    part-of-requires
-    find-name-requires
-    returns-2
-    add-i
-    loop-less
-    loop-again
-    returns-3)
+    tie.close (tie.spec Inv-loop μ-loop loop-holds (λ c κs. search needs) (λ c. search needs) (λ c. search needs) returns part-of-requires
+    find-name-requires returns-2 add-i loop-less loop-again returns-3)

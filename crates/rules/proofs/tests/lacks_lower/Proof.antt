@@ -66,14 +66,4 @@ returns-2 c =
 
 pub lacks-lower-spec : {M : Type 1} → statement M
 lacks-lower-spec =
-    tie.close
-    (tie.spec
-    Inv-loop
-    μ-loop
-    loop-holds
-    lacks-of-lower-requires
-    returns
-    (λ c. search needs)
-    (λ c. search needs)
-    loop-again
-    returns-2)
+    tie.close (tie.spec Inv-loop μ-loop loop-holds lacks-of-lower-requires returns (λ c. search needs) (λ c. search needs) loop-again returns-2)

@@ -37,11 +37,4 @@ returns-2 c =
 
 pub lacks-of-lower-spec : {M : Type 1} → statement M
 lacks-of-lower-spec =
-    tie.close
-    (tie.spec
-    (λ c. search needs)
-    name-at-requires
-    (λ c κs. search needs)
-    lacks-one-of-requires
-    returns
-    returns-2)
+    tie.close (tie.spec (λ c. search needs) name-at-requires (λ c κs. search needs) lacks-one-of-requires returns returns-2)

@@ -97,24 +97,5 @@ returns-2 c =
 
 pub lacks-one-of-spec : {M : Type 1} → statement M
 lacks-one-of-spec =
-    tie.close
-    (tie.spec
-    Inv-loop
-    μ-loop
-    mul-count
-    add-count
-    mul-count-2
-    shared-slice-read-count
-    cast-count
-    loop-holds
-    mul-name-at
-    add-name-at
-    add-name-at-2
-    add-name-at-3
-    name-at-requires
-    (λ c κs. search needs)
-    returns
-    (λ c. search needs)
-    (λ c. search needs)
-    loop-again
-    returns-2)
+    tie.close (tie.spec Inv-loop μ-loop mul-count add-count mul-count-2 shared-slice-read-count cast-count loop-holds mul-name-at add-name-at
+    add-name-at-2 add-name-at-3 name-at-requires (λ c κs. search needs) returns (λ c. search needs) (λ c. search needs) loop-again returns-2)

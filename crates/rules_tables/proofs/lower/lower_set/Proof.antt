@@ -103,24 +103,5 @@ returns c =
 
 pub lower-set-spec : {M : Type 1} → statement M
 lower-set-spec =
-    tie.close
-    (tie.spec
-    Inv-loop
-    μ-loop
-    with-requires
-    loop-holds
-    mul-name-at
-    add-name-at
-    add-name-at-2
-    add-name-at-3
-    name-at-requires
-    find-name-requires
-    mul-set
-    add-set
-    add-set-2
-    mul-set-2
-    shared-slice-read-set
-    (λ c. search needs)
-    (λ c. search needs)
-    loop-again
-    returns)
+    tie.close (tie.spec Inv-loop μ-loop with-requires loop-holds mul-name-at add-name-at add-name-at-2 add-name-at-3 name-at-requires
+    find-name-requires mul-set add-set add-set-2 mul-set-2 shared-slice-read-set (λ c. search needs) (λ c. search needs) loop-again returns)

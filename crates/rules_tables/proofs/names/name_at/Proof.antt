@@ -21,13 +21,4 @@ returns c = let w : ℕ = wordAt (c .before .before .args .words .now) (c .befor
 
 pub name-at-spec : {M : Type 1} → statement M
 name-at-spec =
-    tie.close
-    (tie.spec
-    (λ c. search needs)
-    (λ c. search needs)
-    cast-word
-    add-end
-    (λ c. search needs)
-    (λ c. search needs)
-    (λ c. search needs)
-    returns)
+    tie.close (tie.spec (λ c. search needs) (λ c. search needs) cast-word add-end (λ c. search needs) (λ c. search needs) (λ c. search needs) returns)

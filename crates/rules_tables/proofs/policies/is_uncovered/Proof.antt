@@ -44,14 +44,4 @@ returns-2 c = let e : c .before .loop .k ≡ c .before .before .before .args .co
 
 pub is-uncovered-spec : {M : Type 1} → statement M
 is-uncovered-spec =
-    tie.close
-    (tie.spec
-    Inv-loop
-    μ-loop
-    loop-holds
-    lacks-policy-requires
-    returns
-    (λ c. search needs)
-    (λ c. search needs)
-    loop-again
-    returns-2)
+    tie.close (tie.spec Inv-loop μ-loop loop-holds lacks-policy-requires returns (λ c. search needs) (λ c. search needs) loop-again returns-2)

@@ -19,13 +19,5 @@ returns-2 c = rw (ne-eqb (wordAt (c .before .before .before .args .words .now) (
 
 pub lacks-policy-spec : {M : Type 1} → statement M
 lacks-policy-spec =
-    tie.close
-    (tie.spec
-    (λ c. search needs)
-    (λ c. search needs)
-    (λ c. search needs)
-    (λ c. search needs)
-    (λ c. search needs)
-    (λ c κs. search needs)
-    returns
-    returns-2)
+    tie.close (tie.spec (λ c. search needs) (λ c. search needs) (λ c. search needs) (λ c. search needs) (λ c. search needs) (λ c κs. search needs)
+    returns returns-2)

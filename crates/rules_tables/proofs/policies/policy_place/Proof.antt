@@ -63,18 +63,5 @@ returns-2 c =
 
 pub policy-place-spec : {M : Type 1} → statement M
 policy-place-spec =
-    tie.close
-    (tie.spec
-    Inv-loop
-    μ-loop
-    loop-holds
-    mul-if1
-    add-if1
-    mul-if1-2
-    shared-slice-read-if1
-    cast-if1
-    returns
-    (λ c. search needs)
-    (λ c. search needs)
-    loop-again
-    returns-2)
+    tie.close (tie.spec Inv-loop μ-loop loop-holds mul-if1 add-if1 mul-if1-2 shared-slice-read-if1 cast-if1 returns (λ c. search needs)
+    (λ c. search needs) loop-again returns-2)

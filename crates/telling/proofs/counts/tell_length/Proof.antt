@@ -12,11 +12,4 @@ returns-2 c = written-refused _ (c .before .before .before .before .before .writ
 
 pub tell-length-spec : {M : Type 1} → statement M
 tell-length-spec =
-    tie.close
-    (tie.spec
-    (λ c. search needs)
-    (λ c κs. search needs)
-    returns
-    (λ c. search needs)
-    (λ c κs. search needs)
-    returns-2)
+    tie.close (tie.spec (λ c. search needs) (λ c κs. search needs) returns (λ c. search needs) (λ c κs. search needs) returns-2)

@@ -12,11 +12,4 @@ returns-2 c = listed-refused _ (c .before .before .before .before .before .liste
 
 pub tell-rows-spec : {M : Type 1} → statement M
 tell-rows-spec =
-    tie.close
-    (tie.spec
-    (λ c. search needs)
-    (λ c κs. search needs)
-    returns
-    (λ c. search needs)
-    (λ c κs. search needs)
-    returns-2)
+    tie.close (tie.spec (λ c. search needs) (λ c κs. search needs) returns (λ c. search needs) (λ c κs. search needs) returns-2)

@@ -39,14 +39,4 @@ returns-2 c = sym (past-end (isOther (c .before .before .args .byte)) (c .before
 
 pub find-near-spec : {M : Type 1} → statement M
 find-near-spec =
-    tie.close
-    (tie.spec
-    Inv-loop
-    μ-loop
-    loop-holds
-    (λ c. search needs)
-    returns
-    (λ c. search needs)
-    (λ c. search needs)
-    loop-again
-    returns-2)
+    tie.close (tie.spec Inv-loop μ-loop loop-holds (λ c. search needs) returns (λ c. search needs) (λ c. search needs) loop-again returns-2)

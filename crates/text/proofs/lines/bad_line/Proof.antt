@@ -53,17 +53,5 @@ returns-2 c = ap onLine (sym (bad-none (c .before .before .before .args .s .now)
 
 pub bad-line-spec : {M : Type 1} → statement M
 bad-line-spec =
-    tie.close
-    (tie.spec
-    Inv-loop
-    μ-loop
-    loop-holds
-    (λ c. search needs)
-    (λ c κs. search needs)
-    returns
-    (λ c κs. search needs)
-    add-line
-    (λ c. search needs)
-    (λ c. search needs)
-    loop-again
-    returns-2)
+    tie.close (tie.spec Inv-loop μ-loop loop-holds (λ c. search needs) (λ c κs. search needs) returns (λ c κs. search needs) add-line
+    (λ c. search needs) (λ c. search needs) loop-again returns-2)

@@ -31,14 +31,5 @@ returns c = sym (any-end (c .before .before .before .args .s .now) (c .before .l
 
 pub some-bad-spec : {M : Type 1} → statement M
 some-bad-spec =
-    tie.close
-    (tie.spec
-    Inv-loop
-    μ-loop
-    loop-holds
-    (λ c. search needs)
-    (λ c κs. search needs)
-    (λ c. search needs)
-    (λ c. search needs)
-    loop-again
+    tie.close (tie.spec Inv-loop μ-loop loop-holds (λ c. search needs) (λ c κs. search needs) (λ c. search needs) (λ c. search needs) loop-again
     returns)

@@ -98,21 +98,5 @@ returns-3 c =
 
 pub digits-spec : {M : Type 1} → statement M
 digits-spec =
-    tie.close
-    (tie.spec
-    Inv-loop
-    μ-loop
-    loop-holds
-    (λ c κs. search needs)
-    (λ c κs. search needs)
-    returns
-    (λ c. search needs)
-    shared-slice-read-v
-    sub-v
-    cast-v
-    add-v
-    add-i
-    loop-less
-    loop-again
-    returns-2
-    returns-3)
+    tie.close (tie.spec Inv-loop μ-loop loop-holds (λ c κs. search needs) (λ c κs. search needs) returns (λ c. search needs) shared-slice-read-v sub-v
+    cast-v add-v add-i loop-less loop-again returns-2 returns-3)

@@ -67,16 +67,5 @@ returns-5 c =
 
 pub negative-spec : {M : Type 1} → statement M
 negative-spec =
-    tie.close
-    (tie.spec
-    returns
-    (λ c. search needs)
-    (λ c κs. search needs)
-    (λ c. search needs)
-    (λ c. search needs)
-    returns-2
-    returns-3
-    (λ c κs. search needs)
-    returns-4
-    sub-t9
-    returns-5)
+    tie.close (tie.spec returns (λ c. search needs) (λ c κs. search needs) (λ c. search needs) (λ c. search needs) returns-2 returns-3
+    (λ c κs. search needs) returns-4 sub-t9 returns-5)

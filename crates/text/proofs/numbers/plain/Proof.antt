@@ -89,17 +89,5 @@ returns-6 c =
 
 pub plain-spec : {M : Type 1} → statement M
 plain-spec =
-    tie.close
-    (tie.spec
-    (λ c κs. search needs)
-    (λ c. search needs)
-    (λ c. search needs)
-    returns
-    returns-2
-    (λ c κs. search needs)
-    sub-if3
-    returns-3
-    returns-4
-    add-t10
-    returns-5
-    returns-6)
+    tie.close (tie.spec (λ c κs. search needs) (λ c. search needs) (λ c. search needs) returns returns-2 (λ c κs. search needs) sub-if3 returns-3
+    returns-4 add-t10 returns-5 returns-6)

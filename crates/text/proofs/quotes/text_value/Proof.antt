@@ -42,14 +42,4 @@ returns-4 c =
 
 pub text-value-spec : {M : Type 1} → statement M
 text-value-spec =
-    tie.close
-    (tie.spec
-    returns
-    (λ c. search needs)
-    (λ c κs. search needs)
-    (λ c κs. search needs)
-    returns-2
-    sub-if3
-    add-t7
-    returns-3
-    returns-4)
+    tie.close (tie.spec returns (λ c. search needs) (λ c κs. search needs) (λ c κs. search needs) returns-2 sub-if3 add-t7 returns-3 returns-4)

@@ -87,19 +87,5 @@ returns-3 c =
 
 pub find-identity-spec : {M : Type 1} → statement M
 find-identity-spec =
-    tie.close
-    (tie.spec
-    Inv-loop
-    μ-loop
-    loop-holds
-    (λ c. search needs)
-    (λ c. search needs)
-    part-of-requires
-    (λ c κs. search needs)
-    cast-result
-    returns
-    (λ c. search needs)
-    (λ c. search needs)
-    loop-again
-    returns-2
-    returns-3)
+    tie.close (tie.spec Inv-loop μ-loop loop-holds (λ c. search needs) (λ c. search needs) part-of-requires (λ c κs. search needs) cast-result returns
+    (λ c. search needs) (λ c. search needs) loop-again returns-2 returns-3)

@@ -69,20 +69,5 @@ returns c =
 
 pub give-identities-spec : {M : Type 1} → statement M
 give-identities-spec =
-    tie.close
-    (tie.spec
-    Inv-loop
-    μ-loop
-    loop-holds
-    (λ c. search needs)
-    slice-read-find-identity
-    find-identity-requires
-    (λ c. search needs)
-    (λ c. search needs)
-    slice-write-words
-    (λ c κs. search needs)
-    (λ c. search needs)
-    (λ c. search needs)
-    loop-again
-    same-length
-    returns)
+    tie.close (tie.spec Inv-loop μ-loop loop-holds (λ c. search needs) slice-read-find-identity find-identity-requires (λ c. search needs)
+    (λ c. search needs) slice-write-words (λ c κs. search needs) (λ c. search needs) (λ c. search needs) loop-again same-length returns)

@@ -64,20 +64,5 @@ returns c =
 
 pub step-spec : {M : Type 1} → statement M
 step-spec =
-    tie.close
-    (tie.spec
-    Inv-loop
-    μ-loop
-    loop-holds
-    (λ c. search needs)
-    (λ c. search needs)
-    (λ c. search needs)
-    cast-word
-    has-requires
-    mark-if-requires
-    has-requires-2
-    mark-if-requires-2
-    (λ c. search needs)
-    (λ c. search needs)
-    loop-again
-    returns)
+    tie.close (tie.spec Inv-loop μ-loop loop-holds (λ c. search needs) (λ c. search needs) (λ c. search needs) cast-word has-requires mark-if-requires
+    has-requires-2 mark-if-requires-2 (λ c. search needs) (λ c. search needs) loop-again returns)

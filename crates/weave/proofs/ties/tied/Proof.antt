@@ -49,14 +49,4 @@ returns-2 c =
 
 pub tied-spec : {M : Type 1} → statement M
 tied-spec =
-    tie.close
-    (tie.spec
-    Inv-loop
-    μ-loop
-    loop-holds
-    step-requires
-    returns
-    (λ c. search needs)
-    (λ c. search needs)
-    loop-again
-    returns-2)
+    tie.close (tie.spec Inv-loop μ-loop loop-holds step-requires returns (λ c. search needs) (λ c. search needs) loop-again returns-2)

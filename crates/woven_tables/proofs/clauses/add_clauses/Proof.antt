@@ -67,27 +67,15 @@ returns c =
 
 pub add-clauses-spec : {M : Type 1} → statement M
 add-clauses-spec =
-    tie.close
-    (tie.spec
-    Inv-loop
-    μ-loop
-    loop-holds
-    (λ c. omega (arith, c .loop-test .taken, c .before .before .before .pre .0 .few))
-    (λ c. omega (arith, c .loop-test .taken, c .before .before .before .pre .0 .few))
-    clause-words-requires
+    tie.close (tie.spec Inv-loop μ-loop loop-holds (λ c. omega (arith, c .loop-test .taken, c .before .before .before .pre .0 .few))
+    (λ c. omega (arith, c .loop-test .taken, c .before .before .before .pre .0 .few)) clause-words-requires
     (λ c. omega (arith, c .before .before .loop-test .taken, c .before .before .before .before .before .pre .0 .room))
     (λ c. omega (arith, c .before .before .loop-test .taken, c .before .before .before .before .before .pre .0 .room))
     (λ c. omega (arith, c .before .before .loop-test .taken, c .before .before .before .before .before .pre .0 .room))
+    (λ c. omega (arith, c .before .before .loop-test .taken, c .before .before .before .before .before .pre .0 .room)) slice-write-words
     (λ c. omega (arith, c .before .before .loop-test .taken, c .before .before .before .before .before .pre .0 .room))
-    slice-write-words
+    (λ c. omega (arith, c .before .before .loop-test .taken, c .before .before .before .before .before .pre .0 .room)) slice-write-words-2
     (λ c. omega (arith, c .before .before .loop-test .taken, c .before .before .before .before .before .pre .0 .room))
-    (λ c. omega (arith, c .before .before .loop-test .taken, c .before .before .before .before .before .pre .0 .room))
-    slice-write-words-2
-    (λ c. omega (arith, c .before .before .loop-test .taken, c .before .before .before .before .before .pre .0 .room))
-    (λ c. omega (arith, c .before .before .loop-test .taken, c .before .before .before .before .before .pre .0 .room))
-    slice-write-words-3
+    (λ c. omega (arith, c .before .before .loop-test .taken, c .before .before .before .before .before .pre .0 .room)) slice-write-words-3
     (λ c. omega (arith, c .before .before .loop-test .taken, c .before .before .before .before .before .pre .0 .few))
-    (λ c. omega (arith, c .before .before .loop-test .taken))
-    loop-again
-    same-length
-    returns)
+    (λ c. omega (arith, c .before .before .loop-test .taken)) loop-again same-length returns)

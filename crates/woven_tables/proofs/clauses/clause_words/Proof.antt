@@ -93,22 +93,6 @@ returns-3 c =
 
 pub clause-words-spec : {M : Type 1} → statement M
 clause-words-spec =
-    tie.close
-    (tie.spec
-    (λ c. search needs)
-    mul-t14
-    array-read-t17
-    cast-t18
-    mul-t19
-    array-read-t22
-    cast-t23
-    (λ c. search needs)
-    mul-requirement-words
-    array-read-requirement-words
-    requirement-words-requires
-    (λ c. search needs)
-    add-requirement-words
-    requirement-words-requires-2
-    returns
-    returns-2
+    tie.close (tie.spec (λ c. search needs) mul-t14 array-read-t17 cast-t18 mul-t19 array-read-t22 cast-t23 (λ c. search needs) mul-requirement-words
+    array-read-requirement-words requirement-words-requires (λ c. search needs) add-requirement-words requirement-words-requires-2 returns returns-2
     returns-3)

@@ -45,16 +45,5 @@ returns c =
 
 pub count-exclusions-spec : {M : Type 1} → statement M
 count-exclusions-spec =
-    tie.close
-    (tie.spec
-    Inv-loop
-    μ-loop
-    loop-holds
-    (λ c. search needs)
-    (λ c. search needs)
-    (λ c κs. search needs)
-    add-n
-    (λ c. search needs)
-    (λ c. search needs)
-    loop-again
-    returns)
+    tie.close (tie.spec Inv-loop μ-loop loop-holds (λ c. search needs) (λ c. search needs) (λ c κs. search needs) add-n (λ c. search needs)
+    (λ c. search needs) loop-again returns)

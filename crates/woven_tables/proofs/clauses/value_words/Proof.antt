@@ -34,17 +34,5 @@ returns-4 c =
 
 pub value-words-spec : {M : Type 1} → statement M
 value-words-spec =
-    tie.close
-    (tie.spec
-    (λ c. search needs)
-    (λ c. search needs)
-    (λ c. search needs)
-    (λ c. search needs)
-    add-t16
-    cast-t17
-    cast-t19
-    (λ c. search needs)
-    returns
-    returns-2
-    returns-3
-    returns-4)
+    tie.close (tie.spec (λ c. search needs) (λ c. search needs) (λ c. search needs) (λ c. search needs) add-t16 cast-t17 cast-t19 (λ c. search needs)
+    returns returns-2 returns-3 returns-4)

@@ -98,29 +98,15 @@ returns c =
 
 pub add-edges-spec : {M : Type 1} → statement M
 add-edges-spec =
-    tie.close
-    (tie.spec
-    Inv-loop
-    μ-loop
-    loop-holds
+    tie.close (tie.spec Inv-loop μ-loop loop-holds (λ c. omega (arith, c .loop-test .taken, c .before .before .before .pre .0 .few))
     (λ c. omega (arith, c .loop-test .taken, c .before .before .before .pre .0 .few))
-    (λ c. omega (arith, c .loop-test .taken, c .before .before .before .pre .0 .few))
-    (λ c. omega (arith, c .before .before .loop-test .taken, c .before .before .before .before .before .pre .0 .room))
-    mul-edge-word
-    array-read-edge-word
-    mul-edge-word-2
-    array-read-edge-word-2
-    edge-word-requires
+    (λ c. omega (arith, c .before .before .loop-test .taken, c .before .before .before .before .before .pre .0 .room)) mul-edge-word
+    array-read-edge-word mul-edge-word-2 array-read-edge-word-2 edge-word-requires
     (λ c. omega (arith, c .before .before .before .loop-test .taken, c .before .before .before .before .before .before .pre .0 .room))
     (λ c. omega (arith, c .before .before .before .loop-test .taken, c .before .before .before .before .before .before .pre .0 .room))
-    slice-write-words
-    add-name-word
-    name-word-requires
+    slice-write-words add-name-word name-word-requires
     (λ c. let u = c .before .before .before .before .before in omega (arith, u .loop-test .taken, u .before .before .before .pre .0 .room))
     (λ c. let u = c .before .before .before .before .before in omega (arith, u .loop-test .taken, u .before .before .before .pre .0 .room))
     slice-write-words-2
     (λ c. let u = c .before .before .before .before .before in omega (arith, u .loop-test .taken, u .before .before .before .pre .0 .few))
-    (λ c. omega (arith, c .before .before .before .before .before .loop-test .taken))
-    loop-again
-    same-length
-    returns)
+    (λ c. omega (arith, c .before .before .before .before .before .loop-test .taken)) loop-again same-length returns)

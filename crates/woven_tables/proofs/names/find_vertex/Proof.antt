@@ -62,16 +62,5 @@ returns-2 c =
 
 pub find-vertex-spec : {M : Type 1} → statement M
 find-vertex-spec =
-    tie.close
-    (tie.spec
-    Inv-loop
-    μ-loop
-    loop-holds
-    (λ c. search needs)
-    (λ c. search needs)
-    same-vertex-requires
-    returns
-    (λ c. search needs)
-    (λ c. search needs)
-    loop-again
-    returns-2)
+    tie.close (tie.spec Inv-loop μ-loop loop-holds (λ c. search needs) (λ c. search needs) same-vertex-requires returns (λ c. search needs)
+    (λ c. search needs) loop-again returns-2)

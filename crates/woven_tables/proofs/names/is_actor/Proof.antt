@@ -71,18 +71,5 @@ returns-2 c =
 
 pub is-actor-spec : {M : Type 1} → statement M
 is-actor-spec =
-    tie.close
-    (tie.spec
-    Inv-loop
-    μ-loop
-    loop-holds
-    (λ c. search needs)
-    (λ c. search needs)
-    cast-w
-    part-of-requires
-    (λ c κs. search needs)
-    returns
-    (λ c. search needs)
-    (λ c. search needs)
-    loop-again
-    returns-2)
+    tie.close (tie.spec Inv-loop μ-loop loop-holds (λ c. search needs) (λ c. search needs) cast-w part-of-requires (λ c κs. search needs) returns
+    (λ c. search needs) (λ c. search needs) loop-again returns-2)

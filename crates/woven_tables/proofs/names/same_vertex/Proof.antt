@@ -35,12 +35,4 @@ returns-5 c =
 
 pub same-vertex-spec : {M : Type 1} → statement M
 same-vertex-spec =
-    tie.close
-    (tie.spec
-    (λ c κs. search needs)
-    returns
-    returns-2
-    returns-3
-    (λ c κs. search needs)
-    returns-4
-    returns-5)
+    tie.close (tie.spec (λ c κs. search needs) returns returns-2 returns-3 (λ c κs. search needs) returns-4 returns-5)

@@ -31,11 +31,4 @@ returns-2 c =
 
 pub says-spec : {M : Type 1} → statement M
 says-spec =
-    tie.close
-    (tie.spec
-    part-of-requires
-    (λ c κs. search needs)
-    returns
-    part-of-requires-2
-    (λ c κs. search needs)
-    returns-2)
+    tie.close (tie.spec part-of-requires (λ c κs. search needs) returns part-of-requires-2 (λ c κs. search needs) returns-2)

@@ -57,21 +57,5 @@ returns c =
 
 pub add-returns-spec : {M : Type 1} → statement M
 add-returns-spec =
-    tie.close
-    (tie.spec
-    Inv-loop
-    μ-loop
-    loop-holds
-    mul-v
-    array-read-v
-    mul-words
-    array-read-words
-    cast-words
-    (λ c. search needs)
-    (λ c. search needs)
-    slice-write-words
-    (λ c. search needs)
-    (λ c. search needs)
-    loop-again
-    same-length
-    returns)
+    tie.close (tie.spec Inv-loop μ-loop loop-holds mul-v array-read-v mul-words array-read-words cast-words (λ c. search needs) (λ c. search needs)
+    slice-write-words (λ c. search needs) (λ c. search needs) loop-again same-length returns)

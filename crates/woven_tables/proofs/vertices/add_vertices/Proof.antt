@@ -107,25 +107,13 @@ returns-2 c =
 
 pub add-vertices-spec : {M : Type 1} → statement M
 add-vertices-spec =
-    tie.close
-    (tie.spec
-    Inv-loop
-    μ-loop
-    loop-holds
+    tie.close (tie.spec Inv-loop μ-loop loop-holds
     (λ c. omega (arith, c .loop-test .taken, c .before .before .before .before .before .before .pre .0 .few))
-    (λ c. omega (arith, c .loop-test .taken, c .before .before .before .before .before .before .pre .0 .few))
-    add-vertex-of
-    vertex-of-requires
-    place-vertex-requires
-    same-length
-    returns
-    (λ c. let u = c .before .before .before .before .before .before .before .before in
+    (λ c. omega (arith, c .loop-test .taken, c .before .before .before .before .before .before .pre .0 .few)) add-vertex-of vertex-of-requires
+    place-vertex-requires same-length returns (λ c. let u = c .before .before .before .before .before .before .before .before in
     omega (arith, u .loop-test .taken, u .before .before .before .before .before .before .pre .0 .few))
     (λ c. let u = c .before .before .before .before .before .before .before .before in
     omega (arith, u .loop-test .taken, u .before .before .before .before .before .before .pre .0 .few))
     (λ c. let u = c .before .before .before .before .before .before .before .before in
     omega (arith, u .loop-test .taken, u .before .before .before .before .before .before .pre .0 .few))
-    (λ c. omega (arith, c .before .before .before .before .before .before .before .before .loop-test .taken))
-    loop-again
-    same-length-2
-    returns-2)
+    (λ c. omega (arith, c .before .before .before .before .before .before .before .before .loop-test .taken)) loop-again same-length-2 returns-2)
