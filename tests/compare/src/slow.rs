@@ -52,7 +52,8 @@ fn queries(bytes: usize) -> Vec<String> {
 fn in_one_slot() -> Vec<String> {
     let digits = b"abcdefghijklmnopqrstuvwxyz0123456789";
     let name = |n: usize| "n".to_string() + &[46_656, 1_296, 36, 1].map(|p| (digits[n / p % 36] as char).to_string()).concat();
-    let slot = |w: &String| w.bytes().fold(0usize, |m, b| (m * 197 + b as usize % 32) % 256);
+    let four = |w: &[u8]| w.iter().rev().fold(0u64, |n, b| n * 256 + *b as u64 % 32);
+    let slot = |w: &String| (four(&w.as_bytes()[..4]) * 5 + four(&w.as_bytes()[1..])) % 233;
     let wanted = slot(&name(0));
     (0..36 * 46_656).map(name).filter(|w| slot(w) == wanted).take(2_800).collect()
 }
