@@ -1,13 +1,16 @@
 // The readers and the list on many sets of texts. Each case is a folder with a number; a text that it lacks is the one beside the folders.
 // Prints of each case its name, the answers of the book, rules and request readers, what the query writer writes, the list, and the list's answer where no
 // row words are lent.
-// `run`, `print_case` and `print_answers` only print, and no contract can say what reached the output.
+// `run` and the functions that print only print, and no contract can say what reached the output.
 ghost use Rattle.io.specs.Counts.{Counts};
 use libc::STDOUT_FILENO;
+use model::RowsListed;
 use model::limits::MAX_BOOK_BYTES;
 use model::limits::MAX_QUERY_BYTES;
 use model::limits::MAX_REQUEST_BYTES;
 use model::limits::MAX_RULES_BYTES;
+use model::limits::WORK_WORDS;
+use printed::LIST_BYTES;
 use putting::bytes::put_byte;
 use putting::bytes::put_bytes;
 
@@ -23,6 +26,9 @@ const RULES_BYTES: usize = MAX_RULES_BYTES + 1;
 const QUERY_BYTES: usize = MAX_QUERY_BYTES + 1;
 
 const REQUEST_BYTES: usize = MAX_REQUEST_BYTES + 1;
+
+// Room for a header, which has at most 13 bytes.
+const HEADER_BYTES: usize = 13;
 
 // Room for a path: the folder's number, a slash, a file's name.
 const PATH_BYTES: usize = 32;
@@ -74,11 +80,39 @@ fn read_case(i: usize, file: &[u8], text: &mut [u8]) -> usize
 
 // Prints the answers on four texts.
 fn print_answers(book: &[u8], rules: &[u8], query: &[u8], request: &[u8]) {
-    program_io::readers::print_book(book);
-    program_io::readers::print_rules(book, rules);
-    program_io::readers::print_request(book, rules, request);
-    program_io::readers::print_written(book, rules, query);
-    program_io::print_list(book, rules, query, request);
+    print_answers::print_book(book);
+    print_answers::print_rules(book, rules);
+    print_answers::print_request(book, rules, request);
+    print_answers::print_written(book, rules, query);
+    print_list(book, rules, query, request);
     io::write_all(STDOUT_FILENO, b"no row words: ");
-    program_io::print_in_no_words(book, rules, query, request);
+    print_in_no_words(book, rules, query, request);
+}
+
+// Prints what the list program prints for four texts.
+fn print_list(book: &[u8], rules: &[u8], query: &[u8], request: &[u8]) {
+    let mut text = [0u8; LIST_BYTES];
+    let length = printed::list_text(book, rules, query, request, &mut text);
+    program_io::print_front(&text, length);
+}
+
+// Prints what the list answers where no row words are lent: the row count, or the refusal.
+fn print_in_no_words(book: &[u8], rules: &[u8], query: &[u8], request: &[u8]) {
+    let mut rows = [0u32; 1];
+    let mut work = [0u32; WORK_WORDS];
+    match listing::list(book, rules, query, request, &mut rows[0..0], &mut work) {
+        RowsListed::Refused(refusal) => {
+            print_answers::print_refusal(refusal);
+        }
+        RowsListed::Count(count, _) => {
+            print_header(count);
+        }
+    }
+}
+
+// Prints the header of a list.
+fn print_header(count: usize) {
+    let mut line = [0u8; HEADER_BYTES];
+    let length = list_lines::put_header(count, &mut line, 0);
+    program_io::print_front(&line, length);
 }

@@ -1,5 +1,4 @@
 // The cases of the gate: queries and what is written for them, sets of texts and what every service answers, and books at their limits.
-mod book_limits; // book_limits.rt: books at the edges of their limits
 mod list_cases; // list_cases.rt: every service on sets of texts
 mod query_cases; // query_cases.rt: the query reader and writer on many texts
 

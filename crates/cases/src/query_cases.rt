@@ -39,5 +39,5 @@ fn print_queries(book: &[u8], rules: &[u8], queries: &[u8]) {
 fn print_query(book: &[u8], rules: &[u8], query: &[u8]) {
     io::write_all(STDOUT_FILENO, query);
     io::write_all(STDOUT_FILENO, b"\n  ");
-    program_io::readers::print_written(book, rules, query);
+    print_answers::print_written(book, rules, query);
 }

@@ -29,6 +29,6 @@ pub extern "C" fn hifmuneth_list(
         (now (query .entry)) (now (request .entry)) .rows ⌝ }
     ensures cleared { λ _. ⌜ now (work .exit) ≡ ones (length (now (work .entry))) ⌝ }
 {
-    let listed = service::list(book, rules, query, request, rows, work);
+    let listed = listing::list(book, rules, query, request, rows, work);
     tell_rows(listed, count, width, number, text, line)
 }

@@ -3,12 +3,12 @@ ghost use mathlib.Core.Path.{_≡_};
 ghost use lib.ListN.{length};
 ghost use Rattle.model.specs.Service.{ones};
 ghost use Rattle.model.specs.WholeAnswers.{queryRead};
-ghost use Rattle.telling.specs.Told.{QueryTold};
+ghost use Rattle.telling_words.specs.Told.{QueryTold};
 use answer_words::conditions::ALL_CONDITION_WORDS;
 use answer_words::patterns::ALL_EDGE_WORDS;
 use answer_words::patterns::ALL_VERTEX_WORDS;
 use model::limits::MAX_RETURNS;
-use telling::reads::tell_query;
+use telling_words::tell_query;
 
 // Reads a query: true and its pattern, or false and the refusal. Beside the counts each vertex has two words, each edge five, each condition
 // seven and each Return name one, as `answer_words/specs/Words.antt` sets out. What does not apply is 0. The working memory ends all ones.

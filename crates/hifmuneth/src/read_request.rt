@@ -3,9 +3,9 @@ ghost use mathlib.Core.Path.{_≡_};
 ghost use lib.ListN.{length};
 ghost use Rattle.model.specs.Service.{ones};
 ghost use Rattle.model.specs.RequestAnswer.{requestRead};
-ghost use Rattle.telling.specs.Told.{RequestTold};
+ghost use Rattle.telling_words.specs.Told.{RequestTold};
 use answer_words::identities::ALL_IDENTITY_WORDS;
-use telling::reads::tell_request;
+use telling_words::tell_request;
 
 // Reads a request: true, the category's number and the identities, or false and the refusal. An identity has three words: where its actor's
 // name starts in the request, the name's length, and the node's number. What does not apply is 0. The working memory ends all ones.

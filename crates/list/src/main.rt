@@ -4,6 +4,7 @@ use model::limits::MAX_BOOK_BYTES;
 use model::limits::MAX_QUERY_BYTES;
 use model::limits::MAX_REQUEST_BYTES;
 use model::limits::MAX_RULES_BYTES;
+use printed::LIST_BYTES;
 use program_io::files;
 
 // Each text has room for one byte more than its limit, so that a file past the limit is seen to be too long.
@@ -29,11 +30,18 @@ fn main() {
         let rules_length = rules_read.length;
         let query_length = query_read.length;
         let request_length = request_read.length;
-        program_io::print_list(
+        print_list(
             &book[..book_length],
             &rules[..rules_length],
             &query[..query_length],
             &request[..request_length],
         );
     }
+}
+
+// Prints the list of four texts, or the refusal. No contract can say what reached the output.
+fn print_list(book: &[u8], rules: &[u8], query: &[u8], request: &[u8]) {
+    let mut text = [0u8; LIST_BYTES];
+    let length = printed::list_text(book, rules, query, request, &mut text);
+    program_io::print_front(&text, length);
 }

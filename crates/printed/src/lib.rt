@@ -49,7 +49,7 @@ fn from_book(
 {
     let mut rows = [0u32; ROW_WORDS];
     let mut work = [0u32; WORK_WORDS];
-    match service::list(book, rules, query, request, &mut rows, &mut work) {
+    match listing::list(book, rules, query, request, &mut rows, &mut work) {
         RowsListed::Refused(refusal) => {
             return list_lines::put_refusal(refusal, out, 0);
         }

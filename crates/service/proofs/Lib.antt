@@ -1,4 +1,3 @@
 -- The reasoning behind the services' proofs.
 pub mod ReaderLaws
 pub mod WritingLaws
-pub mod ListLaws

@@ -13,8 +13,8 @@ use Rattle.model.specs.Refusal.{Outcome, accepted, onAccept}
 use Rattle.model.specs.ReadBook.{readBook}
 use Rattle.model.specs.Pattern.{Pattern, patternOf}
 use Rattle.model.specs.Rules.{categoryNames}
-use Rattle.model.specs.Service.{RulesAnswer, RequestAnswer, rulesService, queryService, requestService}
-use Rattle.model.specs.Answers.{refusalOf, refusalData, bookOf, rulesAnswer, verdictOf, queryAnswer, requestAnswer}
+use Rattle.model.specs.Service.{RulesAnswer, RequestAnswer, bookService, rulesService, queryService, requestService}
+use Rattle.model.specs.Answers.{refusalOf, refusalData, bookOf, bookAnswer, rulesAnswer, verdictOf, queryAnswer, requestAnswer}
 use Rattle.model.specs.PlainData.{noPattern}
 use Rattle.model.specs.RequestPlaces.{slots}
 use Rattle.model.specs.RequestAnswer.{toldRequest, requestRead}
@@ -23,6 +23,8 @@ use Rattle.model.specs.declared.Refusal.{Refusal as RefusalData}
 use Rattle.model.specs.declared.Verdict.{Verdict}
 use Rattle.model.specs.declared.Verdict.the-variants.{Accepted, Refused}
 use Rattle.model.specs.declared.Pattern.{Pattern as PatternData}
+use Rattle.model.specs.declared.BookRead.{BookRead}
+use Rattle.model.specs.declared.RulesRead.{RulesRead}
 use Rattle.model.specs.declared.RulesRead.the-variants as rules-answer
 use Rattle.model.specs.declared.QueryRead.{QueryRead}
 use Rattle.model.proofs.AcceptedQuery.{query-accepted}
@@ -40,6 +42,8 @@ use Rattle.prepare.specs.declared.Needs.{Needs}
 use Rattle.prepare.specs.declared.Ready.{Ready}
 use Rattle.prepare.specs.Texts.{Texts, afterRules, afterBook, through}
 use Rattle.prepare.specs.Ready.{AllReady, Prepared}
+use Rattle.prepare.proofs.BookLaws.{book-counted, book-refused}
+use Rattle.answers.specs.Answered.{bookAnswered, rulesAnswered}
 use Rattle.prepare.proofs.ThroughLaws.{all-ready, none-ready, refused-through, ready-through}
 
 -- the number of a category is the place of its name
@@ -53,6 +57,9 @@ category-place rules table m fits k l =
     ap (place w) (category-names rules table m) ∙ fits .named .differ (place w ws) k inside l (place-named rules table names (m .categories) w inside)
 
 -- what each of the readers needs
+abbrev bookAlone : Needs
+bookAlone = record { rules = false; query = false; request = false }
+
 abbrev theRules : Needs
 theRules = record { rules = true; query = false; request = false }
 
@@ -66,6 +73,16 @@ module _ (work : ℕ) (book rules query request : Bytes) (words table : List ℕ
   abbrev Given : Needs → Type 0
   Given n = Prepared n book rules query request words table (through n work book rules query request accepted) r
 
+  -- the book reader
+  pub book-answered : Given bookAlone → (a : BookRead) → a ≡ bookAnswered (r .request .verdict) (r .book .nodes) (r .book .relationships) (r .book .entries)
+      → bookAnswer a ≡ bookService work book .answer
+  book-answered given a is = ap bookAnswer is ∙ go (r .request .verdict) refl
+    where
+      go : (v : Verdict) → r .request .verdict ≡ v
+          → bookAnswer (bookAnswered v (r .book .nodes) (r .book .relationships) (r .book .entries)) ≡ bookService work book .answer
+      go Accepted e = book-counted work book rules query request words table r given e
+      go (Refused x) e = book-refused work book rules query request words table r given x e
+
   -- the rules reader
   module _ (given : Given theRules) where
     abbrev of-rules : Texts → Outcome RulesAnswer
@@ -75,7 +92,7 @@ module _ (work : ℕ) (book rules query request : Bytes) (words table : List ℕ
     unfolding rulesService through afterBook afterRules onAccept
     rules-is = refl
 
-    pub rules-counted : r .request .verdict ≡ Accepted
+    rules-counted : r .request .verdict ≡ Accepted
         → rulesAnswer (rules-answer.Counts (r .rules .categories) (r .rules .policies)) ≡ rulesService work book rules .answer
     unfolding rulesAnswer rulesAt
     rules-counted e =
@@ -85,9 +102,18 @@ module _ (work : ℕ) (book rules query request : Bytes) (words table : List ℕ
           policies = length-listed (policyOf rules table) (r .rules .policies) i;
         }))
 
-    pub rules-refused : (x : RefusalData) → r .request .verdict ≡ Refused x → rulesAnswer (rules-answer.Refused x) ≡ rulesService work book rules .answer
+    rules-refused : (x : RefusalData) → r .request .verdict ≡ Refused x → rulesAnswer (rules-answer.Refused x) ≡ rulesService work book rules .answer
     unfolding rulesAnswer
     rules-refused x e = sym (rules-is ∙ refused-through theRules work book rules query request of-rules words table r given x e)
+
+    pub rules-answered : (a : RulesRead) → a ≡ rulesAnswered (r .request .verdict) (r .rules .categories) (r .rules .policies)
+        → rulesAnswer a ≡ rulesService work book rules .answer
+    rules-answered a is = ap rulesAnswer is ∙ go (r .request .verdict) refl
+      where
+        go : (v : Verdict) → r .request .verdict ≡ v
+            → rulesAnswer (rulesAnswered v (r .rules .categories) (r .rules .policies)) ≡ rulesService work book rules .answer
+        go Accepted e = rules-counted e
+        go (Refused x) e = rules-refused x e
 
   -- the query reader
   module _ (given : Given theQuery) where

@@ -24,6 +24,7 @@ use Rattle.rules_tables.specs.View.{treeOf}
 use Rattle.putting.specs.declared.Written.{Written}
 use Rattle.putting.specs.declared.Written.the-variants.{Length, TooLong}
 use Rattle.putting.specs.Whole.{tooLong, Writes}
+use Rattle.answers.specs.Answered.{writerAnswered}
 use Rattle.query_writer.specs.Writable.{Writable}
 use Rattle.query.specs.PatternRead.{PatternAsked, PatternRead}
 use Rattle.query.proofs.ReadLaws.{pattern-asked}
@@ -81,22 +82,12 @@ module _ (work : ℕ) (text book rules query request : Bytes) (words table : Lis
           ∙ ap (λ (t : Bytes). fitting t) (ap writtenQuery (sym (read .is (treeOf query) (query-accepted b query (treeOf query) (all .query-read) .is-text))))
 
       module _ (text′ : Bytes) (w : Written) (writes : Writes 2048 written text text′ w) where
-        pub wrote-length : (n : ℕ) → w ≡ Length n → WriterSays text′ (answer.Length n)
-        unfolding writerAnswer onAccept onto
-        wrote-length n d = go (tooLong 2048 (length text) (length written)) fits-as (sym d ∙ writes .answer) (writes .text)
-          where
-            go : (t : Bool) → through needed work book rules query request of-texts ≡ pick t (refusal 14 3 1) (accepted written)
-                → Length n ≡ pick t TooLong (Length (length written))
-                → text′ ≡ pick t text (written ++ drop (length written) text) → WriterSays text′ (answer.Length n)
-            go true h d f = let z : _≡_ {A = ℕ} 0 1 = cc in absurd (omega arith)
-            go false h d f = let same : n ≡ length written = cc in says _ h text′ (answer.Length n) (ap accepted same) f
-
-        pub wrote-too-long : w ≡ TooLong → WriterSays text′ (answer.Refused (record { number = 14; text = 3; line = 1 }))
+        pub wrote : (a : QueryWritten) → a ≡ writerAnswered w → WriterSays text′ a
         unfolding writerAnswer onAccept onto refusal refusalOf
-        wrote-too-long d = go (tooLong 2048 (length text) (length written)) fits-as (sym d ∙ writes .answer) (writes .text)
+        wrote a is = go (tooLong 2048 (length text) (length written)) fits-as (is ∙ ap writerAnswered (writes .answer)) (writes .text)
           where
             go : (t : Bool) → through needed work book rules query request of-texts ≡ pick t (refusal 14 3 1) (accepted written)
-                → TooLong ≡ pick t TooLong (Length (length written))
-                → text′ ≡ pick t text (written ++ drop (length written) text) → WriterSays text′ (answer.Refused (record { number = 14; text = 3; line = 1 }))
-            go true h d f = says _ h text′ (answer.Refused (record { number = 14; text = 3; line = 1 })) refl f
-            go false h d f = let z : _≡_ {A = ℕ} 0 1 = cc in absurd (omega arith)
+                → a ≡ writerAnswered (pick t TooLong (Length (length written)))
+                → text′ ≡ pick t text (written ++ drop (length written) text) → WriterSays text′ a
+            go true h d f = says _ h text′ a (ap writerAnswer d) f
+            go false h d f = says _ h text′ a (ap writerAnswer d) f

@@ -1,27 +1,21 @@
-// The services: each takes its texts and the lent buffers, and answers or refuses. The texts that a service needs are read by `prepare`.
+// The services that read texts, and the one that writes a query: each takes its texts and the lent buffers, and answers or refuses. The texts that a
+// service needs are read by `prepare`.
 ghost use mathlib.Core.Path.{_≡_};
 ghost use lib.ListN.{length};
 ghost use Rattle.model.specs.ReadBook.{readBook};
 ghost use Rattle.model.specs.Service.{ones, bookService, rulesService, queryService, requestService, writerService};
 ghost use Rattle.model.specs.Answers.{bookOf, bookAnswer, rulesAnswer, queryAnswer, requestAnswer, writerAnswer};
 ghost use Rattle.model.specs.RequestAnswer.{requestRead};
-ghost use Rattle.model.specs.Demands.{ListCalled};
 ghost use Rattle.model.specs.WholeAnswers.{queryRead};
 use model::BookRead;
 use model::QueryRead;
 use model::QueryWritten;
-use model::Refusal;
 use model::RequestRead;
-use model::RowsListed;
 use model::RulesRead;
 use model::Verdict;
-use model::refusal_numbers::NO_ROOM;
-use model::refusal_numbers::QUERY;
-use model::refusal_numbers::QUERY_LINE;
 use prepare::Needs;
 use prepare::clear;
 use prepare::prepare;
-use putting::Written;
 use query::pattern;
 use rules_tables::RULES_WORDS;
 
@@ -41,12 +35,7 @@ pub fn read_book(book: &[u8], work: &mut [u32]) -> BookRead
     let request = ready.request;
     let verdict = request.verdict;
     let counts = ready.book;
-    match verdict {
-        Verdict::Accepted => {
-            BookRead::Counts(counts.nodes, counts.relationships, counts.entries)
-        }
-        Verdict::Refused(refusal) => BookRead::Refused(refusal),
-    }
+    answers::of_book(verdict, counts.nodes, counts.relationships, counts.entries)
 }
 
 // Reads rules and answers their counts of categories and policies, or a refusal. The working memory ends all ones.
@@ -65,10 +54,7 @@ pub fn read_rules(book: &[u8], rules: &[u8], work: &mut [u32]) -> RulesRead
     let request = ready.request;
     let verdict = request.verdict;
     let sizes = ready.rules;
-    match verdict {
-        Verdict::Accepted => RulesRead::Counts(sizes.categories, sizes.policies),
-        Verdict::Refused(refusal) => RulesRead::Refused(refusal),
-    }
+    answers::of_rules(verdict, sizes.categories, sizes.policies)
 }
 
 // Reads a query and answers its pattern, or a refusal beside an empty one. The working memory ends all ones.
@@ -148,43 +134,5 @@ pub fn write_query(
     let pattern = pattern::pattern_of(book, work, counts, query);
     let written = query_writer::write_query(book, work, counts, query, pattern, text);
     clear(work);
-    match written {
-        Written::Length(length) => QueryWritten::Length(length),
-        Written::TooLong => QueryWritten::Refused(Refusal {
-            number: NO_ROOM,
-            text: QUERY,
-            line: QUERY_LINE,
-        }),
-    }
-}
-
-// Lists the rows that may be had in the row words and answers their number and how many Return names each row answers, or a refusal.
-// The row words past the rows end all ones, and so does the working memory.
-pub fn list(
-    book: &[u8],
-    rules: &[u8],
-    query: &[u8],
-    request: &[u8],
-    rows: &mut [u32],
-    work: &mut [u32],
-) -> RowsListed
-    ensures { λ r. ⌜ ListCalled (now (book .entry)) (now (rules .entry)) (now (query .entry)) (now (request .entry)) (now (rows .entry))
-        (now (work .entry)) (now (rows .exit)) (now (work .exit)) r ⌝ }
-{
-    let needs = Needs {
-        rules: true,
-        query: true,
-        request: true,
-    };
-    let mut table = [0u32; RULES_WORDS];
-    let ready = prepare(needs, book, rules, query, request, work, &mut table);
-    let read = ready.request;
-    let verdict = read.verdict;
-    if let Verdict::Refused(refusal) = verdict {
-        clear(work);
-        return listing::refuse(refusal, rows);
-    }
-    let listed = listing::from_texts(book, work, query, rules, &table, request, ready, rows);
-    clear(work);
-    listed
+    answers::of_written(written)
 }

@@ -1,16 +1,12 @@
 -- An outcome told in numbers: whether it is accepted, what it gives, and the three numbers of a refusal; what does not apply is 0.
 use Prim.Native.Nat.{ℕ}
 use mathlib.Core.Path.{_≡_}
-use mathlib.Core.List.{List}
 use mathlib.Core.Bool.{Bool, true, false}
 use Rattle.model.specs.Refusal.{Refusal, Outcome, accepted, refused}
 use Rattle.model.specs.Service.{BookAnswer, RulesAnswer, ListAnswer}
 use Rattle.model.specs.declared.Refusal.{Refusal as RefusalData}
 use Rattle.model.specs.declared.Verdict.{Verdict}
 use Rattle.model.specs.declared.Verdict.the-variants as verdict
-use Rattle.model.specs.declared.QueryRead.{QueryRead}
-use Rattle.model.specs.declared.RequestRead.{RequestRead}
-use Rattle.answer_words.specs.Words.{vertexWords, edgeWords, conditionWords, returnWords, identityWords}
 
 -- whether an outcome is accepted
 unfoldable pub accepts : {A : Type 0} → Outcome A → Bool
@@ -79,22 +75,3 @@ pub record RowsTold (o : Outcome ListAnswer) (r : Bool) (x w n t l : ℕ) : Type
   pub told-as : Told o r n t l
   pub count : x ≡ told (λ a. a .rows) o
   pub width : w ≡ told (λ a. a .width) o
-
--- a query told by all that its reader answers
-pub record QueryTold (q : QueryRead) (r : Bool) (x y z w : ℕ) (vs es cs rs : List ℕ) (n t l : ℕ) : Type 0 where
-  pub told-as : VerdictTold (q .verdict) r n t l
-  pub vertices : x ≡ q .pattern .counts .vertices
-  pub edges : y ≡ q .pattern .counts .edges
-  pub conditions : z ≡ q .pattern .counts .clauses
-  pub returns : w ≡ q .pattern .counts .returns
-  pub vertex-words : vs ≡ vertexWords (q .pattern)
-  pub edge-words : es ≡ edgeWords (q .pattern)
-  pub condition-words : cs ≡ conditionWords (q .pattern)
-  pub return-words : rs ≡ returnWords (q .pattern)
-
--- a request told by all that its reader answers
-pub record RequestTold (q : RequestRead) (r : Bool) (x y : ℕ) (words : List ℕ) (n t l : ℕ) : Type 0 where
-  pub told-as : VerdictTold (q .verdict) r n t l
-  pub category : x ≡ q .category
-  pub count : y ≡ q .count
-  pub identities : words ≡ identityWords q

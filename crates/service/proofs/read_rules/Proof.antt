@@ -1,29 +1,20 @@
 -- `read_rules` meets its contract: the counts of the rules that are ready, or the refusal; then the memory is filled.
 use Rattle.prepare.proofs.ThroughLaws.{cleared-all}
-use Rattle.service.proofs.ReaderLaws.{rules-counted, rules-refused}
+use Rattle.service.proofs.ReaderLaws.{rules-answered}
 use borrow.Author.Needs.{needs}
 use Rattle.service.proofs.read_rules.Statement.{statement}
 use Rattle.service.proofs.read_rules.Tie as tie
 
 returns : tie.Need-returns
 returns c =
-    let at-clear = c .before .before .before .before .before .before in
+    let at-clear = c .before .before .before .before .before in
     let at-prepare = at-clear .before .before .before .before in
     let a = at-prepare .before .before .before .before .before .before .before .before .args in (
-      rules-counted _ _ _ _ _ _ _ _ (at-prepare .prepare .ensures) (c .enum-told .given .1),
-      cleared-all (a .work .now) _ _ (at-clear .clear .ensures) (search needs),
-    )
-
-returns-2 : tie.Need-returns-2
-returns-2 c =
-    let at-clear = c .before .before .before .before .before .before .before in
-    let at-prepare = at-clear .before .before .before .before in
-    let a = at-prepare .before .before .before .before .before .before .before .before .args in (
-      rules-refused _ _ _ _ _ _ _ _ (at-prepare .prepare .ensures) _ (c .before .verdict .given .1),
+      rules-answered _ _ _ _ _ _ _ _ (at-prepare .prepare .ensures) _ (c .of-rules .ensures),
       cleared-all (a .work .now) _ _ (at-clear .clear .ensures) (search needs),
     )
 
 pub read-rules-spec : {M : Type 1} → statement M
 read-rules-spec =
-    tie.close (tie.spec (λ c. search needs) (λ c. search needs) (λ c κs. search needs) (λ c κs. search needs) (λ c. search needs) (λ c. search needs)
-    (λ c. search needs) returns (λ c. search needs) returns-2)
+    tie.close (tie.spec (λ c. search needs) (λ c. search needs) (λ c κs. search needs) (λ c κs. search needs) (λ c κs. search needs)
+    (λ c. search needs) returns)

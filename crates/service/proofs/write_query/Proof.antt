@@ -1,7 +1,7 @@
 -- `write_query` meets its contract: the text of the query that is ready, 14 where it does not fit, or the refusal; then the memory is filled.
 use native.Mathlib.Omega.{arith}
 use Rattle.prepare.proofs.ThroughLaws.{cleared-all}
-use Rattle.service.proofs.WritingLaws.{writer-refused, writer-asked, writable, wrote-length, wrote-too-long}
+use Rattle.service.proofs.WritingLaws.{writer-refused, writer-asked, writable, wrote}
 use borrow.Author.Needs.{needs}
 use Rattle.service.proofs.write_query.Statement.{statement}
 use Rattle.service.proofs.write_query.Tie as tie
@@ -31,33 +31,19 @@ write-query-requires c κs =
 
 returns-2 : tie.Need-returns-2
 returns-2 c =
-    let at-written = c .before in
-    let at-clear = at-written .before .before .before .before in
+    let at-clear = c .before .before .before in
     let at-write-query = at-clear .before .before .before .before in
     let at-pattern-of = at-write-query .before .before .before in
     let at-enum-told = at-pattern-of .before .before .before in
     let at-work = at-enum-told .before .before .before .before in
     let at-prepare = at-work .before in
     let a = at-prepare .before .before .before .before .before .before .before .before .before .args in
-    let w = wrote-length _ (a .text .now) _ _ _ _ _ _ _ (at-prepare .prepare .ensures) (at-enum-told .enum-told .given .1) _
-    (at-pattern-of .pattern-of .ensures) _ _ (at-write-query .write-query .ensures) _ (at-written .written .given .1) in
-    (w .0, (w .1, cleared-all (a .work .now) _ _ (at-clear .clear2 .ensures) (omega (arith, at-work .work .given))))
-
-returns-3 : tie.Need-returns-3
-returns-3 c =
-    let at-clear = c .before .before .before .before in
-    let at-write-query = at-clear .before .before .before .before in
-    let at-pattern-of = at-write-query .before .before .before in
-    let at-enum-told = at-pattern-of .before .before .before in
-    let at-work = at-enum-told .before .before .before .before in
-    let at-prepare = at-work .before in
-    let a = at-prepare .before .before .before .before .before .before .before .before .before .args in
-    let w = wrote-too-long _ (a .text .now) _ _ _ _ _ _ _ (at-prepare .prepare .ensures) (at-enum-told .enum-told .given .1) _
-    (at-pattern-of .pattern-of .ensures) _ _ (at-write-query .write-query .ensures) (c .enum-told2 .given .1) in
+    let w = wrote _ (a .text .now) _ _ _ _ _ _ _ (at-prepare .prepare .ensures) (at-enum-told .enum-told .given .1) _
+    (at-pattern-of .pattern-of .ensures) _ _ (at-write-query .write-query .ensures) _ (c .of-written .ensures) in
     (w .0, (w .1, cleared-all (a .work .now) _ _ (at-clear .clear2 .ensures) (omega (arith, at-work .work .given))))
 
 pub write-query-spec : {M : Type 1} → statement M
 write-query-spec =
     tie.close (tie.spec (λ c. search needs) (λ c κs. search needs) (λ c. search needs) (λ c κs. search needs) (λ c. search needs) returns
-    (λ c. search needs) pattern-of-requires write-query-requires (λ c κs. search needs) (λ c. search needs) (λ c. search needs) (λ c. search needs)
-    (λ c. search needs) returns-2 (λ c. search needs) (λ c. search needs) returns-3)
+    (λ c. search needs) pattern-of-requires write-query-requires (λ c κs. search needs) (λ c κs. search needs) (λ c. search needs) (λ c. search needs)
+    returns-2)

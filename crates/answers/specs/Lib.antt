@@ -1,0 +1,2 @@
+-- What services answer.
+pub mod Answered

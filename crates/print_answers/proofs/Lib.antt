@@ -1,0 +1,3 @@
+-- Why what is printed lies in its text.
+pub mod RequestLaws
+pub mod WrittenLaws

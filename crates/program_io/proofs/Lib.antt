@@ -1,3 +1,0 @@
--- Laws of what the programs share.
-pub mod RequestLaws
-pub mod WrittenLaws
