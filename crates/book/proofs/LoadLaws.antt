@@ -33,9 +33,9 @@ use Rattle.book_tables.specs.Fits.{Fits}
 use Rattle.book_tables.specs.Stores.{noCounts, withoutChains}
 use Rattle.fill.specs.Filled.{filled}
 use Rattle.fill.specs.FilledLaws.{length-filled, filled-whole}
-use Rattle.book_lines.specs.declared.LineStep.{LineStep}
-use Rattle.book_lines.specs.declared.LineStep.the-variants.{Fault, Known}
-use Rattle.book_lines.specs.Steps.{faultBy, stepOf, Stepped}
+use Rattle.book_steps.specs.declared.LineStep.{LineStep}
+use Rattle.book_steps.specs.declared.LineStep.the-variants.{Fault, Known}
+use Rattle.book_steps.specs.Steps.{faultBy, stepOf, Stepped}
 use Rattle.book_lines.specs.Forms.{formStepOf, FormAsked}
 use Rattle.book.specs.Loaded.{bookStepBy, readBookBy, LineAsked}
 

@@ -1,6 +1,4 @@
-pub mod StepLaws
-pub mod OwnerLaws
-pub mod RelLaws
+-- Why a line is read as the definition reads it.
 pub mod PieceLaws
 pub mod LineLaws
 pub mod EntryForms

@@ -32,7 +32,7 @@ use Rattle.book_lines.specs.declared.AttrRead.{AttrRead}
 use Rattle.book_lines.specs.declared.AttrRead.the-variants as attr
 use Rattle.book_lines.specs.declared.KindRead.{KindRead}
 use Rattle.book_lines.specs.declared.KindRead.the-variants as kind
-use Rattle.book_lines.specs.Steps.{stepOf}
+use Rattle.book_steps.specs.Steps.{stepOf}
 use Rattle.book_lines.specs.Forms.{formStepOf, headOf, lineOf, kindPiece, onKind, onAttr}
 use Rattle.book_lines.proofs.PieceLaws.{name-form, kind-word, line-head}
 

@@ -32,7 +32,7 @@ use Rattle.book_lines.specs.declared.EntriesAnswer.{EntriesAnswer}
 use Rattle.book_lines.specs.declared.EntriesAnswer.the-variants as answer
 use Rattle.book_lines.specs.declared.RelNames.{RelNames}
 use Rattle.book_lines.specs.declared.RelNames.the-variants as names
-use Rattle.book_lines.specs.Steps.{stepOf}
+use Rattle.book_steps.specs.Steps.{stepOf}
 use Rattle.book_lines.specs.Forms.{formStepOf, FormAsked, onAttr}
 use Rattle.book_lines.specs.Names.{AttrFits, movedPart, NamesGot, NamesTold}
 use Rattle.book_lines.specs.Entries.{entriesForm, EntriesGot, EntriesTold, EntriesDone}

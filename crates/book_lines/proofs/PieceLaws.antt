@@ -31,7 +31,7 @@ use Rattle.book_tables.specs.declared.Owner.the-variants.{Node, Relationship}
 use Rattle.book_lines.specs.declared.Head.the-variants as head
 use Rattle.book_lines.specs.declared.KindRead.{KindRead}
 use Rattle.book_lines.specs.declared.KindRead.the-variants as kind
-use Rattle.book_lines.specs.Steps.{NameAsked}
+use Rattle.book_steps.specs.Steps.{NameAsked}
 use Rattle.book_lines.specs.Forms.{FormAsked, headOf, lineOf, kindRead, onKind}
 use Rattle.book_lines.specs.Names.{movedPart}
 use Rattle.book_lines.specs.Entries.{shift}

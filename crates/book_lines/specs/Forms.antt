@@ -26,7 +26,7 @@ use Rattle.book_lines.specs.declared.AttrRead.{AttrRead}
 use Rattle.book_lines.specs.declared.AttrRead.the-variants as attr
 use Rattle.book_lines.specs.declared.KindRead.{KindRead}
 use Rattle.book_lines.specs.declared.KindRead.the-variants as kind
-use Rattle.book_lines.specs.Steps.{stepOf}
+use Rattle.book_steps.specs.Steps.{stepOf}
 
 -- what a line gives after a book: 3 if it has no form
 unfoldable pub formStepOf : NameRule → Book → Maybe BookLine → Step Book

@@ -1,4 +1,4 @@
-pub mod Steps
+-- What the parts of a line give, by places in the line.
 pub mod Forms
 pub mod Names
 pub mod Entries

@@ -10,16 +10,15 @@ ghost use Rattle.items.specs.Rest.{formAt};
 ghost use Rattle.book_tables.specs.declared.NameRule.{NameRule as Rule};
 ghost use Rattle.book_tables.specs.View.{bookAt};
 ghost use Rattle.book_tables.specs.Owners.{declares};
-ghost use Rattle.book_lines.specs.Steps.{Stepped};
+ghost use Rattle.book_steps.specs.Steps.{Stepped};
 ghost use Rattle.book_lines.specs.Forms.{formStepOf, FormAsked, lineOf, onAttr};
 ghost use Rattle.book_lines.specs.Names.{AttrFits};
 use crate::AttrRead;
 use crate::Head;
 use crate::KindRead;
-use crate::LineStep;
 use crate::owners;
 use crate::pieces;
-use crate::steps;
+use book_steps::LineStep;
 use book_tables::BookCounts;
 use book_tables::NameRule;
 use book_tables::Owner;
@@ -155,7 +154,7 @@ fn attr_line(
         (formStepOf rule (bookAt (now (text .entry)) (now (words .entry)) counts) (formAt form false from (now (line .entry)) (attrLine (declares owner))))) ⌝ }
 {
     match read_attr(line, from, form) {
-        AttrRead::Attr(name, kind) => steps::add_attr(
+        AttrRead::Attr(name, kind) => book_steps::add_attr(
             text,
             words,
             counts,
@@ -184,7 +183,7 @@ fn label_line(
     match places::next_name(line, from, form.inner) {
         ItemAt::At(name) => {
             if items::forms::form_closes(line, name.start + name.length, form.closes) {
-                return steps::add_label(text, words, counts, pieces::moved(name, base));
+                return book_steps::add_label(text, words, counts, pieces::moved(name, base));
             }
             LineStep::Fault(BROKEN)
         }

@@ -1,19 +1,11 @@
-// One line of a book: its form is read, its faults are tested, and it is added to the tables.
+// One line of a book: its form is read; then its faults are tested and it is added to the tables, by `book_steps`.
 pub mod forms;
 pub mod owners;
 pub mod pieces;
-pub mod steps;
 
 use book_entries::EntriesRead;
-use book_tables::BookCounts;
 use book_tables::Owner;
 use model::Part;
-
-// What one line gives: its fault, in the paper's numbers, or the counts with it.
-pub enum LineStep {
-    Fault(u32),
-    Known(BookCounts),
-}
 
 // The first word of a line; vattr and eattr by the owner of the attribute.
 pub enum Head {

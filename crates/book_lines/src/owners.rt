@@ -8,17 +8,16 @@ ghost use Rattle.items.specs.Rest.{formAt};
 ghost use Rattle.book_tables.specs.declared.NameRule.{NameRule as Rule};
 ghost use Rattle.book_tables.specs.View.{bookAt};
 ghost use Rattle.book_tables.specs.Owners.{tablesOf};
-ghost use Rattle.book_lines.specs.Steps.{Stepped};
+ghost use Rattle.book_steps.specs.Steps.{Stepped};
 ghost use Rattle.book_tables.specs.ValueWords.{EndsBefore};
 ghost use Rattle.book_lines.specs.Forms.{formStepOf, FormAsked};
 ghost use Rattle.book_lines.specs.Names.{NamesTold};
 ghost use Rattle.book_lines.specs.Entries.{shift, EntriesDone};
 use crate::EntriesAnswer;
-use crate::LineStep;
 use crate::RelNames;
 use crate::pieces;
-use crate::steps;
 use book_entries::EntriesRead;
+use book_steps::LineStep;
 use book_tables::BookCounts;
 use book_tables::NameRule;
 use book_tables::Owner;
@@ -123,7 +122,7 @@ pub fn node_line(
                 counts,
                 Owner::Node,
             ) {
-                EntriesAnswer::Read(read) => steps::add_node(
+                EntriesAnswer::Read(read) => book_steps::add_node(
                     text,
                     words,
                     counts,
@@ -181,7 +180,7 @@ pub fn rel_line(
                 counts,
                 Owner::Relationship,
             ) {
-                EntriesAnswer::Read(read) => steps::add_relationship(
+                EntriesAnswer::Read(read) => book_steps::add_relationship(
                     text,
                     words,
                     counts,

@@ -29,7 +29,7 @@ use Rattle.book_tables.specs.Stores.{moreLabels, withAttr, withLabel}
 use Rattle.book_tables.proofs.NameLaws.{mem-place, length-names}
 use Rattle.book_tables.proofs.OwnerLaws.{owner-declared}
 use Rattle.book_tables.proofs.Added.{NewName, label-added, attr-added}
-use Rattle.book_lines.specs.Steps.{faultBy, stepOf, NameAsked}
+use Rattle.book_steps.specs.Steps.{faultBy, stepOf, NameAsked}
 
 -- a name among names declared already: 5
 pub name-twice : (n : Bytes) (ns : List Bytes) (count : ℕ) → length ns ≡ count → place n ns < count → nameFault n ns ≡ just 5

@@ -13,8 +13,7 @@ ghost use Rattle.book_tables.specs.Fits.{Fits};
 ghost use Rattle.book_tables.specs.Owners.{declares};
 ghost use Rattle.book_entries.specs.Known.{EntriesKnown};
 ghost use Rattle.book_tables.specs.Layout.{vattrNames, eattrNames};
-ghost use Rattle.book_lines.specs.Steps.{NameAsked, Stepped, stepOf, ownerFault};
-use crate::LineStep;
+ghost use Rattle.book_steps.specs.Steps.{NameAsked, Stepped, stepOf, ownerFault};
 use book_entries::EntriesRead;
 use book_tables::BookCounts;
 use book_tables::NameRule;
@@ -35,6 +34,12 @@ use model::refusal_numbers::LIMIT_PASSED;
 use model::refusal_numbers::NOT_DECLARED;
 use model::refusal_numbers::SECOND_TIME;
 use text::parts;
+
+// What one line gives: its fault, in the paper's numbers, or the counts with it.
+pub enum LineStep {
+    Fault(u32),
+    Known(BookCounts),
+}
 
 // A name's word.
 fn name_word(name: Part) -> u32

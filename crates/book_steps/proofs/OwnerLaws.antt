@@ -36,8 +36,8 @@ use Rattle.book_tables.proofs.OwnerAdded.{node-added}
 use Rattle.book_entries.specs.declared.EntriesRead.{EntriesRead}
 use Rattle.book_entries.specs.Faults.{entriesFault}
 use Rattle.book_entries.specs.Known.{EntriesKnown}
-use Rattle.book_lines.specs.Steps.{faultBy, stepOf, NameAsked, ownerFault}
-use Rattle.book_lines.proofs.StepLaws.{step-fault, step-added, word-name, word-new}
+use Rattle.book_steps.specs.Steps.{faultBy, stepOf, NameAsked, ownerFault}
+use Rattle.book_steps.proofs.StepLaws.{step-fault, step-added, word-name, word-new}
 
 -- a fault's number, 0 being none
 abbrev pub numbered : ℕ → Maybe ℕ

@@ -1,7 +1,7 @@
-use Rattle.book_lines.proofs.StepLaws.{attr-twice, attr-full, attr-fine}
+use Rattle.book_steps.proofs.StepLaws.{attr-twice, attr-full, attr-fine}
 use borrow.Author.Needs.{needs}
-use Rattle.book_lines.proofs.steps.add_attr.Statement.{statement}
-use Rattle.book_lines.proofs.steps.add_attr.Tie as tie
+use Rattle.book_steps.proofs.add_attr.Statement.{statement}
+use Rattle.book_steps.proofs.add_attr.Tie as tie
 
 returns : tie.Need-returns
 returns c =

@@ -28,9 +28,9 @@ use Rattle.book_tables.proofs.OwnerAdded.{rel-added}
 use Rattle.book_entries.specs.declared.EntriesRead.{EntriesRead}
 use Rattle.book_entries.specs.Faults.{entriesFault}
 use Rattle.book_entries.specs.Known.{EntriesKnown}
-use Rattle.book_lines.specs.Steps.{faultBy, stepOf, ownerFault}
-use Rattle.book_lines.proofs.StepLaws.{step-fault, step-added}
-use Rattle.book_lines.proofs.OwnerLaws.{numbered, table, owner-fine, numbered-fault, or-false, holds, rels-count, node-mem}
+use Rattle.book_steps.specs.Steps.{faultBy, stepOf, ownerFault}
+use Rattle.book_steps.proofs.StepLaws.{step-fault, step-added}
+use Rattle.book_steps.proofs.OwnerLaws.{numbered, table, owner-fine, numbered-fault, or-false, holds, rels-count, node-mem}
 
 -- one of three names is missing
 some-missing : (a b c u : Bool) → (a && b && c) ≡ false → (not a || not b || not c || u) ≡ true

@@ -1,9 +1,9 @@
 use native.Mathlib.Omega.{arith}
 use mathlib.Core.Path.{sym, _∙_}
-use Rattle.book_lines.proofs.OwnerLaws.{node-refused, node-fine, owner-room}
+use Rattle.book_steps.proofs.OwnerLaws.{node-refused, node-fine, owner-room}
 use borrow.Author.Needs.{needs}
-use Rattle.book_lines.proofs.steps.add_node.Statement.{statement}
-use Rattle.book_lines.proofs.steps.add_node.Tie as tie
+use Rattle.book_steps.proofs.add_node.Statement.{statement}
+use Rattle.book_steps.proofs.add_node.Tie as tie
 
 returns : tie.Need-returns
 returns c =

@@ -1,10 +1,10 @@
 use mathlib.Core.Path.{sym, _∙_}
 use native.Mathlib.Omega.{arith}
-use Rattle.book_lines.proofs.OwnerLaws.{owner-room}
-use Rattle.book_lines.proofs.RelLaws.{label-missing, from-missing, to-missing, rel-refused, rel-fine}
+use Rattle.book_steps.proofs.OwnerLaws.{owner-room}
+use Rattle.book_steps.proofs.RelLaws.{label-missing, from-missing, to-missing, rel-refused, rel-fine}
 use borrow.Author.Needs.{needs}
-use Rattle.book_lines.proofs.steps.add_relationship.Statement.{statement}
-use Rattle.book_lines.proofs.steps.add_relationship.Tie as tie
+use Rattle.book_steps.proofs.add_relationship.Statement.{statement}
+use Rattle.book_steps.proofs.add_relationship.Tie as tie
 
 returns : tie.Need-returns
 returns c =

@@ -20,8 +20,8 @@ use Rattle.book_tables.specs.declared.NameRule.{NameRule}
 use Rattle.book_tables.specs.Alike.{taken}
 use Rattle.book_tables.specs.View.{bookAt}
 use Rattle.book_tables.specs.Fits.{Inside, Fits}
-use Rattle.book_lines.specs.declared.LineStep.{LineStep}
-use Rattle.book_lines.specs.declared.LineStep.the-variants.{Fault, Known}
+use Rattle.book_steps.specs.declared.LineStep.{LineStep}
+use Rattle.book_steps.specs.declared.LineStep.the-variants.{Fault, Known}
 
 -- the lowest fault of a line after a book, a node's name being given a second time by a rule
 unfoldable pub faultBy : NameRule → Book → BookLine → Maybe ℕ

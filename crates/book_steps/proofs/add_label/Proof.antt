@@ -1,7 +1,7 @@
-use Rattle.book_lines.proofs.StepLaws.{label-twice, label-full, label-fine}
+use Rattle.book_steps.proofs.StepLaws.{label-twice, label-full, label-fine}
 use borrow.Author.Needs.{needs}
-use Rattle.book_lines.proofs.steps.add_label.Statement.{statement}
-use Rattle.book_lines.proofs.steps.add_label.Tie as tie
+use Rattle.book_steps.proofs.add_label.Statement.{statement}
+use Rattle.book_steps.proofs.add_label.Tie as tie
 
 returns : tie.Need-returns
 returns c =

@@ -1,7 +1,7 @@
 use borrow.Author.Tests.{le-leb, lt-leb}
 use borrow.Author.Needs.{needs}
-use Rattle.book_lines.proofs.steps.is_full.Statement.{statement}
-use Rattle.book_lines.proofs.steps.is_full.Tie as tie
+use Rattle.book_steps.proofs.is_full.Statement.{statement}
+use Rattle.book_steps.proofs.is_full.Tie as tie
 
 returns : tie.Need-returns
 returns c = rw (le-leb _ _ (c .if1 .taken))

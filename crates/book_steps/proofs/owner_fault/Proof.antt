@@ -1,7 +1,7 @@
-use Rattle.book_lines.specs.Steps.{ownerFault}
+use Rattle.book_steps.specs.Steps.{ownerFault}
 use borrow.Author.Tests.{eq-eqb, ne-eqb}
-use Rattle.book_lines.proofs.steps.owner_fault.Statement.{statement}
-use Rattle.book_lines.proofs.steps.owner_fault.Tie as tie
+use Rattle.book_steps.proofs.owner_fault.Statement.{statement}
+use Rattle.book_steps.proofs.owner_fault.Tie as tie
 
 returns : tie.Need-returns
 unfolding ownerFault

@@ -1,0 +1,2 @@
+-- What one line more gives: its fault, or the book with it.
+pub mod Steps
