@@ -11,10 +11,10 @@ use book_tables::Owner;
 use book_tables::values::BOOL;
 use book_tables::values::INT;
 use book_tables::values::STR;
+use compare::same_bytes;
 use items::ItemAt;
 use items::places;
 use model::Part;
-use text::compare::same_bytes;
 use text::parts;
 
 // Which of the five first words a word is.

@@ -16,9 +16,9 @@ use Rattle.model.specs.Graph.{inRelation}
 use Rattle.model.specs.Answers.{partOf}
 use Rattle.book_tables.specs.View.{kindIn, valueIn}
 use Rattle.book_tables.proofs.NameLaws.{same-equal}
-use Rattle.text.specs.declared.Order.the-variants.{Less, Equal, Greater}
-use Rattle.text.specs.Compare.{compareBytes}
-use Rattle.text.proofs.CompareLaws.{compare-itself}
+use Rattle.compare.specs.declared.Order.the-variants.{Less, Equal, Greater}
+use Rattle.compare.specs.Compare.{compareBytes}
+use Rattle.compare.proofs.CompareLaws.{compare-itself}
 use Rattle.book_lookup.specs.Entries.{kindAt, firstAt, secondAt, entryValue}
 
 -- two texts that are not equal are not the same bytes

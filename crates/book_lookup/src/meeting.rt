@@ -18,9 +18,9 @@ use book_tables::BookCounts;
 use book_tables::Owner;
 use book_tables::values::INT;
 use book_tables::values::STR;
+use compare::Order;
 use model::Relation;
 use model::Value;
-use text::Order;
 
 // Whether an owner's attribute meets a requirement whose text value is part of `text`.
 pub fn owner_meets(
@@ -143,7 +143,7 @@ fn numbers_meet(relation: Relation, x: u64, y: u64) -> bool
 fn texts_meet(relation: Relation, x: &[u8], y: &[u8]) -> bool
     ensures { λ r. ⌜ r ≡ sameOrNot (relationOf relation) (same (now (x .entry)) (now (y .entry))) ⌝ }
 {
-    let order = text::compare::compare(x, y);
+    let order = compare::compare(x, y);
     match order {
         Order::Less => same_meets(relation, false),
         Order::Equal => same_meets(relation, true),

@@ -13,7 +13,7 @@ use Rattle.model.specs.Choice.{pick}
 use Rattle.model.specs.Lists.{any}
 use Rattle.model.specs.Names.{mem, place}
 use Rattle.model.specs.Book.{nodeNames}
-use Rattle.text.proofs.CompareLaws.{same-end, same-step, same-differs}
+use Rattle.compare.proofs.CompareLaws.{same-end, same-step, same-differs}
 use Rattle.chains.specs.Slots.{lowered, slotOf}
 use Rattle.chains.proofs.SlotLaws.{slot-lowered}
 use Rattle.book_tables.specs.declared.BookCounts.{BookCounts}

@@ -101,7 +101,7 @@ fn is_alike(rule: NameRule, a: &[u8], b: &[u8]) -> bool
     ensures { λ r. ⌜ r ≡ alike rule (now (a .entry)) (now (b .entry)) ⌝ }
 {
     match rule {
-        NameRule::Exact => text::compare::same_bytes(a, b),
+        NameRule::Exact => compare::same_bytes(a, b),
         NameRule::AnyCase => same_but_case(a, b),
     }
 }

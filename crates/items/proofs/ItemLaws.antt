@@ -18,7 +18,7 @@ use Rattle.model.specs.Answers.{partOf, nameAt, valueOf}
 use Rattle.model.specs.declared.Value.the-variants as value
 use Rattle.text.specs.declared.End.the-variants as end
 use Rattle.text.specs.Places.{peekAt, past, isSpace}
-use Rattle.text.proofs.CompareLaws.{name-of}
+use Rattle.compare.proofs.CompareLaws.{name-of}
 use Rattle.items.specs.declared.ItemRead.{ItemRead}
 use Rattle.items.specs.declared.ItemRead.the-variants.{Word, Number, Text, Quoted, List, None}
 use Rattle.items.specs.declared.Next.{Next}

@@ -13,7 +13,6 @@ use crate::places;
 use crate::read;
 use text::End;
 use text::bytes;
-use text::compare;
 use text::parts;
 use text::words;
 

@@ -18,7 +18,6 @@ use model::Part;
 use model::Value;
 use text::End;
 use text::bytes;
-use text::compare;
 use text::parts;
 use text::words;
 

@@ -6,7 +6,6 @@ use items::forms::LIST_DEPTH;
 use items::pieces;
 use items::places;
 use text::End;
-use text::compare;
 use text::parts;
 
 // The place behind the head of the next item, if it is a list that begins with that word.

@@ -12,7 +12,6 @@ use items::pieces;
 use items::places;
 use items::read;
 use text::End;
-use text::compare;
 use text::parts;
 
 // A line of so many bytes has few names: comparing each with those behind it takes less than clearing a table.

@@ -10,7 +10,6 @@ use book_tables::names::NAME_LENGTHS;
 use chains::slots;
 use chains::slots::SLOTS;
 use model::Part;
-use text::compare;
 
 // What a name's word has room for: starts below 2^27.
 pub const STARTS: usize = 134217728;

@@ -16,7 +16,6 @@ use query_pieces::PieceRead;
 use query_pieces::Place;
 use query_pieces::Spot;
 use query_pieces::reading;
-use text::compare;
 use text::parts;
 
 // The place at which a text begins.

@@ -11,7 +11,6 @@ use crate::parts;
 use query_signs::Sign;
 use query_signs::expected;
 use query_signs::marks;
-use text::compare;
 use text::parts::part_of;
 
 // Whether a sign is this word.

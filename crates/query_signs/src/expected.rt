@@ -16,7 +16,6 @@ use model::Relation;
 use model::Value;
 use text::End;
 use text::bytes;
-use text::compare;
 use text::parts;
 use text::words;
 

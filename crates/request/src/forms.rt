@@ -9,7 +9,6 @@ use items::forms;
 use items::forms::LINE_DEPTH;
 use items::places;
 use text::End;
-use text::compare;
 use text::parts;
 
 // (request CATEGORY (id ACTOR NODE)...): where the category's name stands; the identities follow it.

@@ -17,7 +17,6 @@ use model::refusal_numbers::NO_REQUESTOR;
 use model::refusal_numbers::NOT_DECLARED;
 use model::refusal_numbers::SECOND_TIME;
 use rules_tables::RulesCounts;
-use text::compare;
 use text::parts;
 
 // No identity.

@@ -14,7 +14,6 @@ use items::forms::LINE_DEPTH;
 use items::places;
 use name_lists::scans;
 use text::End;
-use text::compare;
 use text::parts;
 
 // (HEAD NAME...): the place behind its head, and the place behind it.

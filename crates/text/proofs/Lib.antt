@@ -4,6 +4,5 @@ pub mod WordLaws
 pub mod WordBytes
 pub mod NumberLaws
 pub mod QuoteLaws
-pub mod CompareLaws
 pub mod LineLaws
 pub mod LineReads

@@ -1,5 +1,4 @@
 -- What the readers of a text give, by places.
 pub mod Places
 pub mod Parts
-pub mod Compare
 pub mod Lines

@@ -1,6 +1,5 @@
-// Reading the lent texts by places: bytes, words, whole numbers, text values, comparisons. No text is copied; an answer names places.
+// Reading the lent texts by places: bytes, words, whole numbers, text values, lines. No text is copied; an answer names places.
 pub mod bytes;
-pub mod compare;
 pub mod lines;
 pub mod numbers;
 pub mod parts;
@@ -17,13 +16,6 @@ pub enum End {
 pub enum NumberRead {
     Number(u64, usize),
     None,
-}
-
-// How one text stands to another, by bytes.
-pub enum Order {
-    Less,
-    Equal,
-    Greater,
 }
 
 // What the bytes of a text are refused for, before it is read: its length, or the line of the first byte not allowed.

@@ -9,8 +9,8 @@ ghost use Rattle.model.specs.Weave.{sameVertex, placeVertex, weaveVertex};
 ghost use Rattle.model.specs.Answers.{partOf};
 ghost use Rattle.woven_tables.specs.Tables.{textOf, nameOf, NameInside, ActorsInside, VerticesInside, vertexOfWord, actorsAt, verticesAt};
 use book_tables::names::NAME_LENGTHS;
+use compare::same_bytes;
 use model::Part;
-use text::compare::same_bytes;
 use text::parts::part_of;
 
 // A name word is (text's number * NAME_STARTS + start) * NAME_LENGTHS + length.

@@ -3,7 +3,7 @@ use mathlib.Core.Path.{sym, ap, _∙_}
 use borrow.Author.Needs.{needs}
 use Rattle.model.specs.Answers.{relationOf}
 use Rattle.model.specs.Graph.{sameOrNot}
-use Rattle.text.proofs.CompareLaws.{compare-equal}
+use Rattle.compare.proofs.CompareLaws.{compare-equal}
 use Rattle.book_tables.proofs.NameLaws.{equal-same}
 use Rattle.book_lookup.proofs.ValueLaws.{less-not-same, greater-not-same}
 use Rattle.book_lookup.proofs.meeting.texts_meet.Statement.{statement}

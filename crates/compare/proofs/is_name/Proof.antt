@@ -1,10 +1,10 @@
--- `text::compare::is_name` meets its contract.
-use Rattle.text.proofs.CompareLaws.{name-by-length, name-by-first}
+-- `compare::is_name` meets its contract.
+use Rattle.compare.proofs.CompareLaws.{name-by-length, name-by-first}
 use mathlib.Core.Path.{sym, _∙_}
 use native.Mathlib.Omega.{arith}
 use borrow.Author.Needs.{needs}
-use Rattle.text.proofs.compare.is_name.Statement.{statement}
-use Rattle.text.proofs.compare.is_name.Tie as tie
+use Rattle.compare.proofs.is_name.Statement.{statement}
+use Rattle.compare.proofs.is_name.Tie as tie
 
 returns : tie.Need-returns
 returns c = name-by-length (c .before .before .args .w .now) (λ n l m e. omega arith)

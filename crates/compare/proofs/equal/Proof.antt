@@ -1,11 +1,11 @@
--- `text::compare::equal` meets its contract.
+-- `compare::equal` meets its contract.
 use Prim.Native.Nat.{_+_, _-_}
 use mathlib.Core.Path.{_≡_, _∙_}
 use native.Mathlib.Omega.{arith}
 use Rattle.model.specs.Answers.{partOf}
 use borrow.Author.Needs.{needs}
-use Rattle.text.proofs.compare.equal.Statement.{statement}
-use Rattle.text.proofs.compare.equal.Tie as tie
+use Rattle.compare.proofs.equal.Statement.{statement}
+use Rattle.compare.proofs.equal.Tie as tie
 
 returns : tie.Need-returns
 unfolding partOf

@@ -1,14 +1,14 @@
--- `text::compare::same_from` meets its contract. The loop's invariant: what is left of the two texts is the same exactly if they are the same from the
+-- `compare::same_from` meets its contract. The loop's invariant: what is left of the two texts is the same exactly if they are the same from the
 -- start on.
-use Rattle.text.proofs.CompareLaws.{same-end, same-step, same-differs}
+use Rattle.compare.proofs.CompareLaws.{same-end, same-step, same-differs}
 use Rattle.model.specs.Bytes.{same}
 use native.Mathlib.Omega.{arith}
 use lib.ListN.{length, drop}
 use Prim.Native.Nat.{_-_}
 use mathlib.Core.Path.{_≡_, refl, sym, _∙_}
 use borrow.Author.Needs.{needs}
-use Rattle.text.proofs.compare.same_from.Statement.{statement}
-use Rattle.text.proofs.compare.same_from.Tie as tie
+use Rattle.compare.proofs.same_from.Statement.{statement}
+use Rattle.compare.proofs.same_from.Tie as tie
 
 abbrev Inv-loop : tie.InvT-loop
 Inv-loop a b from i₀ i = same (drop i a) (drop i b) ≡ same (drop from a) (drop from b)

@@ -1,5 +1,5 @@
--- `text::compare::same_bytes` meets its contract. The loop's invariant: what is left of the two texts is the same exactly if the whole texts are.
-use Rattle.text.proofs.CompareLaws.{same-lengths, row-same, row-differs}
+-- `compare::same_bytes` meets its contract. The loop's invariant: what is left of the two texts is the same exactly if the whole texts are.
+use Rattle.compare.proofs.CompareLaws.{same-lengths, row-same, row-differs}
 use Rattle.model.specs.Bytes.{same}
 use native.Mathlib.Omega.{arith}
 use lib.ListN.{length, drop}
@@ -7,8 +7,8 @@ use Prim.Native.Nat.{_-_, _≤_}
 use mathlib.Core.Path.{_≡_, refl, sym, _∙_}
 use borrow.Author.Needs.{needs}
 use borrow.Author.Tests.{not-true, not-false}
-use Rattle.text.proofs.compare.same_bytes.Statement.{statement}
-use Rattle.text.proofs.compare.same_bytes.Tie as tie
+use Rattle.compare.proofs.same_bytes.Statement.{statement}
+use Rattle.compare.proofs.same_bytes.Tie as tie
 
 abbrev Inv-loop : tie.InvT-loop
 Inv-loop a b i₀ i = (i ≤ length a) × (same (drop i a) (drop i b) ≡ same a b)

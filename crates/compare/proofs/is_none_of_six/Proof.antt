@@ -1,11 +1,11 @@
--- `text::compare::is_none_of_six` meets its contract.
+-- `compare::is_none_of_six` meets its contract.
 use Rattle.model.specs.Forms.{neverNames}
 use Rattle.model.specs.Names.{mem}
 use Rattle.model.specs.Lists.{any}
 use mathlib.Core.Path.{sym, _∙_}
 use borrow.Author.Needs.{needs}
-use Rattle.text.proofs.compare.is_none_of_six.Statement.{statement}
-use Rattle.text.proofs.compare.is_none_of_six.Tie as tie
+use Rattle.compare.proofs.is_none_of_six.Statement.{statement}
+use Rattle.compare.proofs.is_none_of_six.Tie as tie
 
 returns : tie.Need-returns
 unfolding mem any neverNames

@@ -1,9 +1,9 @@
--- `text::compare::is_query_name` meets its contract.
-use Rattle.text.proofs.CompareLaws.{name-by-length}
+-- `compare::is_query_name` meets its contract.
+use Rattle.compare.proofs.CompareLaws.{name-by-length}
 use native.Mathlib.Omega.{arith}
 use borrow.Author.Needs.{needs}
-use Rattle.text.proofs.compare.is_query_name.Statement.{statement}
-use Rattle.text.proofs.compare.is_query_name.Tie as tie
+use Rattle.compare.proofs.is_query_name.Statement.{statement}
+use Rattle.compare.proofs.is_query_name.Tie as tie
 
 returns : tie.Need-returns
 returns c = name-by-length (c .before .before .args .w .now) (λ n l m e. omega arith)

@@ -7,8 +7,14 @@ ghost use Rattle.model.specs.Bytes.{same};
 ghost use Rattle.model.specs.Names.{mem};
 ghost use Rattle.model.specs.Forms.{neverNames};
 ghost use Rattle.model.specs.Answers.{partOf};
-ghost use Rattle.text.specs.Compare.{beginsOneOfSix, compareBytes, sameNear};
-use crate::Order;
+ghost use Rattle.compare.specs.Compare.{beginsOneOfSix, compareBytes, sameNear};
+
+// How one text stands to another, by bytes.
+pub enum Order {
+    Less,
+    Equal,
+    Greater,
+}
 
 // Whether two texts are the same bytes; compared four bytes at a time, and then one by one.
 pub fn same_bytes(a: &[u8], b: &[u8]) -> bool

@@ -1,12 +1,12 @@
--- `text::compare::compare` meets its contract. The loop's invariant: what is left of the two texts stands as the whole texts do.
-use Rattle.text.proofs.CompareLaws.{compare-end, compare-shorter, compare-longer, compare-less, compare-greater, compare-step}
-use Rattle.text.specs.Compare.{compareBytes}
+-- `compare::compare` meets its contract. The loop's invariant: what is left of the two texts stands as the whole texts do.
+use Rattle.compare.proofs.CompareLaws.{compare-end, compare-shorter, compare-longer, compare-less, compare-greater, compare-step}
+use Rattle.compare.specs.Compare.{compareBytes}
 use lib.ListN.{length, drop}
 use Prim.Native.Nat.{_-_}
 use mathlib.Core.Path.{_≡_, refl, sym, _∙_}
 use borrow.Author.Needs.{needs}
-use Rattle.text.proofs.compare.compare.Statement.{statement}
-use Rattle.text.proofs.compare.compare.Tie as tie
+use Rattle.compare.proofs.compare.Statement.{statement}
+use Rattle.compare.proofs.compare.Tie as tie
 
 abbrev Inv-loop : tie.InvT-loop
 Inv-loop a b i₀ i = compareBytes (drop i a) (drop i b) ≡ compareBytes a b

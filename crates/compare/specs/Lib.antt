@@ -1,0 +1,2 @@
+-- The order of texts by bytes.
+pub mod Compare
