@@ -17,13 +17,13 @@ use Rattle.model.specs.ReadBook.{undeclared}
 use Rattle.model.specs.Answers.{nameAt, valueOf}
 use Rattle.model.specs.declared.Part.{Part}
 use Rattle.model.specs.declared.Value.{Value}
-use Rattle.items.specs.declared.EntryRead.{EntryRead}
-use Rattle.items.specs.declared.EntryRead.the-variants as entry
-use Rattle.items.specs.declared.Form.{Form}
-use Rattle.items.specs.Rest.{formEnds, formAt}
-use Rattle.items.specs.Forms.{onEntry}
-use Rattle.items.specs.Places.{EntryPlaces, EntryPlaced, NextEntry}
-use Rattle.items.proofs.ListLaws.{form-entries}
+use Rattle.item_forms.specs.declared.EntryRead.{EntryRead}
+use Rattle.item_forms.specs.declared.EntryRead.the-variants as entry
+use Rattle.item_forms.specs.declared.Form.{Form}
+use Rattle.item_forms.specs.Ends.{formEnds, formAt}
+use Rattle.item_forms.specs.Forms.{onEntry}
+use Rattle.item_forms.specs.Places.{EntryPlaces, EntryPlaced, NextEntry}
+use Rattle.item_forms.proofs.ListLaws.{form-entries}
 use Rattle.book_tables.specs.declared.BookCounts.{BookCounts}
 use Rattle.book_tables.specs.Listed.{listed}
 use Rattle.book_tables.specs.View.{entriesFrom}

@@ -15,15 +15,15 @@ use Rattle.model.specs.Answers.{nameAt}
 use Rattle.model.specs.declared.Part.{Part}
 use Rattle.text.specs.declared.End.{End}
 use Rattle.text.specs.declared.End.the-variants as end
-use Rattle.items.specs.declared.ItemAt.{ItemAt}
-use Rattle.items.specs.declared.ItemAt.the-variants as piece
-use Rattle.items.specs.declared.Form.{Form}
-use Rattle.items.specs.Rest.{formDepth, formEnds, formAt, lineAt}
-use Rattle.items.specs.Places.{NextWord, NextName}
-use Rattle.items.specs.Pieces.{behind, wordNext, onPiece, onPlace}
-use Rattle.items.specs.Forms.{formOpens, formCloses}
+use Rattle.item_forms.specs.declared.ItemAt.{ItemAt}
+use Rattle.item_forms.specs.declared.ItemAt.the-variants as piece
+use Rattle.item_forms.specs.declared.Form.{Form}
+use Rattle.item_forms.specs.Ends.{formDepth, formEnds, formAt, lineAt}
+use Rattle.item_forms.specs.Places.{NextWord, NextName}
+use Rattle.item_forms.specs.Pieces.{behind, wordNext, onPiece, onPlace}
+use Rattle.item_forms.specs.Forms.{formOpens, formCloses}
 use Rattle.items.proofs.RestLaws.{rest-same, rest-nothing}
-use Rattle.items.proofs.FormLaws.{line-form, form-word, form-end}
+use Rattle.item_forms.proofs.FormLaws.{line-form, form-word, form-end}
 use Rattle.book_tables.specs.declared.NameRule.{NameRule}
 use Rattle.book_tables.specs.View.{kindIn}
 use Rattle.book_lines.specs.declared.Head.{Head}

@@ -13,14 +13,14 @@ use Rattle.model.specs.Book.{Book}
 use Rattle.model.specs.BookLines.{BookLine, label, node, rel, attrLine, labelLine, nodeLine, relLine}
 use Rattle.model.specs.Answers.{nameAt}
 use Rattle.model.specs.declared.Part.{Part}
-use Rattle.items.specs.declared.ItemAt.{ItemAt}
-use Rattle.items.specs.declared.ItemAt.the-variants as piece
-use Rattle.items.specs.declared.Form.{Form}
-use Rattle.items.specs.Rest.{formAt}
-use Rattle.items.specs.Places.{WordPlaces, NextName}
-use Rattle.items.specs.Pieces.{behind, onPiece}
-use Rattle.items.proofs.PlacedLaws.{placed-at}
-use Rattle.items.specs.Forms.{formCloses}
+use Rattle.item_forms.specs.declared.ItemAt.{ItemAt}
+use Rattle.item_forms.specs.declared.ItemAt.the-variants as piece
+use Rattle.item_forms.specs.declared.Form.{Form}
+use Rattle.item_forms.specs.Ends.{formAt}
+use Rattle.item_forms.specs.Places.{WordPlaces, NextName}
+use Rattle.item_forms.specs.Pieces.{behind, onPiece}
+use Rattle.item_forms.proofs.PlacedLaws.{placed-at}
+use Rattle.item_forms.specs.Forms.{formCloses}
 use Rattle.book_tables.specs.declared.BookCounts.{BookCounts}
 use Rattle.book_tables.specs.declared.NameRule.{NameRule}
 use Rattle.book_tables.specs.View.{kindIn, bookAt}

@@ -16,13 +16,13 @@ use Rattle.model.specs.Answers.{partOf, nameAt, valueOf}
 use Rattle.model.specs.declared.Part.{Part}
 use Rattle.model.specs.declared.Value.{Value}
 use Rattle.model.specs.declared.Value.the-variants.{Number, Text, Truth}
-use Rattle.items.specs.declared.NameItem.{NameItem}
-use Rattle.items.specs.declared.NameItem.the-variants as name
-use Rattle.items.specs.declared.Form.{Form}
-use Rattle.items.specs.Rest.{formAt}
-use Rattle.items.specs.Places.{WordPlaces, ValueInside}
-use Rattle.items.specs.Pieces.{behind, namePlaces, nameNext, onPiece, onName}
-use Rattle.items.proofs.FormLaws.{form-name}
+use Rattle.item_forms.specs.declared.NameItem.{NameItem}
+use Rattle.item_forms.specs.declared.NameItem.the-variants as name
+use Rattle.item_forms.specs.declared.Form.{Form}
+use Rattle.item_forms.specs.Ends.{formAt}
+use Rattle.item_forms.specs.Places.{WordPlaces, ValueInside}
+use Rattle.item_forms.specs.Pieces.{behind, namePlaces, nameNext, onPiece, onName}
+use Rattle.item_forms.proofs.FormLaws.{form-name}
 use Rattle.book_tables.specs.declared.BookCounts.{BookCounts}
 use Rattle.book_tables.specs.View.{kindIn}
 use Rattle.book_tables.specs.ValueWords.{EndsBefore}

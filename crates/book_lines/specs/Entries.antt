@@ -11,8 +11,8 @@ use Rattle.model.specs.Forms.{entryOf}
 use Rattle.model.specs.BookLines.{BookLine}
 use Rattle.model.specs.declared.Value.{Value}
 use Rattle.model.specs.declared.Value.the-variants.{Number, Text, Truth}
-use Rattle.items.specs.declared.Form.{Form}
-use Rattle.items.specs.Rest.{formAt}
+use Rattle.item_forms.specs.declared.Form.{Form}
+use Rattle.item_forms.specs.Ends.{formAt}
 use Rattle.book_tables.specs.declared.BookCounts.{BookCounts}
 use Rattle.book_tables.specs.Agree.{Agree}
 use Rattle.book_entries.specs.declared.EntriesRead.{EntriesRead}

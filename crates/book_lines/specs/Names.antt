@@ -11,10 +11,10 @@ use Rattle.model.specs.Forms.{asName, first}
 use Rattle.model.specs.BookLines.{BookLine}
 use Rattle.model.specs.Answers.{nameAt}
 use Rattle.model.specs.declared.Part.{Part}
-use Rattle.items.specs.declared.Form.{Form}
-use Rattle.items.specs.Rest.{formAt}
-use Rattle.items.specs.Places.{WordPlaces}
-use Rattle.items.specs.Pieces.{behind}
+use Rattle.item_forms.specs.declared.Form.{Form}
+use Rattle.item_forms.specs.Ends.{formAt}
+use Rattle.item_forms.specs.Places.{WordPlaces}
+use Rattle.item_forms.specs.Pieces.{behind}
 use Rattle.book_lines.specs.declared.AttrRead.{AttrRead}
 use Rattle.book_lines.specs.declared.AttrRead.the-variants as attr
 use Rattle.book_lines.specs.declared.RelNames.{RelNames}

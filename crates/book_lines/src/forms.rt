@@ -6,7 +6,7 @@ ghost use Rattle.model.specs.Choice.{just, andThen};
 ghost use Rattle.model.specs.Items.{lineItems};
 ghost use Rattle.model.specs.Values.{Kind};
 ghost use Rattle.model.specs.BookLines.{BookLine, attrLine, labelLine, bookLine};
-ghost use Rattle.items.specs.Rest.{formAt};
+ghost use Rattle.item_forms.specs.Ends.{formAt};
 ghost use Rattle.book_tables.specs.declared.NameRule.{NameRule as Rule};
 ghost use Rattle.book_tables.specs.View.{bookAt};
 ghost use Rattle.book_tables.specs.Owners.{declares};
@@ -22,11 +22,11 @@ use book_steps::LineStep;
 use book_tables::BookCounts;
 use book_tables::NameRule;
 use book_tables::Owner;
-use items::Form;
-use items::ItemAt;
-use items::forms::LINE_CLOSES;
-use items::forms::LIST_DEPTH;
-use items::places;
+use item_forms::Form;
+use item_forms::ItemAt;
+use item_forms::LINE_CLOSES;
+use item_forms::LIST_DEPTH;
+use item_forms::places;
 use model::refusal_numbers::BROKEN;
 use text::End;
 use text::parts;
@@ -44,7 +44,7 @@ pub fn read_line(
     ensures { λ r. ⌜ Stepped (now (text .entry)) (now (words .exit)) r
         (formStepOf rule (bookAt (now (text .entry)) (now (words .entry)) counts) (andThen (lineItems (now (line .entry))) bookLine)) ⌝ }
 {
-    match items::forms::open_form(line, 0) {
+    match item_forms::open_form(line, 0) {
         End::At(from) => read_head(
             text,
             line,
@@ -127,7 +127,7 @@ fn read_attr(line: &[u8], from: usize, form: Form) -> AttrRead
     match places::next_name(line, from, form.inner) {
         ItemAt::At(name) => match pieces::next_kind(line, name.start + name.length, form.inner) {
             KindRead::Kind(kind, end) => {
-                if items::forms::form_closes(line, end, form.closes) {
+                if item_forms::form_closes(line, end, form.closes) {
                     return AttrRead::Attr(name, kind);
                 }
                 AttrRead::None
@@ -182,7 +182,7 @@ fn label_line(
 {
     match places::next_name(line, from, form.inner) {
         ItemAt::At(name) => {
-            if items::forms::form_closes(line, name.start + name.length, form.closes) {
+            if item_forms::form_closes(line, name.start + name.length, form.closes) {
                 return book_steps::add_label(text, words, counts, pieces::moved(name, base));
             }
             LineStep::Fault(BROKEN)

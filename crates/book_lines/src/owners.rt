@@ -4,7 +4,7 @@ ghost use mathlib.Core.Bool.{false};
 ghost use Prim.Native.Nat.{_+_, _≤_};
 ghost use lib.ListN.{length};
 ghost use Rattle.model.specs.BookLines.{nodeLine, relLine};
-ghost use Rattle.items.specs.Rest.{formAt};
+ghost use Rattle.item_forms.specs.Ends.{formAt};
 ghost use Rattle.book_tables.specs.declared.NameRule.{NameRule as Rule};
 ghost use Rattle.book_tables.specs.View.{bookAt};
 ghost use Rattle.book_tables.specs.Owners.{tablesOf};
@@ -21,10 +21,10 @@ use book_steps::LineStep;
 use book_tables::BookCounts;
 use book_tables::NameRule;
 use book_tables::Owner;
-use items::EntryRead;
-use items::Form;
-use items::ItemAt;
-use items::places;
+use item_forms::EntryRead;
+use item_forms::Form;
+use item_forms::ItemAt;
+use item_forms::places;
 use model::Value;
 use model::refusal_numbers::BROKEN;
 
@@ -67,7 +67,7 @@ fn read_entries(
         count: 0,
     };
     loop {
-        match items::forms::entry(line, at, inner) {
+        match item_forms::entry(line, at, inner) {
             EntryRead::Entry { name, value, next } => {
                 known = book_entries::add_entry(
                     text,
@@ -82,7 +82,7 @@ fn read_entries(
                 at = next;
             }
             EntryRead::Close(e) => {
-                if items::forms::form_ends(line, e, closes) {
+                if item_forms::form_ends(line, e, closes) {
                     return EntriesAnswer::Read(known);
                 }
                 return EntriesAnswer::None;

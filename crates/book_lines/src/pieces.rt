@@ -1,7 +1,7 @@
 // The pieces of a book's lines: first words, types, parts of the whole text.
 ghost use mathlib.Core.Path.{_≡_};
 ghost use mathlib.Core.Bool.{false};
-ghost use Rattle.items.specs.Pieces.{wordNext};
+ghost use Rattle.item_forms.specs.Pieces.{wordNext};
 ghost use Prim.Native.Nat.{_+_, _≤_};
 ghost use Rattle.book_lines.specs.Forms.{headOf, kindRead, kindPiece};
 ghost use Rattle.book_lines.specs.Names.{movedPart};
@@ -12,8 +12,8 @@ use book_tables::values::BOOL;
 use book_tables::values::INT;
 use book_tables::values::STR;
 use compare::same_bytes;
-use items::ItemAt;
-use items::places;
+use item_forms::ItemAt;
+use item_forms::places;
 use model::Part;
 use text::parts;
 

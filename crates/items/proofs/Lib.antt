@@ -4,10 +4,3 @@ pub mod FitLaws
 pub mod RestLaws
 pub mod ReadLaws
 pub mod NextLaws
-pub mod ItemLaws
-pub mod PieceLaws
-pub mod PieceTests
-pub mod FormLaws
-pub mod ListLaws
-pub mod EndLaws
-pub mod PlacedLaws

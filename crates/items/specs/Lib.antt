@@ -1,6 +1,3 @@
 -- What the readers of items give, by places.
 pub mod Reads
 pub mod Rest
-pub mod Pieces
-pub mod Forms
-pub mod Places

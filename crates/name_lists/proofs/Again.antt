@@ -9,8 +9,8 @@ use Rattle.model.specs.Choice.{pick, just}
 use Rattle.model.specs.Names.{mem, twice}
 use Rattle.model.specs.Answers.{nameAt}
 use Rattle.model.specs.declared.Part.{Part}
-use Rattle.items.specs.declared.ItemAt.the-variants as piece
-use Rattle.items.specs.Pieces.{behind, nameNext, namePlaces}
+use Rattle.item_forms.specs.declared.ItemAt.the-variants as piece
+use Rattle.item_forms.specs.Pieces.{behind, nameNext, namePlaces}
 use Rattle.names_met.specs.Table.{Names, namesMet, Holds}
 use Rattle.book_tables.proofs.MemberLaws.{twice-end}
 use Rattle.name_lists.specs.Names.{NamesRead, namesBehind, Left}

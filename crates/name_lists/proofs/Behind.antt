@@ -22,19 +22,20 @@ use Rattle.text.specs.declared.End.the-variants as end
 use Rattle.text.specs.Places.{peekAt, past, isSpace}
 use Rattle.items.specs.declared.Next.{Next}
 use Rattle.items.specs.declared.Next.the-variants as next
-use Rattle.items.specs.declared.ItemAt.{ItemAt}
-use Rattle.items.specs.declared.ItemAt.the-variants as piece
-use Rattle.items.specs.declared.NameItem.{NameItem}
-use Rattle.items.specs.declared.NameItem.the-variants as name
+use Rattle.item_forms.specs.declared.ItemAt.{ItemAt}
+use Rattle.item_forms.specs.declared.ItemAt.the-variants as piece
+use Rattle.item_forms.specs.declared.NameItem.{NameItem}
+use Rattle.item_forms.specs.declared.NameItem.the-variants as name
 use Rattle.items.specs.Reads.{nextAt, listEnd}
-use Rattle.items.specs.Rest.{restAt, lineForm, lineAt, onNext}
-use Rattle.items.specs.Pieces.{behind, itemPlace, afterEnd, wordPiece, namePiece, readAt, namePlaces, wordNext, nameAfter, nameNext, openNext, closeAfter}
-use Rattle.items.specs.Pieces.{closeNext, onPiece, onName, onPlace}
+use Rattle.items.specs.Rest.{restAt, onNext}
+use Rattle.item_forms.specs.Ends.{lineForm, lineAt}
+use Rattle.item_forms.specs.Pieces.{behind, itemPlace, afterEnd, wordPiece, namePiece, readAt, namePlaces, wordNext, nameAfter, nameNext, openNext, closeAfter}
+use Rattle.item_forms.specs.Pieces.{closeNext, onPiece, onName, onPlace}
 use Rattle.items.proofs.RestLaws.{rest-same, rest-nothing, rest-end}
-use Rattle.items.proofs.PieceLaws.{first-word, each-name}
-use Rattle.items.proofs.FormLaws.{form-list}
-use Rattle.items.proofs.ListLaws.{first-then}
-use Rattle.items.proofs.EndLaws.{ends-shut, ends-nowhere, ends-there, closes-there, closes-nowhere}
+use Rattle.item_forms.proofs.PieceLaws.{first-word, each-name}
+use Rattle.item_forms.proofs.FormLaws.{form-list}
+use Rattle.item_forms.proofs.ListLaws.{first-then}
+use Rattle.item_forms.proofs.EndLaws.{ends-shut, ends-nowhere, ends-there, closes-there, closes-nowhere}
 use Rattle.name_lists.specs.Names.{NamesRead, namesBehind, oneMore, namesEnd, headPiece, headedAt, Left}
 
 -- what is made of what a rest gives

@@ -12,14 +12,14 @@ use Rattle.model.specs.Answers.{nameAt}
 use Rattle.model.specs.declared.Part.{Part}
 use Rattle.text.specs.declared.End.{End}
 use Rattle.text.specs.declared.End.the-variants as end
-use Rattle.items.specs.declared.ItemAt.{ItemAt}
-use Rattle.items.specs.declared.ItemAt.the-variants as piece
-use Rattle.items.specs.declared.NameItem.{NameItem}
-use Rattle.items.specs.declared.NameItem.the-variants as name
-use Rattle.items.specs.Rest.{formAt, lineForm, lineAt, endsAfter}
-use Rattle.items.specs.Pieces.{behind, namePlaces, wordNext, nameNext, onPiece, onName, onPlace}
-use Rattle.items.specs.Forms.{formOpens}
-use Rattle.items.proofs.FormLaws.{line-form, form-word, form-name}
+use Rattle.item_forms.specs.declared.ItemAt.{ItemAt}
+use Rattle.item_forms.specs.declared.ItemAt.the-variants as piece
+use Rattle.item_forms.specs.declared.NameItem.{NameItem}
+use Rattle.item_forms.specs.declared.NameItem.the-variants as name
+use Rattle.item_forms.specs.Ends.{formAt, lineForm, lineAt, endsAfter}
+use Rattle.item_forms.specs.Pieces.{behind, namePlaces, wordNext, nameNext, onPiece, onName, onPlace}
+use Rattle.item_forms.specs.Forms.{formOpens}
+use Rattle.item_forms.proofs.FormLaws.{line-form, form-word, form-name}
 use Rattle.items.proofs.RestLaws.{rest-same}
 use Rattle.name_lists.proofs.Behind.{rest-on}
 

@@ -11,10 +11,10 @@ use Rattle.model.specs.Answers.{nameAt}
 use Rattle.model.specs.declared.Part.{Part}
 use Rattle.text.specs.declared.End.{End}
 use Rattle.text.specs.declared.End.the-variants as end
-use Rattle.items.specs.declared.ItemAt.{ItemAt}
-use Rattle.items.specs.declared.ItemAt.the-variants as piece
-use Rattle.items.specs.Pieces.{behind, itemPlace, afterEnd, wordNext, openNext}
-pub use Rattle.items.proofs.PlacedLaws.{placed-at}
+use Rattle.item_forms.specs.declared.ItemAt.{ItemAt}
+use Rattle.item_forms.specs.declared.ItemAt.the-variants as piece
+use Rattle.item_forms.specs.Pieces.{behind, itemPlace, afterEnd, wordNext, openNext}
+pub use Rattle.item_forms.proofs.PlacedLaws.{placed-at}
 use Rattle.name_lists.specs.Names.{headPiece, headedAt}
 
 -- the head of the list that follows

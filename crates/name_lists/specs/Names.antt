@@ -10,10 +10,10 @@ use Rattle.model.specs.Forms.{asName}
 use Rattle.model.specs.Answers.{nameAt}
 use Rattle.text.specs.declared.End.{End}
 use Rattle.text.specs.declared.End.the-variants as end
-use Rattle.items.specs.declared.ItemAt.{ItemAt}
-use Rattle.items.specs.declared.ItemAt.the-variants as piece
+use Rattle.item_forms.specs.declared.ItemAt.{ItemAt}
+use Rattle.item_forms.specs.declared.ItemAt.the-variants as piece
 use Rattle.items.specs.Rest.{restAt}
-use Rattle.items.specs.Pieces.{behind, itemPlace, afterEnd, wordNext, openNext}
+use Rattle.item_forms.specs.Pieces.{behind, itemPlace, afterEnd, wordNext, openNext}
 
 -- the names of a list, and the place behind it
 pub record NamesRead : Type 0 where

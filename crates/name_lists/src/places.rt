@@ -1,10 +1,10 @@
 // The list that a head word begins.
 ghost use mathlib.Core.Path.{_≡_};
 ghost use Rattle.name_lists.specs.Names.{headedAt};
-use items::ItemAt;
-use items::forms::LIST_DEPTH;
-use items::pieces;
-use items::places;
+use item_forms::ItemAt;
+use item_forms::LIST_DEPTH;
+use item_forms::pieces;
+use item_forms::places;
 use text::End;
 use text::parts;
 

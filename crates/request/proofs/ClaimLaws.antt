@@ -20,19 +20,19 @@ use Rattle.text.specs.Places.{peekAt, past, isSpace}
 use Rattle.text.proofs.PlaceLaws.{past-on}
 use Rattle.items.specs.declared.Next.{Next}
 use Rattle.items.specs.declared.Next.the-variants as next
-use Rattle.items.specs.declared.ItemAt.{ItemAt}
-use Rattle.items.specs.declared.ItemAt.the-variants as piece
-use Rattle.items.specs.declared.ClaimRead.{ClaimRead}
-use Rattle.items.specs.declared.ClaimRead.the-variants as claim
+use Rattle.item_forms.specs.declared.ItemAt.{ItemAt}
+use Rattle.item_forms.specs.declared.ItemAt.the-variants as piece
+use Rattle.item_forms.specs.declared.ClaimRead.{ClaimRead}
+use Rattle.item_forms.specs.declared.ClaimRead.the-variants as claim
 use Rattle.items.specs.Reads.{nextAt}
-use Rattle.items.specs.Rest.{formAt, lineForm, lineAt, endsAfter}
-use Rattle.items.specs.Pieces.{behind, afterEnd, namePlaces, wordNext, nameNext, openAfter, openNext, closeAfter, closeNext}
-use Rattle.items.specs.Places.{WordPlaces, Placed}
-use Rattle.items.specs.Forms.{claimNode, claimActor, claimRest, claimHead, claimAfter, claimNext, onClaim}
+use Rattle.item_forms.specs.Ends.{formAt, lineForm, lineAt, endsAfter}
+use Rattle.item_forms.specs.Pieces.{behind, afterEnd, namePlaces, wordNext, nameNext, openAfter, openNext, closeAfter, closeNext}
+use Rattle.item_forms.specs.Places.{WordPlaces, Placed}
+use Rattle.item_forms.specs.Forms.{claimNode, claimActor, claimRest, claimHead, claimAfter, claimNext, onClaim}
 use Rattle.items.proofs.RestLaws.{rest-end}
 use Rattle.items.proofs.NextLaws.{begins}
-use Rattle.items.proofs.ListLaws.{form-claims}
-use Rattle.items.proofs.PlacedLaws.{word-placed, name-placed}
+use Rattle.item_forms.proofs.ListLaws.{form-claims}
+use Rattle.item_forms.proofs.PlacedLaws.{word-placed, name-placed}
 use Rattle.name_lists.proofs.Forms.{form-on}
 use Rattle.request.specs.declared.ClaimAt.{ClaimAt}
 use Rattle.request.specs.declared.ClaimAt.the-variants as at

@@ -13,12 +13,12 @@ use Rattle.model.specs.Request.{Claim, claimOf, RequestLine, requestLine}
 use Rattle.model.specs.Answers.{nameAt}
 use Rattle.model.specs.declared.Part.{Part}
 use Rattle.text.specs.declared.End.the-variants as end
-use Rattle.items.specs.declared.ItemAt.{ItemAt}
-use Rattle.items.specs.declared.ItemAt.the-variants as piece
-use Rattle.items.specs.Rest.{lineAt}
-use Rattle.items.specs.Pieces.{behind, namePlaces, wordNext, nameNext}
-use Rattle.items.specs.Forms.{formOpens}
-use Rattle.items.specs.Places.{WordPlaces}
+use Rattle.item_forms.specs.declared.ItemAt.{ItemAt}
+use Rattle.item_forms.specs.declared.ItemAt.the-variants as piece
+use Rattle.item_forms.specs.Ends.{lineAt}
+use Rattle.item_forms.specs.Pieces.{behind, namePlaces, wordNext, nameNext}
+use Rattle.item_forms.specs.Forms.{formOpens}
+use Rattle.item_forms.specs.Places.{WordPlaces}
 use Rattle.name_lists.proofs.Forms.{line-unopened, line-opened, no-word, a-word, no-name, a-name}
 use Rattle.request.specs.Claims.{claimsFrom, areRead}
 use Rattle.request.specs.Forms.{lineOf, LineRead, FormRead}

@@ -25,16 +25,16 @@ use Rattle.items.specs.declared.ItemRead.{ItemRead}
 use Rattle.items.specs.declared.ItemRead.the-variants.{Word, Number, Text, Quoted, List as ListTo, None}
 use Rattle.items.specs.declared.Next.{Next}
 use Rattle.items.specs.declared.Next.the-variants as next
-use Rattle.items.specs.declared.ItemAt.{ItemAt}
-use Rattle.items.specs.declared.ItemAt.the-variants as piece
-use Rattle.items.specs.declared.NameItem.the-variants as name
-use Rattle.items.specs.declared.ClaimRead.{ClaimRead}
-use Rattle.items.specs.declared.ClaimRead.the-variants as claim
+use Rattle.item_forms.specs.declared.ItemAt.{ItemAt}
+use Rattle.item_forms.specs.declared.ItemAt.the-variants as piece
+use Rattle.item_forms.specs.declared.NameItem.the-variants as name
+use Rattle.item_forms.specs.declared.ClaimRead.{ClaimRead}
+use Rattle.item_forms.specs.declared.ClaimRead.the-variants as claim
 use Rattle.items.specs.Reads.{nextAt}
-use Rattle.items.specs.Pieces.{fromTo, behind, itemPlace, afterEnd, wordPiece, namePiece, namePlaces}
-use Rattle.items.specs.Pieces.{readAt, wordNext, nameAfter, nameNext, openAfter, openNext}
-use Rattle.items.specs.Pieces.{closeAfter, closeNext}
-use Rattle.items.specs.Forms.{formOpens, claimNode, claimActor, claimRest, claimHead, claimAfter, claimNext}
+use Rattle.item_forms.specs.Pieces.{fromTo, behind, itemPlace, afterEnd, wordPiece, namePiece, namePlaces}
+use Rattle.item_forms.specs.Pieces.{readAt, wordNext, nameAfter, nameNext, openAfter, openNext}
+use Rattle.item_forms.specs.Pieces.{closeAfter, closeNext}
+use Rattle.item_forms.specs.Forms.{formOpens, claimNode, claimActor, claimRest, claimHead, claimAfter, claimNext}
 use Rattle.request.specs.declared.ClaimAt.the-variants as at
 use Rattle.request.specs.Claims.{wordsAt, claimAt}
 use Rattle.request.proofs.WordLaws.{no-word, words-run, words-spaces, item-run, read-run}

@@ -23,7 +23,7 @@ use Rattle.model.specs.Request.{Claim, Request, RequestLine, requestLine, reque
 use Rattle.model.specs.Answers.{refusalOf, partOf, nameAt}
 use Rattle.model.specs.RequestPlaces.{wordsFrom, placedBy, identityPlaces, slots}
 use Rattle.model.specs.declared.Part.{Part}
-use Rattle.items.specs.Pieces.{behind}
+use Rattle.item_forms.specs.Pieces.{behind}
 use Rattle.model.specs.declared.Refusal.{Refusal as RefusalData}
 use Rattle.model.specs.declared.Verdict.the-variants as verdict
 use Rattle.model.specs.declared.RequestRead.{RequestRead}

@@ -21,7 +21,7 @@ use Rattle.model.specs.declared.Part.{Part}
 use Rattle.model.specs.declared.Identity.{Identity as IdentityData}
 use Rattle.text.specs.Parts.{HasPart}
 use Rattle.text.proofs.PlaceLaws.{part-in-part}
-use Rattle.items.specs.Forms.{claimNext}
+use Rattle.item_forms.specs.Forms.{claimNext}
 use Rattle.model.proofs.Places.{map-append}
 use Rattle.book_tables.proofs.MemberLaws.{twice-end}
 use Rattle.name_lists.proofs.Again.{again, twice-again}

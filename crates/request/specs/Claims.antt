@@ -12,11 +12,11 @@ use Rattle.model.specs.Request.{Claim, claimOf}
 use Rattle.model.specs.Answers.{nameAt}
 use Rattle.model.specs.RequestPlaces.{wordsFrom}
 use Rattle.model.specs.declared.Part.{Part}
-use Rattle.items.specs.declared.ClaimRead.{ClaimRead}
-use Rattle.items.specs.declared.ClaimRead.the-variants as claim
-use Rattle.items.specs.Rest.{lineAt}
-use Rattle.items.specs.Forms.{claimNext}
-use Rattle.items.specs.Places.{WordPlaces}
+use Rattle.item_forms.specs.declared.ClaimRead.{ClaimRead}
+use Rattle.item_forms.specs.declared.ClaimRead.the-variants as claim
+use Rattle.item_forms.specs.Ends.{lineAt}
+use Rattle.item_forms.specs.Forms.{claimNext}
+use Rattle.item_forms.specs.Places.{WordPlaces}
 use Rattle.request.specs.declared.ClaimAt.{ClaimAt}
 use Rattle.request.specs.declared.ClaimAt.the-variants as at
 

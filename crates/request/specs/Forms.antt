@@ -9,10 +9,10 @@ use Rattle.model.specs.Request.{Claim, RequestLine}
 use Rattle.model.specs.Answers.{nameAt}
 use Rattle.model.specs.RequestPlaces.{wordsFrom}
 use Rattle.model.specs.declared.Part.{Part}
-use Rattle.items.specs.declared.ItemAt.{ItemAt}
-use Rattle.items.specs.declared.ItemAt.the-variants as piece
-use Rattle.items.specs.Pieces.{behind}
-use Rattle.items.specs.Places.{WordPlaces}
+use Rattle.item_forms.specs.declared.ItemAt.{ItemAt}
+use Rattle.item_forms.specs.declared.ItemAt.the-variants as piece
+use Rattle.item_forms.specs.Pieces.{behind}
+use Rattle.item_forms.specs.Places.{WordPlaces}
 use Rattle.request.specs.Claims.{wordsAt, claimsFrom}
 
 -- a request's line by where the category's name stands

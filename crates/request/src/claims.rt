@@ -2,10 +2,9 @@
 ghost use mathlib.Core.Path.{_≡_};
 ghost use Rattle.request.specs.Claims.{claimsFrom, areRead, claimAt, NextClaim};
 use crate::ClaimAt;
-use items::ClaimRead;
-use items::forms;
-use items::forms::LINE_CLOSES;
-use items::forms::LIST_DEPTH;
+use item_forms::ClaimRead;
+use item_forms::LINE_CLOSES;
+use item_forms::LIST_DEPTH;
 
 // The identity that was read, if one was.
 fn claim_at(read: ClaimRead) -> ClaimAt
@@ -22,7 +21,7 @@ fn claim_at(read: ClaimRead) -> ClaimAt
 pub fn next_claim(s: &[u8], from: usize) -> ClaimAt
     ensures { λ r. ⌜ NextClaim (now (s .entry)) from r ⌝ }
 {
-    claim_at(forms::claim(s, from, LIST_DEPTH))
+    claim_at(item_forms::claim(s, from, LIST_DEPTH))
 }
 
 // Whether nothing but identities follows to the end of the line.
@@ -31,7 +30,7 @@ pub fn are_claims(s: &[u8], from: usize) -> bool
 {
     let mut i = from;
     while i < s.len() {
-        match forms::claim(s, i, LIST_DEPTH) {
+        match item_forms::claim(s, i, LIST_DEPTH) {
             ClaimRead::Claim {
                 actor: _,
                 node: _,
@@ -40,7 +39,7 @@ pub fn are_claims(s: &[u8], from: usize) -> bool
                 i = next;
             }
             ClaimRead::Close(e) => {
-                return forms::form_ends(s, e, LINE_CLOSES);
+                return item_forms::form_ends(s, e, LINE_CLOSES);
             }
             ClaimRead::None => {
                 return false;

@@ -4,10 +4,9 @@ ghost use Rattle.model.specs.Items.{lineItems};
 ghost use Rattle.model.specs.Request.{requestLine};
 ghost use Rattle.request.specs.Forms.{FormRead};
 use crate::claims;
-use items::ItemAt;
-use items::forms;
-use items::forms::LINE_DEPTH;
-use items::places;
+use item_forms::ItemAt;
+use item_forms::LINE_DEPTH;
+use item_forms::places;
 use text::End;
 use text::parts;
 
@@ -15,7 +14,7 @@ use text::parts;
 pub fn request_form(s: &[u8]) -> ItemAt
     ensures { λ r. ⌜ FormRead (now (s .entry)) (andThen (lineItems (now (s .entry))) requestLine) r ⌝ }
 {
-    let End::At(i) = forms::open_form(s, 0) else {
+    let End::At(i) = item_forms::open_form(s, 0) else {
         return ItemAt::None;
     };
     let ItemAt::At(word) = places::next_word(s, i, true, LINE_DEPTH) else {

@@ -10,7 +10,7 @@ ghost use Rattle.request.specs.RequestReads.{refusedRead, Reads, LineRea
 use crate::forms;
 use crate::stores;
 use book_tables::BookCounts;
-use items::ItemAt;
+use item_forms::ItemAt;
 use model::Refusal;
 use model::RequestRead;
 use model::Verdict;

@@ -38,7 +38,7 @@ use Rattle.rules_tables.proofs.AgreeLaws.{set-agrees, agree-trans, any-same, lo
 use Rattle.rules_tables.proofs.Lowers.{category-names}
 use Rattle.rules_tables.proofs.Added.{category-added}
 use Rattle.rules_tables.proofs.Fewer.{fewer-names}
-use Rattle.items.specs.Places.{WordPlaces}
+use Rattle.item_forms.specs.Places.{WordPlaces}
 use Rattle.name_lists.specs.Names.{NamesRead}
 use Rattle.rules.specs.Stored.{LineAt, NamesStored, CategoryClear, CategoryAdded}
 use Rattle.rules.proofs.TestLaws.{fault-by-tests}

@@ -16,16 +16,16 @@ use Rattle.model.specs.Answers.{nameAt}
 use Rattle.model.specs.declared.Part.{Part}
 use Rattle.text.specs.declared.End.{End}
 use Rattle.text.specs.declared.End.the-variants as end
-use Rattle.items.specs.declared.ItemAt.{ItemAt}
-use Rattle.items.specs.declared.ItemAt.the-variants as piece
-use Rattle.items.specs.declared.NameItem.{NameItem}
-use Rattle.items.specs.declared.NameItem.the-variants as name
-use Rattle.items.specs.Rest.{formAt, lineForm, lineAt, endsAfter}
-use Rattle.items.specs.Pieces.{behind, namePlaces, wordNext, nameNext, quotedNext, onPiece, onPlace}
-use Rattle.items.specs.Forms.{formOpens, formCloses}
-use Rattle.items.proofs.FormLaws.{line-form, form-word, form-quoted, form-end}
+use Rattle.item_forms.specs.declared.ItemAt.{ItemAt}
+use Rattle.item_forms.specs.declared.ItemAt.the-variants as piece
+use Rattle.item_forms.specs.declared.NameItem.{NameItem}
+use Rattle.item_forms.specs.declared.NameItem.the-variants as name
+use Rattle.item_forms.specs.Ends.{formAt, lineForm, lineAt, endsAfter}
+use Rattle.item_forms.specs.Pieces.{behind, namePlaces, wordNext, nameNext, quotedNext, onPiece, onPlace}
+use Rattle.item_forms.specs.Forms.{formOpens, formCloses}
+use Rattle.item_forms.proofs.FormLaws.{line-form, form-word, form-quoted, form-end}
 use Rattle.items.proofs.RestLaws.{rest-same, rest-nothing}
-use Rattle.items.specs.Places.{WordPlaces, QuotedPlaced}
+use Rattle.item_forms.specs.Places.{WordPlaces, QuotedPlaced}
 use Rattle.name_lists.specs.Names.{NamesRead, namesBehind, namesEnd, headedAt}
 use Rattle.name_lists.proofs.Behind.{headed-names}
 use Rattle.name_lists.proofs.Forms.{form-on, no-name, a-name}

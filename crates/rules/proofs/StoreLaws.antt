@@ -9,8 +9,8 @@ use Rattle.logic.specs.Tests.{either, equal-or-not}
 use Rattle.model.specs.Bytes.{Bytes}
 use Rattle.model.specs.Answers.{partOf, nameAt}
 use Rattle.model.specs.declared.Part.{Part}
-use Rattle.items.specs.declared.ItemAt.the-variants as piece
-use Rattle.items.specs.Pieces.{behind, namePlaces, nameNext}
+use Rattle.item_forms.specs.declared.ItemAt.the-variants as piece
+use Rattle.item_forms.specs.Pieces.{behind, namePlaces, nameNext}
 use mathlib.Core.Bool.{false}
 use Rattle.text.proofs.PlaceLaws.{part-in-part}
 use Rattle.book_tables.specs.Listed.{listed}
@@ -18,7 +18,7 @@ use Rattle.book_tables.specs.View.{wordAt, nameIn, nameOf, namesAt}
 use Rattle.book_tables.specs.Fits.{Inside}
 use Rattle.book_tables.proofs.NameLaws.{names-end}
 use Rattle.book_tables.proofs.AgreeLaws.{names-kept}
-use Rattle.items.specs.Places.{WordPlaces}
+use Rattle.item_forms.specs.Places.{WordPlaces}
 use Rattle.name_lists.proofs.Behind.{name-step, names-done}
 use Rattle.rules.specs.Stored.{LineAt, NamesStored, Storing}
 

@@ -13,8 +13,8 @@ use Rattle.model.specs.ReadRules.{RulesLine, category, policy, namesAfter}
 use Rattle.model.specs.Answers.{nameAt}
 use Rattle.model.specs.declared.Part.{Part}
 use Rattle.text.specs.Parts.{HasPart}
-use Rattle.items.specs.Rest.{lineAt}
-use Rattle.items.specs.Places.{WordPlaces}
+use Rattle.item_forms.specs.Ends.{lineAt}
+use Rattle.item_forms.specs.Places.{WordPlaces}
 use Rattle.name_lists.specs.Names.{NamesRead, namesBehind}
 use Rattle.rules.specs.declared.NamesAt.{NamesAt}
 use Rattle.rules.specs.declared.NamesAt.the-variants as list

@@ -18,7 +18,7 @@ use Rattle.text.specs.Parts.{HasPart}
 use Rattle.rules_tables.specs.declared.RulesCounts.{RulesCounts}
 use Rattle.rules_tables.specs.View.{rulesAt}
 use Rattle.rules_tables.specs.Fits.{Fits}
-use Rattle.items.specs.Places.{WordPlaces}
+use Rattle.item_forms.specs.Places.{WordPlaces}
 use Rattle.query_faults.specs.TextFault.{numberOr}
 use Rattle.rules.specs.Stored.{LineAt}
 

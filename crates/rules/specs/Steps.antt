@@ -15,7 +15,7 @@ use Rattle.text.specs.Parts.{HasPart}
 use Rattle.rules_tables.specs.declared.RulesCounts.{RulesCounts}
 use Rattle.rules_tables.specs.View.{rulesAt}
 use Rattle.rules_tables.specs.Fits.{Fits}
-use Rattle.items.specs.Places.{WordPlaces}
+use Rattle.item_forms.specs.Places.{WordPlaces}
 use Rattle.name_lists.specs.Names.{NamesRead, namesBehind}
 use Rattle.query_faults.specs.TextFault.{textFault}
 use Rattle.rules.specs.declared.RulesStep.{RulesStep}

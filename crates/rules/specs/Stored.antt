@@ -14,7 +14,7 @@ use Rattle.book_tables.specs.Fits.{Inside}
 use Rattle.rules_tables.specs.declared.RulesCounts.{RulesCounts}
 use Rattle.rules_tables.specs.View.{rulesAt}
 use Rattle.rules_tables.specs.Fits.{Fits}
-use Rattle.items.specs.Places.{WordPlaces}
+use Rattle.item_forms.specs.Places.{WordPlaces}
 use Rattle.name_lists.specs.Names.{NamesRead, namesBehind}
 
 -- a line stands in a text from a place on

@@ -3,15 +3,14 @@ ghost use mathlib.Core.Bool.{false};
 ghost use Rattle.model.specs.Choice.{andThen};
 ghost use Rattle.model.specs.Items.{lineItems};
 ghost use Rattle.model.specs.ReadRules.{categoryLine, policyLine, rulesLine};
-ghost use Rattle.items.specs.Rest.{lineAt};
+ghost use Rattle.item_forms.specs.Ends.{lineAt};
 ghost use Rattle.rules.specs.Forms.{NamesList, FormRead};
 use crate::NamesAt;
 use crate::RulesForm;
-use items::ItemAt;
-use items::forms;
-use items::forms::LINE_CLOSES;
-use items::forms::LINE_DEPTH;
-use items::places;
+use item_forms::ItemAt;
+use item_forms::LINE_CLOSES;
+use item_forms::LINE_DEPTH;
+use item_forms::places;
 use name_lists::scans;
 use text::End;
 use text::parts;
@@ -42,7 +41,7 @@ fn category_form(s: &[u8], from: usize) -> RulesForm
     let NamesAt::At(o, f) = names_list(s, e, b"over") else {
         return RulesForm::None;
     };
-    if forms::form_closes(s, f, LINE_CLOSES) {
+    if item_forms::form_closes(s, f, LINE_CLOSES) {
         return RulesForm::Category(name, a, o);
     }
     RulesForm::None
@@ -58,7 +57,7 @@ fn policy_form(s: &[u8], from: usize) -> RulesForm
     let ItemAt::At(query) = places::next_quoted(s, name.start + name.length, LINE_DEPTH) else {
         return RulesForm::None;
     };
-    if forms::form_closes(s, query.start + query.length + 1, LINE_CLOSES) {
+    if item_forms::form_closes(s, query.start + query.length + 1, LINE_CLOSES) {
         return RulesForm::Policy(name, query);
     }
     RulesForm::None
@@ -68,7 +67,7 @@ fn policy_form(s: &[u8], from: usize) -> RulesForm
 pub fn rules_form(s: &[u8]) -> RulesForm
     ensures { λ r. ⌜ FormRead (now (s .entry)) (andThen (lineItems (now (s .entry))) rulesLine) r ⌝ }
 {
-    let End::At(i) = forms::open_form(s, 0) else {
+    let End::At(i) = item_forms::open_form(s, 0) else {
         return RulesForm::None;
     };
     let ItemAt::At(word) = places::next_word(s, i, true, LINE_DEPTH) else {

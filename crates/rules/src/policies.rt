@@ -6,7 +6,7 @@ ghost use Rattle.text.specs.Parts.{HasPart};
 ghost use Rattle.rules_tables.specs.View.{rulesAt};
 ghost use Rattle.rules_tables.specs.Fits.{Within, Fits};
 ghost use Rattle.rules_tables.specs.Enforced.{hasOne};
-ghost use Rattle.items.specs.Places.{WordPlaces};
+ghost use Rattle.item_forms.specs.Places.{WordPlaces};
 ghost use Rattle.query_faults.specs.TextFault.{textFault};
 ghost use Rattle.rules.specs.Policies.{lineNumber, policyOn, combined, PolicyClear, PolicyAdded};
 use model::Part;

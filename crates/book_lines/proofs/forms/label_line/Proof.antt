@@ -1,7 +1,7 @@
 -- `book_lines::forms::label_line` meets its contract.
 use Rattle.book_lines.proofs.LineSteps.{label-broken, label-open, label-step}
 use Rattle.book_lines.proofs.PieceLaws.{moved-asked}
-use Rattle.items.proofs.PlacedLaws.{placed-at}
+use Rattle.item_forms.proofs.PlacedLaws.{placed-at}
 use native.Mathlib.Omega.{arith}
 use borrow.Author.Needs.{needs}
 use Rattle.book_lines.proofs.forms.label_line.Statement.{statement}

@@ -1,6 +1,6 @@
 -- `book_lines::forms::read_attr` meets its contract.
 use Rattle.book_lines.proofs.LineLaws.{attr-nameless, attr-kindless, attr-ends}
-use Rattle.items.proofs.PlacedLaws.{placed-at}
+use Rattle.item_forms.proofs.PlacedLaws.{placed-at}
 use Rattle.book_lines.specs.Forms.{onAttr}
 use native.Mathlib.Omega.{arith}
 use mathlib.Core.Path.{_∙_}

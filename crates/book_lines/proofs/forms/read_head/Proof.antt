@@ -1,6 +1,6 @@
 -- `book_lines::forms::read_head` meets its contract.
 use Rattle.book_lines.proofs.LineLaws.{step-broken, headed, headless}
-use Rattle.items.proofs.PlacedLaws.{placed-at}
+use Rattle.item_forms.proofs.PlacedLaws.{placed-at}
 use native.Mathlib.Omega.{arith}
 use borrow.Author.Needs.{needs}
 use Rattle.book_lines.proofs.forms.read_head.Statement.{statement}

@@ -1,7 +1,7 @@
 -- `book_lines::owners::node_line` meets its contract.
 use Rattle.book_lines.proofs.LineSteps.{node-broken, node-spoilt, node-step, entries-got}
 use Rattle.book_lines.proofs.PieceLaws.{moved-asked}
-use Rattle.items.proofs.PlacedLaws.{placed-at}
+use Rattle.item_forms.proofs.PlacedLaws.{placed-at}
 use Rattle.book_tables.proofs.AgreeLaws.{fits-kept}
 use native.Mathlib.Omega.{arith}
 use borrow.Author.Needs.{needs}

@@ -1,6 +1,6 @@
 -- `book_lines::owners::read_names` meets its contract.
 use Rattle.book_lines.proofs.LineSteps.{names-first, names-second, names-third, names-all}
-use Rattle.items.proofs.PlacedLaws.{placed-at}
+use Rattle.item_forms.proofs.PlacedLaws.{placed-at}
 use native.Mathlib.Omega.{arith}
 use borrow.Author.Needs.{needs}
 use Rattle.book_lines.proofs.owners.read_names.Statement.{statement}

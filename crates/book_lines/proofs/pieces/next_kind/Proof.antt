@@ -1,5 +1,5 @@
 -- `book_lines::pieces::next_kind` meets its contract.
-use Rattle.items.proofs.PlacedLaws.{placed-at}
+use Rattle.item_forms.proofs.PlacedLaws.{placed-at}
 use Rattle.book_lines.specs.Forms.{kindPiece}
 use mathlib.Core.Path.{sym, ap, _∙_}
 use native.Mathlib.Omega.{arith}

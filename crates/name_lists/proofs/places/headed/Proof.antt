@@ -1,7 +1,7 @@
 -- `name_lists::places::headed` meets its contract.
 use native.Mathlib.Omega.{arith}
 use mathlib.Core.Path.{sym, ap, _∙_}
-use Rattle.items.specs.Pieces.{itemPlace}
+use Rattle.item_forms.specs.Pieces.{itemPlace}
 use Rattle.name_lists.proofs.Heads.{placed-at, headed-none, headed-no-word, headed-is, headed-other}
 use borrow.Author.Needs.{needs}
 use Rattle.name_lists.proofs.places.headed.Statement.{statement}

@@ -4,7 +4,7 @@ use mathlib.Core.Bool.{false}
 use mathlib.Core.Path.{_≡_, refl, sym, _∙_}
 use native.Mathlib.Omega.{arith}
 use lib.ListN.{length}
-use Rattle.items.proofs.EndLaws.{ends-shut}
+use Rattle.item_forms.proofs.EndLaws.{ends-shut}
 use Rattle.name_lists.proofs.Heads.{placed-at}
 use Rattle.name_lists.proofs.Behind.{end-step, end-over, names-nowhere, names-shut, names-past}
 use Rattle.name_lists.specs.Names.{namesBehind, namesEnd}

@@ -2,7 +2,7 @@
 use mathlib.Core.Path.{sym, _∙_}
 use native.Mathlib.Omega.{arith}
 use borrow.Author.Tests.{not-true, not-false}
-use Rattle.items.proofs.PlacedLaws.{placed-at}
+use Rattle.item_forms.proofs.PlacedLaws.{placed-at}
 use Rattle.request.proofs.FormLaws.{unopened, wordless, of-other, unnamed, unclaimed, line-read}
 use borrow.Author.Needs.{needs}
 use Rattle.request.proofs.forms.request_form.Statement.{statement}

@@ -8,7 +8,7 @@ use Rattle.model.specs.Choice.{just}
 use Rattle.rules.proofs.StoreLaws.{stored-none, storing-next, storing-done, storing-room}
 use Rattle.rules.specs.Stored.{Storing}
 use Rattle.name_lists.proofs.Behind.{names-over}
-use Rattle.items.proofs.PlacedLaws.{placed-at}
+use Rattle.item_forms.proofs.PlacedLaws.{placed-at}
 use Rattle.name_lists.specs.Names.{NamesRead, namesBehind}
 use borrow.Author.Needs.{needs}
 use Rattle.rules.proofs.categories.store_names.Statement.{statement}

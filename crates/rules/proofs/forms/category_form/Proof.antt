@@ -2,7 +2,7 @@
 use mathlib.Core.Path.{sym, _∙_}
 use native.Mathlib.Omega.{arith}
 use Rattle.rules.proofs.FormLaws.{list-at, list-not, category-unnamed, category-no-actors, category-no-over, category-read, category-open}
-use Rattle.items.proofs.PlacedLaws.{placed-at}
+use Rattle.item_forms.proofs.PlacedLaws.{placed-at}
 use borrow.Author.Needs.{needs}
 use Rattle.rules.proofs.forms.category_form.Statement.{statement}
 use Rattle.rules.proofs.forms.category_form.Tie as tie

@@ -2,7 +2,7 @@
 use mathlib.Core.Path.{sym, _∙_}
 use native.Mathlib.Omega.{arith}
 use Rattle.rules.proofs.FormLaws.{quoted-at, policy-unnamed, policy-no-text, policy-read, policy-open}
-use Rattle.items.proofs.PlacedLaws.{placed-at}
+use Rattle.item_forms.proofs.PlacedLaws.{placed-at}
 use borrow.Author.Needs.{needs}
 use Rattle.rules.proofs.forms.policy_form.Statement.{statement}
 use Rattle.rules.proofs.forms.policy_form.Tie as tie

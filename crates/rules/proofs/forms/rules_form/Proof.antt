@@ -2,7 +2,7 @@
 use mathlib.Core.Path.{sym, _∙_}
 use native.Mathlib.Omega.{arith}
 use Rattle.rules.proofs.FormLaws.{unopened, wordless, of-category, of-policy, of-neither, form-moved}
-use Rattle.items.proofs.PlacedLaws.{placed-at}
+use Rattle.item_forms.proofs.PlacedLaws.{placed-at}
 use borrow.Author.Needs.{needs}
 use Rattle.rules.proofs.forms.rules_form.Statement.{statement}
 use Rattle.rules.proofs.forms.rules_form.Tie as tie

@@ -9,7 +9,7 @@ use Rattle.model.specs.Names.{mem}
 use Rattle.model.specs.Lists.{all}
 use Rattle.model.specs.Bytes.{Bytes}
 use Rattle.rules.proofs.TestLaws.{miss-none, miss-found, miss-other}
-use Rattle.items.proofs.PlacedLaws.{placed-at}
+use Rattle.item_forms.proofs.PlacedLaws.{placed-at}
 use Rattle.name_lists.proofs.Behind.{left-start, left-next, left-found, left-done, left-over}
 use Rattle.name_lists.specs.Names.{Left}
 use Rattle.rules_tables.specs.Layout.{names}
