@@ -25,7 +25,7 @@ use Rattle.rows.specs.SortedLaws.{same-list}
 use Rattle.rows.specs.Buffer.{rowsIn, flat}
 use Rattle.rows.specs.BufferLaws.{length-rowsIn, flat-rowsIn}
 use Rattle.jumps.specs.Problem.{AllRows}
-use Rattle.problem.specs.ProblemOf.{problemOf}
+use Rattle.start_sets.specs.ProblemOf.{problemOf}
 use Rattle.weave.specs.Given.{Identified}
 use Rattle.problem.specs.Rows.{RowsFound}
 use Rattle.listing.specs.Listed.{Lists}

@@ -19,7 +19,7 @@ use Rattle.book_tables.specs.View.{bookAt}
 use Rattle.rules_tables.specs.View.{treeOf, rulesAt}
 use Rattle.rows.specs.Order.{Row}
 use Rattle.jumps.specs.Problem.{AllRows}
-use Rattle.problem.specs.ProblemOf.{problemOf}
+use Rattle.start_sets.specs.ProblemOf.{problemOf}
 use Rattle.weave.specs.Given.{Identified}
 use Rattle.prepare.specs.declared.Ready.{Ready}
 use Rattle.prepare.specs.Texts.{Texts}
