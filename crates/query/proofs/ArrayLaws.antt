@@ -29,8 +29,8 @@ use Rattle.query_pieces.specs.declared.PieceRead.{PieceRead}
 use Rattle.query_pieces.specs.declared.PieceRead.the-variants as read
 use Rattle.query_pieces.proofs.Trees.{tree-names, returns-same}
 use Rattle.query_pieces.proofs.Tests.{vertex-names, undeclared-found}
-use Rattle.query_faults.specs.Names.{foundAt}
-use Rattle.query_faults.proofs.ScanLaws.{step-list}
+use Rattle.query_survey.specs.Names.{foundAt}
+use Rattle.query_survey.proofs.ScanLaws.{step-list}
 use Rattle.book_tables.specs.Listed.{listed}
 use Rattle.book_tables.proofs.ListedLaws.{map-end}
 

@@ -41,8 +41,8 @@ use Rattle.query_pieces.specs.declared.PieceRead.the-variants as read
 use Rattle.query_pieces.specs.Named.{edgesIn, conditionIn, conditionsIn}
 use Rattle.query_pieces.specs.Steps.{pieceOf, pieceStanding, walkAt, StepAt}
 use Rattle.query_signs.specs.Expected.{valueStanding}
-use Rattle.query_faults.specs.Names.{foundAt, textStart, textPieces}
-use Rattle.query_faults.proofs.ScanLaws.{step-list, step-none}
+use Rattle.query_survey.specs.Names.{foundAt, textStart, textPieces}
+use Rattle.query_survey.proofs.ScanLaws.{step-list, step-none}
 use Rattle.query_writer.specs.Writable.{Limits, ConditionFits}
 use Rattle.query.specs.declared.clauses.Clauses.{Clauses}
 use Rattle.query.specs.Clauses.{requirementIn, demandIn, noClauses}

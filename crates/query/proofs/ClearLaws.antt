@@ -37,8 +37,8 @@ use Rattle.query_pieces.proofs.Walks.{kept, pieces-are-walked}
 use Rattle.query_pieces.proofs.Trees.{tree-names, returns-same}
 use Rattle.model.proofs.Places.{joined-append, joined-end}
 use Rattle.query_pieces.proofs.Tests.{vertex-names, edge-names, twice-found, mem-firsts}
-use Rattle.query_faults.specs.Names.{textStart, textPieces}
-use Rattle.query_faults.specs.Counting.{pastLimits}
+use Rattle.query_survey.specs.Names.{textStart, textPieces}
+use Rattle.query_survey.specs.Counting.{pastLimits}
 use Rattle.query_faults.specs.Tests.{pieceFault}
 use Rattle.query_faults.specs.TextFault.{textFault}
 use Rattle.query_faults.proofs.CountLaws.{limits-same}

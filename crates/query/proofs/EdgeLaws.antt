@@ -33,8 +33,8 @@ use Rattle.query_pieces.specs.declared.Link.{Link}
 use Rattle.query_pieces.specs.declared.Step.{Step}
 use Rattle.query_pieces.specs.declared.PieceRead.{PieceRead}
 use Rattle.query_pieces.specs.declared.PieceRead.the-variants as read
-use Rattle.query_faults.specs.Names.{textStart, foundAt, textPieces}
-use Rattle.query_faults.proofs.ScanLaws.{step-list, step-none}
+use Rattle.query_survey.specs.Names.{textStart, foundAt, textPieces}
+use Rattle.query_survey.proofs.ScanLaws.{step-list, step-none}
 use Rattle.query_faults.proofs.FaultLaws.{text-ordered}
 use Rattle.book_tables.specs.Layout.{labelNames}
 use Rattle.book_tables.specs.View.{bookAt}

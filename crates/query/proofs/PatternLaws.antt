@@ -28,7 +28,7 @@ use Rattle.book_tables.specs.View.{bookAt}
 use Rattle.query_pieces.specs.Named.{edgesIn, linksFrom}
 use Rattle.query_pieces.proofs.Trees.{tree-names, returns-same, link-names}
 use Rattle.query_pieces.proofs.Tests.{vertex-names, edge-names}
-use Rattle.query_faults.specs.Names.{textPieces}
+use Rattle.query_survey.specs.Names.{textPieces}
 use Rattle.query_signs.specs.Expected.{valueStanding}
 use Rattle.query_faults.proofs.FaultLaws.{queryOf, text-ordered}
 use Rattle.query_writer.specs.Writable.{Limits, countLimits, ConditionFits}

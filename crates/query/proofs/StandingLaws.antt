@@ -27,8 +27,8 @@ use Rattle.query_pieces.specs.declared.Step.{Step}
 use Rattle.query_pieces.specs.declared.PieceRead.{PieceRead}
 use Rattle.query_pieces.specs.declared.PieceRead.the-variants as read
 use Rattle.model.proofs.Places.{joined-append}
-use Rattle.query_faults.specs.Names.{textStart}
-use Rattle.query_faults.proofs.ScanLaws.{step-whole, step-none}
+use Rattle.query_survey.specs.Names.{textStart}
+use Rattle.query_survey.proofs.ScanLaws.{step-whole, step-none}
 
 -- a part ends within its text, and is as long as the name that stands there
 pub record Inside (s : Bytes) (p : Part) : Type 0 where

@@ -26,8 +26,8 @@ use Rattle.query_pieces.specs.declared.Place.{Place}
 use Rattle.query_pieces.specs.declared.Step.{Step}
 use Rattle.query_pieces.specs.declared.PieceRead.{PieceRead}
 use Rattle.query_pieces.specs.declared.PieceRead.the-variants as read
-use Rattle.query_faults.specs.Names.{textStart, foundAt, textPieces}
-use Rattle.query_faults.proofs.ScanLaws.{mem-append, step-list, step-none, step-whole}
+use Rattle.query_survey.specs.Names.{textStart, foundAt, textPieces}
+use Rattle.query_survey.proofs.ScanLaws.{mem-append, step-list, step-none, step-whole}
 use Rattle.book_tables.specs.Listed.{listed}
 use Rattle.book_tables.proofs.ListedLaws.{scan-none, scan-on, scan-place, scan-absent, place-end, place-none}
 use Rattle.book_tables.proofs.NameLaws.{equal-same, mem-place}

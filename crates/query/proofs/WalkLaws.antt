@@ -37,8 +37,8 @@ use Rattle.query_pieces.specs.declared.Step.{Step}
 use Rattle.query_pieces.specs.declared.PieceRead.{PieceRead}
 use Rattle.query_pieces.specs.declared.PieceRead.the-variants as read
 use Rattle.query_pieces.proofs.Walks.{walk-ordered}
-use Rattle.query_faults.specs.Names.{textStart, foundAt, textPieces}
-use Rattle.query_faults.proofs.ScanLaws.{step-list}
+use Rattle.query_survey.specs.Names.{textStart, foundAt, textPieces}
+use Rattle.query_survey.proofs.ScanLaws.{step-list}
 use Rattle.query_faults.proofs.FaultLaws.{text-ordered}
 use Rattle.query_faults.proofs.SurveyLaws.{none-behind}
 use Rattle.query_writer.specs.Writable.{Limits}

@@ -12,8 +12,8 @@ use book_tables::names;
 use model::Edge;
 use model::Part;
 use model::limits::MAX_EDGES;
-use query_faults::scan;
 use query_pieces::Link;
+use query_survey::scan;
 use text::parts;
 
 // The edges found so far, in the order of the text.

@@ -22,11 +22,11 @@ use model::limits::MAX_CONDITIONS;
 use model::limits::MAX_EDGES;
 use model::limits::MAX_RETURNS;
 use model::limits::MAX_VERTICES;
-use query_faults::scan;
 use query_pieces::Piece;
 use query_pieces::PieceRead;
 use query_pieces::Place;
 use query_pieces::reading;
+use query_survey::scan;
 
 // The empty pattern.
 pub fn empty() -> Pattern

@@ -7,7 +7,7 @@ ghost use Rattle.text.specs.Parts.{HasPart};
 ghost use Rattle.query.specs.Vertices.{namesOf, VerticesInside, noVertices, Placed};
 use model::Part;
 use model::limits::MAX_VERTICES;
-use query_faults::scan;
+use query_survey::scan;
 
 // The vertices found so far, by first appearance.
 pub struct Vertices {

@@ -17,7 +17,7 @@ use Rattle.query_pieces.specs.Named.{vertexIn, returnIn, conditionIn, verticesI
 use Rattle.query_pieces.proofs.Trees.{tree-names, returns-same}
 use Rattle.model.proofs.Places.{joined-end}
 use Rattle.query_pieces.proofs.Tests.{vertex-names, mem-firsts}
-use Rattle.query_faults.specs.Counting.{countWhere, newVertex, anEdge, anExclusion, aRequirement, aReturn, pastLimits}
+use Rattle.query_survey.specs.Counting.{countWhere, newVertex, anEdge, anExclusion, aRequirement, aReturn, pastLimits}
 
 -- first appearances of names at the end of a list
 pub firsts-end : (seen vs : List Bytes) (v : Bytes) → firsts seen (vs ++ (v ∷ [])) ≡ addNew (firsts seen vs) v

@@ -16,8 +16,8 @@ use Rattle.query_pieces.specs.Faults.{someWhere, undeclaredAt, twiceAt, mistype
 use Rattle.query_pieces.specs.Steps.{walkAt, spotOf, chainAt}
 use Rattle.query_pieces.proofs.Walks.{kept, pieces-are-walked, walk-ordered}
 use Rattle.query_pieces.proofs.Tests.{undeclared-found, twice-found, mistyped-found, itself-found}
-use Rattle.query_faults.specs.Names.{textStart, textPieces}
-use Rattle.query_faults.specs.Counting.{pastLimits}
+use Rattle.query_survey.specs.Names.{textStart, textPieces}
+use Rattle.query_survey.specs.Counting.{pastLimits}
 use Rattle.query_faults.specs.Tests.{pieceFault}
 use Rattle.query_faults.specs.TextFault.{numberOr, treeFault, textFault}
 use Rattle.query_faults.proofs.CountLaws.{limits-same}

@@ -24,13 +24,13 @@ use mathlib.Core.Logic.{⊎-elim}
 use borrow.Author.Tests.{eq-eqb, ne-eqb, lt-ltb, le-ltb}
 use Rattle.book_tables.proofs.ListedLaws.{any-end}
 use Rattle.book_tables.proofs.MemberLaws.{mem-end, same-symmetric, more, twice-end}
-use Rattle.query_faults.specs.Names.{textStart, textPieces}
-use Rattle.query_faults.specs.Counting.{countWhere, newVertex, anEdge, anExclusion, aRequirement, aReturn, pastLimits}
+use Rattle.query_survey.specs.Names.{textStart, textPieces}
+use Rattle.query_survey.specs.Counting.{countWhere, newVertex, anEdge, anExclusion, aRequirement, aReturn, pastLimits}
 use Rattle.query_faults.specs.Tests.{pieceFault}
 use Rattle.query_faults.specs.TextFault.{textFault}
 use Rattle.query_faults.proofs.FaultLaws.{text-ordered, number-is}
-use Rattle.query_faults.specs.declared.Survey.{Survey}
-use Rattle.query_faults.specs.Survey.{undeclaredBy, repeats, surveyed, surveyFrom, unseen, overLimit, verdict}
+use Rattle.query_survey.specs.declared.Survey.{Survey}
+use Rattle.query_survey.specs.Survey.{undeclaredBy, repeats, surveyed, surveyFrom, unseen, overLimit, verdict}
 
 -- a fault that was seen or is seen later; what is left of a limit
 abbrev flagFrom : Test → Bool → List Piece → List Piece → Bool

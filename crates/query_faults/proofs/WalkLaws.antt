@@ -18,16 +18,16 @@ use Rattle.query_pieces.specs.declared.PieceRead.{PieceRead}
 use Rattle.query_pieces.specs.declared.PieceRead.the-variants as read
 use Rattle.model.proofs.Places.{joined-end}
 use Rattle.names_met.specs.Table.{Holds}
-use Rattle.query_faults.specs.Names.{nameIn, namesIn, foundAt, textPieces, textStart}
+use Rattle.query_survey.specs.Names.{nameIn, namesIn, foundAt, textPieces, textStart}
 use Rattle.query_faults.specs.TextFault.{textFault}
-use Rattle.query_faults.specs.declared.Which.{Which}
-use Rattle.query_faults.specs.declared.Which.the-variants.{Vertex, Edge, Returned}
-use Rattle.query_faults.proofs.ScanLaws.{step-list, step-whole, step-none, step-ends, further-in, further-rest, further-done, found-bound}
-use Rattle.query_faults.specs.declared.Met.{Met}
+use Rattle.query_survey.specs.declared.Which.{Which}
+use Rattle.query_survey.specs.declared.Which.the-variants.{Vertex, Edge, Returned}
+use Rattle.query_survey.proofs.ScanLaws.{step-list, step-whole, step-none, step-ends, further-in, further-rest, further-done, found-bound}
+use Rattle.query_survey.specs.declared.Met.{Met}
 use Rattle.query_faults.specs.declared.Passed.{Passed}
-use Rattle.query_faults.specs.declared.Survey.{Survey}
-use Rattle.query_faults.specs.Known.{Behind}
-use Rattle.query_faults.specs.Survey.{undeclaredBy, surveyFrom, unseen, verdict}
+use Rattle.query_survey.specs.declared.Survey.{Survey}
+use Rattle.query_faults.specs.Behind.{Behind}
+use Rattle.query_survey.specs.Survey.{undeclaredBy, surveyFrom, unseen, verdict}
 use Rattle.query_faults.proofs.SurveyLaws.{survey-parts, survey-fault}
 
 -- behind i pieces: the tables list their names, and the survey from here comes to that of the whole text

@@ -1,21 +1,13 @@
 -- The fault that the pieces of a text show, by the tests of each fault.
 use Prim.Native.Nat.{ℕ}
 use mathlib.Core.List.{[]}
-use mathlib.Core.Bool.{Bool, _&&_}
 use Rattle.model.specs.Bytes.{Bytes}
 use Rattle.model.specs.Choice.{pick}
-use Rattle.model.specs.Values.{Kind, Value, ofKind}
 use Rattle.model.specs.Book.{Book}
-use Rattle.model.specs.QueryText.{Relation}
-use Rattle.model.specs.ReadQuery.{hasRelation}
 use Rattle.query_pieces.specs.Faults.{someWhere, undeclaredAt, twiceAt, mistypedAt, fromItselfAt}
 use Rattle.query_pieces.specs.Steps.{walkAt}
-use Rattle.query_faults.specs.Names.{textStart, textPieces}
-use Rattle.query_faults.specs.Counting.{pastLimits}
-
--- a type has a relation and a value
-unfoldable pub suits : Kind → Relation → Value → Bool
-suits k r v = hasRelation k r && ofKind k v
+use Rattle.query_survey.specs.Names.{textStart, textPieces}
+use Rattle.query_survey.specs.Counting.{pastLimits}
 
 -- the lowest fault that the pieces of a text show; 0 is none
 unfoldable pub pieceFault : Book → Bytes → ℕ

@@ -8,22 +8,23 @@ ghost use Rattle.query_pieces.specs.Steps.{pieceOf, walkAt, LinkInside, PieceIn
 ghost use Rattle.book_tables.specs.View.{bookAt};
 ghost use Rattle.book_tables.specs.Fits.{Fits};
 ghost use Rattle.names_met.specs.Table.{Holds};
-ghost use Rattle.query_faults.specs.Names.{namesIn, textPieces};
+ghost use Rattle.query_survey.specs.Names.{namesIn, textPieces};
 ghost use Rattle.query_faults.specs.TextFault.{textFault};
-ghost use Rattle.query_faults.specs.declared.Which.the-variants.{Returned};
-ghost use Rattle.query_faults.specs.Known.{Table, Known, Behind};
-use crate::Met;
+ghost use Rattle.query_survey.specs.declared.Which.the-variants.{Returned};
+ghost use Rattle.query_survey.specs.Known.{Table, Known};
+ghost use Rattle.query_faults.specs.Behind.{Behind};
 use crate::Passed;
-use crate::conditions;
-use crate::links;
-use crate::scan;
-use crate::tallies;
 use book_tables::BookCounts;
 use query_pieces::Link;
 use query_pieces::Piece;
 use query_pieces::PieceRead;
 use query_pieces::Place;
 use query_pieces::reading;
+use query_survey::Met;
+use query_survey::conditions;
+use query_survey::links;
+use query_survey::scan;
+use query_survey::tallies;
 
 // Behind an edge with its vertex, whichever way it points: the survey, and both names in their tables.
 fn link_passed(

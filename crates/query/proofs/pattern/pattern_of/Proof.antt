@@ -3,7 +3,7 @@ use native.Mathlib.Omega.{arith}
 use lib.ListN.{length}
 use mathlib.Core.Path.{subst, sym}
 use Rattle.book_tables.specs.View.{bookAt}
-use Rattle.query_faults.specs.Names.{foundAt}
+use Rattle.query_survey.specs.Names.{foundAt}
 use Rattle.query.specs.PatternRead.{PatternRead}
 use Rattle.query.proofs.ArrayLaws.{fewer-pieces}
 use Rattle.query.proofs.VertexLaws.{vertices-inside}

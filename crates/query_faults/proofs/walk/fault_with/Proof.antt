@@ -3,9 +3,9 @@ use mathlib.Core.Path.{_≡_, refl, ap, subst, _∙_}
 use native.Mathlib.Omega.{arith}
 use lib.ListN.{length}
 use Rattle.query_pieces.specs.Steps.{StepInside}
-use Rattle.query_faults.specs.Names.{foundAt}
+use Rattle.query_survey.specs.Names.{foundAt}
 use Rattle.book_tables.specs.View.{bookAt}
-use Rattle.query_faults.specs.Survey.{verdict}
+use Rattle.query_survey.specs.Survey.{verdict}
 use Rattle.query_faults.proofs.WalkLaws.{Walked, walked-start, walked-end, walked-below, walked-less, walked-undeclared, walked-on}
 use borrow.Author.Needs.{needs}
 use Rattle.query_faults.proofs.walk.fault_with.Statement.{statement}

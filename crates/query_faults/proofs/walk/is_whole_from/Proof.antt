@@ -1,8 +1,8 @@
 use native.Mathlib.Omega.{arith}
 use lib.ListN.{length}
-use Rattle.query_faults.specs.Names.{foundAt}
+use Rattle.query_survey.specs.Names.{foundAt}
 use Rattle.query_pieces.specs.Steps.{walkAt}
-use Rattle.query_faults.proofs.ScanLaws.{step-list, step-whole, step-ends}
+use Rattle.query_survey.proofs.ScanLaws.{step-list, step-whole, step-ends}
 use mathlib.Core.Path.{_≡_, refl, sym, ap, _∙_}
 use borrow.Author.Needs.{needs}
 use Rattle.query_faults.proofs.walk.is_whole_from.Statement.{statement}

@@ -1,5 +1,5 @@
 -- `query_faults::walk::link_passed` meets its contract. Assumes nothing.
-use Rattle.query_faults.proofs.SeenLaws.{behind-link}
+use Rattle.query_faults.proofs.BehindLaws.{behind-link}
 use borrow.Author.Needs.{needs}
 use Rattle.query_faults.proofs.walk.link_passed.Statement.{statement}
 use Rattle.query_faults.proofs.walk.link_passed.Tie as tie

@@ -1,7 +1,7 @@
 -- `query_faults::walk::piece_passed` meets its contract. Assumes nothing.
 use mathlib.Core.Path.{subst}
 use Rattle.query_pieces.specs.Steps.{pieceOf, PieceInside}
-use Rattle.query_faults.proofs.SeenLaws.{behind-start, behind-linked, behind-asks, behind-return, behind-is}
+use Rattle.query_faults.proofs.BehindLaws.{behind-start, behind-linked, behind-asks, behind-return, behind-is}
 use borrow.Author.Needs.{needs}
 use Rattle.query_faults.proofs.walk.piece_passed.Statement.{statement}
 use Rattle.query_faults.proofs.walk.piece_passed.Tie as tie
