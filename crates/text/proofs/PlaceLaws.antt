@@ -10,6 +10,7 @@ use lib.ListN.{length, getD, take, drop, drop-of-length-le, List·getD-eq-defaul
 use lib.Seq.{drop-cons, drop-drop, getD-drop, take-nil, take-take, length-take-le}
 use lib.Dec.{ltb, eqb}
 use borrow.Author.Tests.{ltb-true, ltb-false}
+pub use Rattle.logic.specs.Lists.{drop-at, drop-end}
 use Rattle.model.specs.Bytes.{Bytes}
 use Rattle.model.specs.Choice.{pick}
 use Rattle.model.specs.Words.{run}
@@ -36,14 +37,8 @@ getD-any (b ∷ s) zero d e h = refl
 getD-any (b ∷ s) (suc i) d e h = getD-any s i d e (omega arith)
 
 -- the text from a place on is its byte and what follows
-pub drop-at : (s : Bytes) (i : ℕ) → i < length s → drop i s ≡ getD s i 0 ∷ drop (i + 1) s
-drop-at s i h = rw add-one (drop-cons s i 0 h)
-
 pub drop-peek : (s : Bytes) (i : ℕ) → i < length s → drop i s ≡ peekAt s i ∷ drop (i + 1) s
 drop-peek s i h = rw add-one (drop-cons s i 256 h)
-
-pub drop-end : (s : Bytes) (i : ℕ) → length s ≤ i → drop i s ≡ []
-drop-end s i h = drop-of-length-le s h
 
 pub run-length : (p : ℕ → Bool) (t : Bytes) → length (run p t) ≤ length t
 unfolding run
