@@ -13,8 +13,7 @@ use Rattle.model.specs.Choice.{pick, Maybe, nothing, just, andThen}
 use Rattle.model.specs.Lists.{all, each}
 use Rattle.model.specs.Words.{Got, run}
 use Rattle.model.specs.Items.{Item, Items, plainAt, asList, listAt, itemAt, itemList, itemsOf, lineItems}
-use Rattle.model.specs.Values.{Value}
-use Rattle.model.specs.Forms.{asWord, asQuoted, asName, asValue, first, atEnd, formOf}
+use Rattle.model.specs.Forms.{asWord, asQuoted, asName, first, atEnd}
 use Rattle.model.specs.Answers.{nameAt}
 use Rattle.text.specs.declared.End.{End}
 use Rattle.text.specs.declared.End.the-variants as end
@@ -24,14 +23,14 @@ use Rattle.item_forms.specs.declared.NameItem.{NameItem}
 use Rattle.item_forms.specs.declared.Form.{Form}
 use Rattle.items.specs.Rest.{restAt, onNext}
 use Rattle.item_forms.specs.Ends.{spacesFrom, endsAfter, formDepth, formEnds, formAt, lineAt}
-use Rattle.item_forms.specs.Pieces.{behind, wordNext, quotedNext, nameNext, valueNext, openNext, closeNext, afterEnd, onPiece, onName, onValue, onPlace}
+use Rattle.item_forms.specs.Pieces.{behind, wordNext, quotedNext, nameNext, openNext, closeNext, afterEnd, onPiece, onName, onPlace}
 use Rattle.item_forms.specs.Forms.{formOpens, formCloses}
 use Rattle.items.proofs.SizeLaws.{kindOr, plain-kind}
 use Rattle.items.proofs.RestLaws.{rest-same}
 use Rattle.items.proofs.ReadLaws.{item-plain, item-opened}
 use Rattle.item_forms.proofs.ItemLaws.{no-items}
 use Rattle.item_forms.proofs.PieceTests.{word-depth, name-depth}
-use Rattle.item_forms.proofs.PieceLaws.{first-word, first-quoted, first-name, first-value, first-list, each-list, end-next}
+use Rattle.item_forms.proofs.PieceLaws.{first-word, first-quoted, first-name, first-list, each-list, end-next}
 
 pick-none : {B : Type 0} (x : Bool) → pick {A = Maybe B} x nothing nothing ≡ nothing
 pick-none true = refl
@@ -136,11 +135,6 @@ module _ {B : Type 0} (form : Form) (free : Bool) (i : ℕ) (s : Bytes) where
       ∙ first-name (formDepth form) free s i (λ e n is. pick (formEnds form s e) (k n is) nothing)
       ∙ ap (λ (r : NameItem). onName s r (λ n q. formAt form false q s (k n)) (λ e. nothing)) (name-depth (formDepth form) d free s i)
 
-  pub form-value : (k : Value → ListOf Item → Maybe B)
-      → formAt form free i s (λ is. first asValue is k) ≡ onValue s (valueNext (formDepth form) free s i) (λ v q. formAt form false q s (k v))
-  unfolding formAt
-  form-value k = form-first form free i s asValue k ∙ first-value (formDepth form) free s i (λ e v is. pick (formEnds form s e) (k v is) nothing)
-
   pub form-list : {A : Type 0} (h : ListOf Item → Maybe A) (k : A → ListOf Item → Maybe B)
       → formAt form free i s (λ is. first (λ x. andThen (itemsOf x) h) is k)
       ≡ onNext (openNext s i) (λ p. restAt (form .inner) true p s (λ q is. andThen (h is) (λ a. formAt form true q s (k a)))) (λ e. nothing)
@@ -225,9 +219,3 @@ module _ (s : Bytes) (i p : ℕ) (e : p ≡ past isSpace s i) where
   pub form-shut : (peekAt s p ≡ 40 → ⊥) → end.None ≡ formOpens s i
   unfolding formOpens
   form-shut h = rw (← e, ne-eqb (peekAt s p) 40 h)
-
--- a line that ends in a line feed
-pub form-of : {B : Type 0} (bytes : Bytes) (f : ListOf Item → Maybe B)
-    → andThen (formOf (record { bytes = bytes; ended = true })) f ≡ onPlace (formOpens bytes 0) (λ i. lineAt true i bytes f)
-unfolding formOf
-form-of bytes f = line-form f bytes

@@ -1,23 +1,18 @@
 -- The rest of a list from a place on, and what is made of its end and its items. Reading an item only moves the place.
 use Prim.Native.Nat.{ℕ, _+_}
-use mathlib.Core.List.{List, [], _∷_}
+use mathlib.Core.List.{List}
 use mathlib.Core.Bool.{Bool}
 use lib.ListN.{drop}
 use Rattle.model.specs.Bytes.{Bytes}
 use Rattle.model.specs.Choice.{Maybe, nothing, just, andThen}
 use Rattle.model.specs.Words.{Got}
-use Rattle.model.specs.Items.{Item, Items, none, more, listAt, itemAt, itemList}
+use Rattle.model.specs.Items.{Item, listAt, itemAt, itemList}
 use Rattle.items.specs.declared.Next.{Next}
 use Rattle.items.specs.declared.Next.the-variants as next
 
 -- the rest of a list from the place i on, in which d lists may still be opened: f of the place behind it and of its items
 unfoldable pub restAt : {B : Type 0} → ℕ → Bool → ℕ → Bytes → (ℕ → List Item → Maybe B) → Maybe B
 restAt d free i s f = andThen (listAt (itemAt d) free 0 (drop i s)) (λ g. f (i + g .size) (itemList (g .got)))
-
--- the items of a list, from a list of items
-unfoldable pub itemsFrom : List Item → Items
-itemsFrom [] = none
-itemsFrom (i ∷ is) = more i (itemsFrom is)
 
 -- go on by what follows in a list: with an item's place, or with the place behind the closing bracket
 unfoldable pub onNext : {B : Type 0} → Next → (ℕ → Maybe B) → (ℕ → Maybe B) → Maybe B

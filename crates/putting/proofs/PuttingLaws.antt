@@ -41,10 +41,6 @@ puts-no-room o a x h = record { is = ap (λ (l : Bytes). buffer l (further a)) (
 pub puts-same : {o : Bytes} {a : ℕ} {t u o′ : Bytes} {a′ : ℕ} → t ≡ u → Puts o a t o′ a′ → Puts o a u o′ a′
 puts-same {o} {a} e p = record { is = p .is ∙ ap (λ (t : Bytes). withText (buffer o a) t) e }
 
--- An equal buffer takes it alike.
-pub puts-into-same : {o p : Bytes} {a : ℕ} {t o′ : Bytes} {a′ : ℕ} → o ≡ p → Puts o a t o′ a′ → Puts p a t o′ a′
-puts-into-same {a = a} {t = t} e put = record { is = put .is ∙ ap (λ (l : Bytes). withText (buffer l a) t) e }
-
 -- A text is put byte by byte.
 pub puts-more : {o : Bytes} {a : ℕ} {o′ : Bytes} {a′ : ℕ} {o″ : Bytes} {a″ : ℕ} (s : Bytes) (i : ℕ) → i < length s → Puts o a (take i s) o′ a′
     → Puts o′ a′ (getD s i 0 ∷ []) o″ a″ → Puts o a (take (i + 1) s) o″ a″

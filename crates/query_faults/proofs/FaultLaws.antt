@@ -1,5 +1,4 @@
 -- The number found among the pieces of a text is the fault of the text.
-use Prim.Native.Nat.{ℕ}
 use mathlib.Core.Path.{_≡_, refl, sym, ap, _∙_}
 use mathlib.Core.List.{[], _∷_}
 use mathlib.Core.Bool.{Bool, true, false}
@@ -78,7 +77,3 @@ module _ (b : Book) (s : Bytes) where
           (pick (pastLimits (textPieces s)) 7 (pick (someWhere fromItselfAt [] (textPieces s)) 8 0))))) 3 ≡ treeFault b (pick t (just (queryOf s)) nothing)
       go true = fault-table _ _ _ _ _ ∙ ap numberOr (sym tests-same)
       go false = refl
-
-  -- a number found among the pieces is the fault of the text
-  pub by-pieces : {n : ℕ} → n ≡ pieceFault b s → n ≡ textFault b s
-  by-pieces found = found ∙ number-is

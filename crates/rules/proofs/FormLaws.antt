@@ -73,9 +73,6 @@ module _ (head s : Bytes) (i : ℕ) where
 
 -- a category's line
 module _ (s : Bytes) (i : ℕ) where
-  overOf : Bytes → List Bytes → List Bytes → List Item → Maybe RulesLine
-  overOf n actors over is = atEnd is (category n actors over)
-
   pub category-unnamed : piece.None ≡ namePlaces (nameNext 3 false s i) → lineAt false i s categoryLine ≡ nothing
   unfolding categoryLine
   category-unnamed e = no-name s i _ e
