@@ -6,6 +6,7 @@ ghost use lib.ListN.{length};
 ghost use Rattle.book_entries.specs.Faults.{entryFault, lower};
 ghost use Rattle.book_entries.specs.Known.{EntryAsked, EntryAdded, EntryPutAsked, EntryPut};
 use book_tables::BookCounts;
+use book_tables::stores::ENTRY_TYPES;
 use model::Part;
 use model::Value;
 use model::limits::MAX_DECLARED;
@@ -13,9 +14,6 @@ use model::limits::MAX_ENTRIES;
 use model::refusal_numbers::NOT_DECLARED;
 use model::refusal_numbers::OTHER_TYPE;
 use model::refusal_numbers::SECOND_TIME;
-
-// An entry's first word is its attribute's number times 4 and its type.
-pub const TYPES: usize = 4;
 
 // What is known after some entries of a line: their lowest fault or 0, a bit for each attribute that stands among them, and how many they are.
 pub struct EntriesRead {
@@ -63,7 +61,7 @@ fn put_entry(words: &mut [u32], k: usize, attribute: usize, value: Value)
         book_tables::stores::store_entry(
             words,
             k,
-            (attribute * TYPES) as u32 + said.kind,
+            (attribute * ENTRY_TYPES) as u32 + said.kind,
             said.first,
             said.second,
         );

@@ -14,14 +14,13 @@ use book_tables::BookCounts;
 use book_tables::ENTRIES;
 use book_tables::Owner;
 use book_tables::owners;
+use book_tables::stores;
+use book_tables::stores::ENTRY_WORDS;
 
-// An owner's entries are one word: start * OWNED + count.
-const OWNED: u32 = 4096;
+// The units of an owner's entries and of an entry's first word, as wide as a word.
+const ENTRY_COUNTS: u32 = stores::ENTRY_COUNTS as u32;
 
-// An entry's first word is attribute * KINDS + type; it has ENTRY_WORDS words.
-pub const KINDS: u32 = 4;
-
-pub const ENTRY_WORDS: usize = 3;
+pub const ENTRY_TYPES: u32 = stores::ENTRY_TYPES as u32;
 
 // The entry of an owner's attribute, both by their numbers.
 pub fn owner_entry(
@@ -45,12 +44,12 @@ fn entry_of(words: &[u32], owner: u32, attribute: usize) -> AttributeFound
     requires { ⌜ entries + 3 * (startPart owner + countPart owner) ≤ length (now words) ⌝ }
     ensures { λ r. ⌜ found r ≡ seek (now (words .entry)) attribute (startPart owner) (countPart owner) ⌝ }
 {
-    let start = (owner / OWNED) as usize;
-    let count = (owner % OWNED) as usize;
+    let start = (owner / ENTRY_COUNTS) as usize;
+    let count = (owner % ENTRY_COUNTS) as usize;
     let mut i: usize = 0;
     while i < count {
         let head = words[ENTRIES + ENTRY_WORDS * (start + i)];
-        if (head / KINDS) as usize == attribute {
+        if (head / ENTRY_TYPES) as usize == attribute {
             return AttributeFound::At(start + i);
         }
         i += 1;

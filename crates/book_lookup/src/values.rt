@@ -7,9 +7,9 @@ ghost use Rattle.book_tables.specs.Layout.{entries};
 ghost use Rattle.book_tables.specs.View.{wordAt};
 ghost use Rattle.book_lookup.specs.Entries.{kindAt, entryValue};
 ghost use Rattle.book_lookup.specs.Ready.{Room, OfType, EntryReady};
-use crate::entries::ENTRY_WORDS;
-use crate::entries::KINDS;
+use crate::entries::ENTRY_TYPES;
 use book_tables::ENTRIES;
+use book_tables::stores::ENTRY_WORDS;
 use book_tables::values::HALF;
 
 // The type of an entry: book_tables::values::INT, STR or BOOL.
@@ -17,7 +17,7 @@ pub fn kind_of(words: &[u32], entry: usize) -> u32
     requires { ⌜ Room (now words) entry ⌝ }
     ensures { λ r. ⌜ r ≡ kindAt (now (words .entry)) entry ⌝ }
 {
-    word_of(words, entry, 0) % KINDS
+    word_of(words, entry, 0) % ENTRY_TYPES
 }
 
 // The number that an entry's value is, kept as z + 2^63.

@@ -20,8 +20,10 @@ use model::limits::MAX_NODES;
 // An owner's entries are one word: their start times 4096 and how many they are.
 pub const ENTRY_COUNTS: usize = 4096;
 
-// An attribute entry has three words.
+// An attribute entry has three words; the first is its attribute's number times 4 and its type.
 pub const ENTRY_WORDS: usize = 3;
+
+pub const ENTRY_TYPES: usize = 4;
 
 // No node and no relationship is in any chain.
 pub fn clear_chains(words: &mut [u32])

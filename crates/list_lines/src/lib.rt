@@ -19,7 +19,7 @@ use putting::bytes;
 use putting::values;
 
 // No number that is printed has more decimal digits: a line, a count of rows, a refusal's number.
-pub const MAX_DIGITS: usize = 5;
+const COUNT_DIGITS: usize = 5;
 
 // Puts so many rows of so many nodes each, which stand one after another in the row words: the header, then a line for each row.
 pub fn put_list(
@@ -72,7 +72,7 @@ pub fn put_header(count: usize, out: &mut [u8], at: usize) -> usize
     ensures { λ r. ⌜ Puts (now (out .entry)) at (headerText count) (now (out .exit)) r ⌝ }
 {
     let at = bytes::put_bytes(b"(rows ", out, at);
-    let at = values::put_digits(MAX_DIGITS, count as u64, out, at);
+    let at = values::put_digits(COUNT_DIGITS, count as u64, out, at);
     bytes::put_bytes(b")\n", out, at)
 }
 
@@ -81,11 +81,11 @@ pub fn put_refusal(refusal: Refusal, out: &mut [u8], at: usize) -> usize
     ensures { λ r. ⌜ Puts (now (out .entry)) at (refusalText (refusalOf refusal)) (now (out .exit)) r ⌝ }
 {
     let at = bytes::put_bytes(b"(refused ", out, at);
-    let at = values::put_digits(MAX_DIGITS, refusal.number as u64, out, at);
+    let at = values::put_digits(COUNT_DIGITS, refusal.number as u64, out, at);
     let at = bytes::put_bytes(b" text ", out, at);
-    let at = values::put_digits(MAX_DIGITS, refusal.text as u64, out, at);
+    let at = values::put_digits(COUNT_DIGITS, refusal.text as u64, out, at);
     let at = bytes::put_bytes(b" line ", out, at);
-    let at = values::put_digits(MAX_DIGITS, refusal.line as u64, out, at);
+    let at = values::put_digits(COUNT_DIGITS, refusal.line as u64, out, at);
     bytes::put_bytes(b")\n", out, at)
 }
 

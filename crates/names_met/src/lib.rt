@@ -11,10 +11,10 @@ use chains::slots;
 use chains::slots::SLOTS;
 use model::Part;
 
-// What a name's word has room for: starts below 2^27.
-pub const STARTS: usize = 134217728;
+// What a name's word has room for: starts below 2^27. What a table has: names below 65,536.
+const MAX_START: usize = 134217728;
 
-pub const MAX_ENTRIES: usize = 65536;
+const MAX_MET: usize = 65536;
 
 // Where the names' words begin in a table of so many words: behind the links, which have half of what the heads leave.
 fn words_from(size: usize) -> usize
@@ -52,13 +52,13 @@ pub fn with_name(s: &[u8], table: &mut [u32], n: usize, name: Part) -> usize
     let start = name.start;
     let length = name.length;
     let size = table.len();
-    if MAX_ENTRIES <= n {
+    if MAX_MET <= n {
         return size;
     }
     if size < SLOTS + 2 * n + 2 {
         return size;
     }
-    if STARTS <= start {
+    if MAX_START <= start {
         return size;
     }
     if NAME_LENGTHS <= length {
