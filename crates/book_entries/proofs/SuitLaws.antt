@@ -6,6 +6,7 @@ use mathlib.Core.Bool.{Bool, true, false, _&&_, _||_}
 use native.Mathlib.Omega.{arith}
 use lib.Dec.{eqb}
 use borrow.Author.Tests.{eq-eqb, ne-eqb}
+use Rattle.logic.specs.Flags.{and-false, or-false}
 use Rattle.logic.specs.Tests.{either, equal-or-not}
 use Rattle.bits.specs.Word.{bit, with}
 use Rattle.bits.specs.WordLaws.{bit-with}
@@ -30,14 +31,6 @@ differ-same a b n = go (same a b) refl
     go : (t : Bool) → same a b ≡ t → t ≡ false
     go true e = absurd (n (same-equal a b e))
     go false e = refl
-
-and-false : (t : Bool) → (t && false) ≡ false
-and-false true = refl
-and-false false = refl
-
-or-false : (t : Bool) → (t || false) ≡ t
-or-false true = refl
-or-false false = refl
 
 module _ (text : Bytes) (words : List ℕ) (offset declared : ℕ) (f : NamesFit text words offset declared) where
   -- names of two numbers are the same exactly if the numbers are

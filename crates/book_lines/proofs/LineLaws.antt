@@ -23,7 +23,7 @@ use Rattle.item_forms.specs.Places.{NextWord, NextName}
 use Rattle.item_forms.specs.Pieces.{behind, wordNext, onPiece, onPlace}
 use Rattle.item_forms.specs.Forms.{formOpens, formCloses}
 use Rattle.items.proofs.RestLaws.{rest-same, rest-nothing}
-use Rattle.item_forms.proofs.FormLaws.{line-form, form-word, form-end}
+use Rattle.item_forms.proofs.FormLaws.{pick-none, line-form, form-word, form-end}
 use Rattle.book_tables.specs.declared.NameRule.{NameRule}
 use Rattle.book_tables.specs.View.{kindIn}
 use Rattle.book_lines.specs.declared.Head.{Head}
@@ -67,10 +67,6 @@ module _ (within : Form) (line : Bytes) (from : ℕ) (r : ItemAt) (e : NextWord 
   headless h = form-word within true from line (within .inner) _ ∙ rw (sym (e .is) ∙ h)
 
 -- a reading after a word, which the rest of the line goes on with
-pick-none : {B : Type 0} (x : Bool) → pick {A = Maybe B} x nothing nothing ≡ nothing
-pick-none true = refl
-pick-none false = refl
-
 form-nothing : {B : Type 0} (within : Form) (free : Bool) (i : ℕ) (s : Bytes) → formAt {B = B} within free i s (λ is. nothing) ≡ nothing
 unfolding formAt
 form-nothing within free i s = rest-same (formDepth within) free i s _ _ (λ e is. pick-none (formEnds within s e)) ∙ rest-nothing (formDepth within) free i s

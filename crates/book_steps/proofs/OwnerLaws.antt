@@ -7,6 +7,7 @@ use native.Mathlib.Omega.{arith}
 use lib.ListN.{length}
 use lib.Dec.{leb, ltb, eqb}
 use borrow.Author.Tests.{ne-eqb, leb-false, ltb-false}
+use Rattle.logic.specs.Flags.{neither}
 use Rattle.logic.specs.Tests.{either, equal-or-not}
 use Rattle.model.specs.Bytes.{Bytes}
 use Rattle.model.specs.Choice.{pick, Maybe, nothing, just}
@@ -81,10 +82,6 @@ owner-fine there own full h = either (equal-or-not own 0)
 pub numbered-fault : (n : ℕ) → (n ≡ 0 → ⊥) → numbered n ≡ just n
 numbered-fault n h = rw (ne-eqb n 0 h)
 
-pub or-false : (a b : Bool) → (a || b) ≡ false → (a ≡ false) × (b ≡ false)
-or-false true b h = let z : _≡_ {A = ℕ} 0 1 = cc in absurd (omega arith)
-or-false false b h = (refl, h)
-
 module _ (text : Bytes) (words : List ℕ) (c : BookCounts) (fits : Fits text words c) (read : EntriesRead) (es : List Entry) where
   abbrev book : Book
   book = bookAt text words c
@@ -130,7 +127,7 @@ module _ (text : Bytes) (words : List ℕ) (c : BookCounts) (fits : Fits text wo
         (moreOwners Node c (read .count))
     node-fine z =
         let ok = owner-fine (ltb a (c .nodes)) (read .fault) full z in
-        let r = or-false (leb 256 (c .nodes)) (ltb 2048 (c .entries + read .count)) (ok .room) in
+        let r = neither (leb 256 (c .nodes)) (ltb 2048 (c .entries + read .count)) (ok .room) in
         let few = leb-false 256 (c .nodes) (r .0) in
         let q = ltb-false 2048 (c .entries + read .count) (r .1) in
         let k = after .count in
@@ -148,5 +145,5 @@ pub owner-room : (there : Bool) (own : ℕ) (full : Bool) (count limit total : �
     → ownerFault there own full ≡ 0 → full ≡ (leb limit count || ltb 2048 total) → (count < limit) × (total ≤ 2048)
 owner-room there own full count limit total z e =
     let ok = owner-fine there own full z in
-    let r = or-false (leb limit count) (ltb 2048 total) (sym e ∙ ok .room) in
+    let r = neither (leb limit count) (ltb 2048 total) (sym e ∙ ok .room) in
     (leb-false limit count (r .0), ltb-false 2048 total (r .1))

@@ -6,6 +6,7 @@ use mathlib.Core.Bool.{Bool, true, false, not, _||_, _&&_}
 use native.Mathlib.Omega.{arith}
 use lib.Dec.{leb, ltb}
 use borrow.Author.Tests.{lt-ltb, le-ltb, leb-false, ltb-false}
+use Rattle.logic.specs.Flags.{neither}
 use Rattle.model.specs.Bytes.{Bytes}
 use Rattle.model.specs.Lists.{all}
 use Rattle.model.specs.Names.{mem, twice, place}
@@ -30,7 +31,7 @@ use Rattle.book_entries.specs.Faults.{entriesFault}
 use Rattle.book_entries.specs.Known.{EntriesKnown}
 use Rattle.book_steps.specs.Steps.{faultBy, stepOf, ownerFault}
 use Rattle.book_steps.proofs.StepLaws.{step-fault, step-added}
-use Rattle.book_steps.proofs.OwnerLaws.{numbered, table, owner-fine, numbered-fault, or-false, holds, rels-count, node-mem}
+use Rattle.book_steps.proofs.OwnerLaws.{numbered, table, owner-fine, numbered-fault, holds, rels-count, node-mem}
 
 -- one of three names is missing
 some-missing : (a b c u : Bool) → (a && b && c) ≡ false → (not a || not b || not c || u) ≡ true
@@ -117,7 +118,7 @@ module _ (rule : NameRule) (text : Bytes) (words : List ℕ) (c : BookCounts) (f
           × Fits text (withOwner words c Relationship (l * 65536 + x * 256 + y) x (read .count)) (moreOwners Relationship c (read .count))
       rel-fine z =
           let ok = owner-fine there (read .fault) full z in
-          let r = or-false (leb 1024 (c .relationships)) (ltb 2048 (c .entries + read .count)) (ok .room) in
+          let r = neither (leb 1024 (c .relationships)) (ltb 2048 (c .entries + read .count)) (ok .room) in
           let few = leb-false 1024 (c .relationships) (r .0) in
           let q = ltb-false 2048 (c .entries + read .count) (r .1) in
           let k = after .count in

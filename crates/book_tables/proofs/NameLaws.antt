@@ -7,12 +7,13 @@ use native.Mathlib.Omega.{arith}
 use lib.ListN.{length, take, drop}
 use lib.Dec.{T, ltb}
 use borrow.Author.Tests.{lt-ltb, le-ltb}
+pub use Rattle.compare.proofs.CompareLaws.{same-equal}
 use Rattle.logic.specs.Tests.{either, equal-or-not, below-or-not, passes→true}
 use Rattle.model.specs.Bytes.{Bytes, same}
 use Rattle.model.specs.Lists.{any, placeWhere}
 use Rattle.model.specs.Names.{mem, place}
 use Rattle.model.specs.Answers.{partOf}
-use Rattle.model.proofs.Decides.{same→eq, same-refl}
+use Rattle.model.proofs.Decides.{same-refl}
 use Rattle.book_tables.specs.Listed.{listed}
 use Rattle.model.specs.Book.{attrNames, nodeNames}
 use Rattle.book_tables.specs.declared.BookCounts.{BookCounts}
@@ -28,9 +29,6 @@ true→T b e = subst T (sym e) tt
 -- the same bytes
 pub equal-same : (a b : Bytes) → a ≡ b → same a b ≡ true
 equal-same a b e = rw e (passes→true (same b b) (same-refl b))
-
-pub same-equal : (a b : Bytes) → same a b ≡ true → a ≡ b
-same-equal a b e = same→eq a b (true→T (same a b) e)
 
 -- a name is in a list exactly if its place is inside
 pub mem-place : (w : Bytes) (ws : List Bytes) → mem w ws ≡ ltb (place w ws) (length ws)

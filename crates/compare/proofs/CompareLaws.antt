@@ -2,11 +2,12 @@
 use Prim.Native.Nat.{ℕ, zero, suc, _+_, _≤_, _<_}
 use mathlib.Core.Path.{_≡_, refl, ap, _∙_}
 use mathlib.Core.List.{[], _∷_}
-use mathlib.Core.Bool.{Bool, true, false, not, _&&_, _||_}
+use mathlib.Core.Bool.{Bool, true, false, not, _&&_}
 use native.Mathlib.Omega.{arith}
 use lib.ListN.{length, getD, drop}
 use lib.Dec.{ltb, eqb}
 use borrow.Author.Tests.{eq-eqb, ne-eqb, lt-ltb, le-ltb, ltb-false}
+use Rattle.logic.specs.Flags.{neither}
 use Rattle.logic.specs.Lists.{drop-at, drop-end}
 use Rattle.model.specs.Bytes.{Bytes, bytesOf, same}
 use Rattle.model.specs.Choice.{pick, Maybe, nothing, just}
@@ -142,12 +143,6 @@ same-firsts [] [] l e = absurd (omega (arith, l))
 same-firsts [] (y ∷ b) l e = refl
 same-firsts (x ∷ a) [] l e = refl
 same-firsts (x ∷ a) (y ∷ b) l e = rw e refl
-
--- neither of two tests holds
-neither : (a b : Bool) → a || b ≡ false → (a ≡ false) × (b ≡ false)
-neither false false h = (refl, refl)
-neither false true h = let z : _≡_ {A = ℕ} 0 1 = cc in absurd (omega arith)
-neither true b h = let z : _≡_ {A = ℕ} 0 1 = cc in absurd (omega arith)
 
 -- a word with another first byte than the six is none of them
 pub name-by-first : (w : Bytes) → beginsOneOfSix (getD w 0 0) ≡ false → true ≡ not (mem w neverNames)

@@ -32,7 +32,7 @@ use Rattle.item_forms.proofs.ItemLaws.{no-items}
 use Rattle.item_forms.proofs.PieceTests.{word-depth, name-depth}
 use Rattle.item_forms.proofs.PieceLaws.{first-word, first-quoted, first-name, first-list, each-list, end-next}
 
-pick-none : {B : Type 0} (x : Bool) → pick {A = Maybe B} x nothing nothing ≡ nothing
+pub pick-none : {B : Type 0} (x : Bool) → pick {A = Maybe B} x nothing nothing ≡ nothing
 pick-none true = refl
 pick-none false = refl
 

@@ -8,6 +8,7 @@ use native.Mathlib.Omega.{arith}
 use lib.ListN.{length, drop}
 use lib.Dec.{ltb, eqb}
 use borrow.Author.Tests.{eq-eqb, ne-eqb, lt-ltb, le-ltb, eqb-true, eqb-false}
+use Rattle.logic.specs.Flags.{or-false}
 use Rattle.model.specs.Bytes.{Bytes}
 use Rattle.model.specs.Choice.{pick, Maybe, nothing, just, andThen}
 use Rattle.model.specs.Words.{Got}
@@ -46,10 +47,6 @@ module _ (free : Bool) (s : Bytes) (i p : ℕ) (e : p ≡ past isSpace s i) wher
 or-true : (x : Bool) → (x || true) ≡ true
 or-true true = refl
 or-true false = refl
-
-or-false : (x : Bool) → (x || false) ≡ x
-or-false true = refl
-or-false false = refl
 
 module _ {B : Type 0} (d : ℕ) (s : Bytes) (f : ℕ → List Item → Maybe B) where
   -- spaces are passed over

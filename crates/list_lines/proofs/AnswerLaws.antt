@@ -20,7 +20,7 @@ use Rattle.model.specs.declared.RowsListed.the-variants as listed
 use Rattle.model.proofs.Outcomes.{never}
 use Rattle.model.specs.Refused.{rowsFor}
 use Rattle.model.specs.RowOrder.{Ascending, NoneTwice}
-use Rattle.model.proofs.Refusals.{list-given}
+use Rattle.model.proofs.Refusals.{same-accepted, list-given}
 use Rattle.model.proofs.Members.{_∈_}
 use Rattle.model.proofs.Ascending.{rows-ascend, ascending-none-twice, rows-are-rows}
 use Rattle.rows.specs.Buffer.{rowsIn, flat, Wide}
@@ -45,9 +45,6 @@ joined-flat : (rows : List (List ℕ)) → joined (λ row. row) rows ≡ flat ro
 unfolding joined flat
 joined-flat [] = refl
 joined-flat (row ∷ rows) = ap (λ (l : List ℕ). row ++ l) (joined-flat rows)
-
-same-accepted : (a c : ListAnswer) → _≡_ {A = Outcome ListAnswer} (accepted a) (accepted c) → a ≡ c
-same-accepted a c e = cc
 
 module _ (book rules query request : Bytes) where
   abbrev found : Outcome FoundRows

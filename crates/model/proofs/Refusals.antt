@@ -239,7 +239,7 @@ within : {A : Type 0} (m n : ℕ) (g : Refusal) (o : Outcome A) (a : A) → pick
 within m n g o a e = ⊎-elim (λ t. never g a (rw (is-true (ltb m n) t) at e)) (λ t. (nltb→le m n (not-T (ltb m n) t), rw (is-false (ltb m n) t) at e))
     (test (ltb m n))
 
-same-accepted : {A : Type 0} (a c : A) → _≡_ {A = Outcome A} (accepted a) (accepted c) → a ≡ c
+pub same-accepted : {A : Type 0} (a c : A) → _≡_ {A = Outcome A} (accepted a) (accepted c) → a ≡ c
 same-accepted a c e = cc
 
 -- a list that is accepted is so given

@@ -1,26 +1,19 @@
 -- The identities of a request that was read: their actors lie in its text, and no more are counted than there are slots. Assumes nothing.
-use Prim.Native.Nat.{ℕ, suc, _-_}
-use mathlib.Core.Path.{_≡_, refl, sym, ap, subst, _∙_}
-use mathlib.Core.List.{List, [], _∷_}
+use Prim.Native.Nat.{ℕ, _-_}
+use mathlib.Core.Path.{_≡_, sym, ap, subst, _∙_}
+use mathlib.Core.List.{[]}
 use mathlib.Core.Bool.{false}
 use native.Mathlib.Omega.{arith}
 use lib.ListN.{length, drop, replicate, length-append, length-replicate}
+use Rattle.request.proofs.StoreLaws.{placed-length}
 use Rattle.model.specs.Bytes.{Bytes}
-use Rattle.model.specs.Request.{Identity}
 use Rattle.model.specs.Refusal.{Outcome, accepted, refused}
 use Rattle.model.specs.Service.{RequestAnswer, requestService}
 use Rattle.model.specs.RequestPlaces.{wordsFrom, noIdentity, placedBy, identityPlaces, slots}
 use Rattle.model.specs.RequestAnswer.{toldRequest, requestRead}
-use Rattle.model.specs.declared.Part.{Part}
 use Rattle.model.specs.declared.RequestRead.{RequestRead}
 use Rattle.enforce.proofs.IdentityLaws.{actor-inside}
 use Rattle.print_answers.specs.Identities.{IdentitiesInside}
-
--- each identity has its place
-placed-length : (words : List Part) (is : List Identity) → length (placedBy words is) ≡ length is
-unfolding placedBy
-placed-length words [] = refl
-placed-length words (x ∷ is) = ap suc (placed-length (drop 3 words) is)
 
 told-inside : (text : Bytes) (o : Outcome RequestAnswer) → length (toldRequest text o .identities) ≡ 8
     → IdentitiesInside text (toldRequest text o .identities) (toldRequest text o .count)

@@ -5,8 +5,9 @@ use mathlib.Core.Bool.{Bool, true, false, _||_}
 use native.Mathlib.Omega.{arith}
 use lib.ListN.{length}
 use lib.Dec.{ltb, nltb→le}
+use Rattle.model.proofs.Refusals.{same-accepted}
 use Rattle.model.specs.Bytes.{Bytes}
-use Rattle.model.specs.Refusal.{Outcome, accepted, refusal}
+use Rattle.model.specs.Refusal.{accepted, refusal}
 use Rattle.model.specs.ReadBook.{readBook}
 use Rattle.model.specs.ReadRules.{readRules}
 use Rattle.model.specs.ReadQuery.{readQuery}
@@ -21,9 +22,6 @@ use Rattle.model.proofs.Outcomes.{accept-e, else-e}
 first-false : (a b : Bool) → (a || b) ≡ false → a ≡ false
 first-false true b e = e
 first-false false b e = refl
-
-same-accepted : {A : Type 0} (a c : A) → _≡_ {A = Outcome A} (accepted a) (accepted c) → a ≡ c
-same-accepted a c e = cc
 
 -- a text that is given fits its room
 text-fits : (work room : ℕ) (book rules query t : Bytes) → writerText work room book rules query ≡ accepted t → length t ≤ room

@@ -7,6 +7,7 @@ use native.Mathlib.Omega.{arith}
 use lib.ListN.{length, drop}
 use lib.Dec.{ltb}
 use borrow.Author.Tests.{lt-ltb, ltb-false}
+use Rattle.logic.specs.Flags.{neither}
 use Rattle.logic.specs.Tests.{either, below-or-not}
 use Rattle.model.specs.Bytes.{Bytes}
 use Rattle.model.specs.Choice.{pick}
@@ -24,10 +25,6 @@ past-limit limit room n h = rw (lt-ltb limit n h) (go (ltb room n))
     go false = refl
 
 -- within both
-neither : (a b : Bool) → (a || b) ≡ false → (a ≡ false) × (b ≡ false)
-neither true b e = (e, let z : _≡_ {A = Bool} true false = e in cc)
-neither false b e = (refl, e)
-
 module _ {o t o′ : Bytes} {n limit : ℕ} (put : Puts o 0 t o′ n) (counted : limit < lastPlace) where
   -- the place that the text ends at tells whether it is too long
   told : (room : ℕ) → tooLong limit room n ≡ tooLong limit room (length t)

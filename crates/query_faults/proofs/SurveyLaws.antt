@@ -18,7 +18,7 @@ use Rattle.query_pieces.specs.Faults.{Test, someWhere, undeclaredAt, twiceAt, m
 use Rattle.query_pieces.specs.Steps.{walkAt}
 use Rattle.query_pieces.proofs.Trees.{returns-same}
 use Rattle.model.proofs.Places.{joined-append, joined-end}
-use Rattle.query_pieces.proofs.Tests.{mem-firsts, vertex-names, edge-names, twice-found}
+use Rattle.query_pieces.proofs.Tests.{any-same, mem-firsts, vertex-names, edge-names, twice-found}
 use Rattle.logic.specs.Tests.{below-or-not}
 use mathlib.Core.Logic.{⊎-elim}
 use borrow.Author.Tests.{eq-eqb, ne-eqb, lt-ltb, le-ltb}
@@ -218,11 +218,6 @@ repeats-behind done (p ∷ ps) =
     go : (x y z : Bool) → pick x true (pick y true z) ≡ pick (pick x true y) true z
     go true y z = refl
     go false y z = refl
-
-any-same : {A : Type 0} (f g : A → Bool) → ((x : A) → f x ≡ g x) → (l : List A) → any f l ≡ any g l
-unfolding any
-any-same f g h [] = refl
-any-same f g h (x ∷ l) = rw (h x, any-same f g h l)
 
 module _ (ps : List Piece) (h : Ordered atStart ps) where
   undeclared-same : (b : Book) → someWhere (undeclaredBy b) [] ps ≡ someWhere (undeclaredAt b ps) [] ps

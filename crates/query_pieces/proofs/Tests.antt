@@ -128,7 +128,7 @@ itself-behind done (comes e l u ∷ ps) = itself-behind (done ++ (comes e l u �
 itself-behind done (asks c ∷ ps) = ap (pick (fromItself c) true) (itself-behind (done ++ (asks c ∷ [])) ps)
 itself-behind done (returns u ∷ ps) = itself-behind (done ++ (returns u ∷ [])) ps
 
-any-same : {A : Type 0} (f g : A → Bool) → ((x : A) → f x ≡ g x) → (l : List A) → any f l ≡ any g l
+pub any-same : {A : Type 0} (f g : A → Bool) → ((x : A) → f x ≡ g x) → (l : List A) → any f l ≡ any g l
 unfolding any
 any-same f g h [] = refl
 any-same f g h (x ∷ l) = rw (h x, any-same f g h l)

@@ -81,10 +81,6 @@ next-then {A} r (t ∷ ts) f = go (r t)
     go nothing = refl
     go (just a) = refl
 
-and-true : (a : Bool) → (a && true) ≡ a
-and-true true = refl
-and-true false = refl
-
 -- a mark does not end a chain
 chain-mark : (chain : Bool) (m : Bytes) → chainBehind chain (mark m) ≡ chain
 unfolding chainBehind isWord

@@ -9,6 +9,7 @@ use lib.ListN.{length, drop}
 use lib.Seq.{drop-drop}
 use lib.Dec.{eqb, leb, ltb}
 use borrow.Author.Tests.{eq-eqb, ne-eqb}
+pub use Rattle.logic.specs.Flags.{and-false, and-true}
 use Rattle.model.specs.Bytes.{Bytes}
 use Rattle.model.specs.Choice.{pick, Maybe, nothing, just, andThen}
 use Rattle.model.specs.Lists.{isNil}
@@ -32,14 +33,6 @@ use Rattle.query_signs.specs.declared.Sign.the-variants as sign
 use Rattle.query_signs.specs.declared.SignRead.{SignRead}
 use Rattle.query_signs.specs.declared.SignRead.the-variants as read
 use Rattle.query_signs.specs.Reads.{isBlank, isWordy, signOf, gotOf, signsFrom, first, firstOf}
-
-pub and-false : (a : Bool) → (a && false) ≡ false
-and-false true = refl
-and-false false = refl
-
-pub and-true : (a : Bool) → (a && true) ≡ a
-and-true true = refl
-and-true false = refl
 
 -- blanks before a sign part it from a word or number before it
 signs-blanks : (chain close : Bool) (t : Bytes) → signs chain close 0 t ≡ signs chain (close && isNil (run isBlank t)) 0 (drop (length (run isBlank t)) t)

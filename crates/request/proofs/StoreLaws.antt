@@ -39,7 +39,7 @@ use Rattle.request.proofs.ClaimLaws.{claim-step, claims-done, claims-ov
 use Rattle.request.proofs.FaultLaws.{any-none, any-found, any-other, any-behind, few-claims}
 
 -- as many are placed as there are
-placed-length : (words : List Part) (is : List Identity) → length (placedBy words is) ≡ length is
+pub placed-length : (words : List Part) (is : List Identity) → length (placedBy words is) ≡ length is
 unfolding placedBy
 placed-length words [] = refl
 placed-length words (i ∷ is) = ap suc (placed-length (drop 3 words) is)

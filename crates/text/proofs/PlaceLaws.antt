@@ -1,28 +1,22 @@
 -- Laws of places: the byte at a place, the text from a place on, and where a run of bytes ends.
 use Prim.Native.Nat.{ℕ, zero, suc, _+_, _-_, _≤_, _<_}
 use mathlib.Core.Path.{_≡_, refl, sym, ap, _∙_}
-use mathlib.Core.Logic.{_⊎_, inl, inr, ⊎-elim}
+use mathlib.Core.Logic.{_⊎_, ⊎-elim}
 use mathlib.Core.List.{[], _∷_}
-use mathlib.Core.Bool.{Bool, true, false, not, _||_}
+use mathlib.Core.Bool.{Bool, true, false, not}
 use native.Mathlib.Numerals.{add-one}
 use native.Mathlib.Omega.{arith}
 use lib.ListN.{length, getD, take, drop, drop-of-length-le, List·getD-eq-default, length-drop}
 use lib.Seq.{drop-cons, drop-drop, getD-drop, take-nil, take-take, length-take-le}
-use lib.Dec.{ltb, eqb}
-use borrow.Author.Tests.{ltb-true, ltb-false}
+use lib.Dec.{eqb}
+pub use Rattle.logic.specs.Tests.{below-or-not}
 pub use Rattle.logic.specs.Lists.{drop-at, drop-end}
+use Rattle.logic.specs.Flags.{neither}
 use Rattle.model.specs.Bytes.{Bytes}
 use Rattle.model.specs.Choice.{pick}
 use Rattle.model.specs.Words.{run}
 use Rattle.model.specs.Answers.{partOf}
 use Rattle.text.specs.Places.{peekAt, past, isOther, hasNear}
-
-pub below-or-not : (a b : ℕ) → (a < b) ⊎ (b ≤ a)
-below-or-not a b = go (ltb a b) refl
-  where
-    go : (t : Bool) → ltb a b ≡ t → (a < b) ⊎ (b ≤ a)
-    go true e = inl (ltb-true a b e)
-    go false e = inr (ltb-false a b e)
 
 pub peek-end : (s : Bytes) (i : ℕ) → length s ≤ i → peekAt s i ≡ 256
 peek-end s i h = List·getD-eq-default s 256 h
@@ -154,10 +148,6 @@ module _ (p : ℕ → Bool) (s : Bytes) (i : ℕ) where
   pub past-stops : past p s i < length s → p (getD s (past p s i) 0) ≡ false
   unfolding past
   past-stops h = rw (← getD-drop) (run-stops-in p (drop i s) (omega (arith, length-drop i s)))
-
-neither : (x y : Bool) → (x || y) ≡ false → (x ≡ false) × (y ≡ false)
-neither false y e = (refl, e)
-neither true y e = let z : _≡_ {A = ℕ} 0 1 = cc in absurd (omega arith)
 
 -- a run of other bytes goes on over bytes that are not the byte
 pub past-none : (s : Bytes) (i byte n : ℕ) → i + n < length s → hasNear s i byte n ≡ false → past (isOther byte) s i ≡ past (isOther byte) s (i + suc n)

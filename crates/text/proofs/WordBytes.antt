@@ -7,6 +7,7 @@ use native.Mathlib.Omega.{arith}
 use lib.Bits.{bitAnd}
 use lib.Dec.{T, ltb, eqb}
 use borrow.Author.Tests.{lt-ltb, le-ltb}
+use Rattle.logic.specs.Tests.{and-left, and-right}
 use Rattle.model.specs.Words.{isWordByte, isLetter, isDigit, between}
 
 -- a byte's bit among those of its half of the bytes below 128
@@ -19,14 +20,6 @@ bitsOf b = cond (ltb b 64) 287948901175001088 576460745995190270
 abbrev agree : Bool → Bool → Bool
 agree true b = b
 agree false b = not b
-
-and-left : (a b : Bool) → T (a && b) → T a
-and-left true b t = tt
-and-left false b t = t
-
-and-right : (a b : Bool) → T (a && b) → T b
-and-right true b t = t
-and-right false b t = absurd t
 
 agree→same : (a b : Bool) → T (agree a b) → a ≡ b
 agree→same true true t = refl
