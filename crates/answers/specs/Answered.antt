@@ -6,8 +6,8 @@ use Rattle.model.specs.declared.BookRead.{BookRead}
 use Rattle.model.specs.declared.BookRead.the-variants as book
 use Rattle.model.specs.declared.RulesRead.{RulesRead}
 use Rattle.model.specs.declared.RulesRead.the-variants as rules
-use Rattle.model.specs.declared.QueryWritten.{QueryWritten}
-use Rattle.model.specs.declared.QueryWritten.the-variants as query
+use Rattle.model.specs.declared.TextWritten.{TextWritten}
+use Rattle.model.specs.declared.TextWritten.the-variants as query
 use Rattle.putting.specs.declared.Written.{Written}
 use Rattle.putting.specs.declared.Written.the-variants as written
 
@@ -22,6 +22,6 @@ rulesAnswered verdict.Accepted categories policies = rules.Counts categories pol
 rulesAnswered (verdict.Refused r) categories policies = rules.Refused r
 
 -- the length of what is written, or 14 of the query's line
-abbrev pub writerAnswered : Written → QueryWritten
+abbrev pub writerAnswered : Written → TextWritten
 writerAnswered (written.Length n) = query.Length n
 writerAnswered written.TooLong = query.Refused (record { number = 14; text = 3; line = 1 })

@@ -2,9 +2,9 @@
 ghost use mathlib.Core.Path.{_≡_};
 ghost use Rattle.answers.specs.Answered.{bookAnswered, rulesAnswered, writerAnswered};
 use model::BookRead;
-use model::QueryWritten;
 use model::Refusal;
 use model::RulesRead;
+use model::TextWritten;
 use model::Verdict;
 use model::refusal_numbers::NO_ROOM;
 use model::refusal_numbers::QUERY;
@@ -32,12 +32,12 @@ pub fn of_rules(verdict: Verdict, categories: usize, policies: usize) -> RulesRe
 }
 
 // What the service that writes a query answers where the query is accepted: the written text may be too long.
-pub fn of_written(written: Written) -> QueryWritten
+pub fn of_written(written: Written) -> TextWritten
     ensures { λ r. ⌜ r ≡ writerAnswered written ⌝ }
 {
     match written {
-        Written::Length(length) => QueryWritten::Length(length),
-        Written::TooLong => QueryWritten::Refused(Refusal {
+        Written::Length(length) => TextWritten::Length(length),
+        Written::TooLong => TextWritten::Refused(Refusal {
             number: NO_ROOM,
             text: QUERY,
             line: QUERY_LINE,

@@ -30,8 +30,8 @@ use Rattle.model.specs.declared.RulesRead.{RulesRead}
 use Rattle.model.specs.declared.RulesRead.the-variants as rules
 use Rattle.model.specs.declared.QueryRead.{QueryRead}
 use Rattle.model.specs.declared.RequestRead.{RequestRead}
-use Rattle.model.specs.declared.QueryWritten.{QueryWritten}
-use Rattle.model.specs.declared.QueryWritten.the-variants as written
+use Rattle.model.specs.declared.TextWritten.{TextWritten}
+use Rattle.model.specs.declared.TextWritten.the-variants as written
 use Rattle.model.specs.declared.RowsListed.{RowsListed}
 use Rattle.model.specs.declared.RowsListed.the-variants as listed
 
@@ -112,8 +112,8 @@ identityIn text i = record { actor = nameAt text (i .actor); node = i .node }
 unfoldable pub requestAnswer : Bytes → RequestRead → Outcome RequestAnswer
 requestAnswer text r = verdictOf (r .verdict) (record { category = r .category; identities = map (identityIn text) (take (r .count) (r .identities)) })
 
--- what the query writer answers
-unfoldable pub writerAnswer : QueryWritten → Outcome ℕ
+-- what a writer of a text answers
+unfoldable pub writerAnswer : TextWritten → Outcome ℕ
 writerAnswer (written.Length n) = accepted n
 writerAnswer (written.Refused r) = refused (refusalOf r)
 

@@ -122,8 +122,8 @@ pub struct RequestRead {
     pub count: usize,
 }
 
-// What the query writer gives: the length in bytes, or a refusal.
-pub enum QueryWritten {
+// What a writer of a text gives: the length in bytes, or a refusal.
+pub enum TextWritten {
     Length(usize),
     Refused(Refusal),
 }

@@ -15,8 +15,8 @@ use Rattle.model.specs.Pattern.{patternOf}
 use Rattle.model.specs.Writing.{writtenQuery}
 use Rattle.model.specs.Service.{withWork, writerText, writerService}
 use Rattle.model.specs.Answers.{writerAnswer}
-use Rattle.model.specs.declared.QueryWritten.{QueryWritten}
-use Rattle.model.specs.declared.QueryWritten.the-variants as written
+use Rattle.model.specs.declared.TextWritten.{TextWritten}
+use Rattle.model.specs.declared.TextWritten.the-variants as written
 use Rattle.model.proofs.Outcomes.{accept-e, else-e}
 
 first-false : (a b : Bool) → (a || b) ≡ false → a ≡ false
@@ -37,7 +37,7 @@ text-fits work room book rules query t e =
     subst (λ (x : Bytes). length x ≤ room) same (nltb→le room (length u) (rw (first-false (ltb room (length u)) _ (l .0)) tt))
 
 -- the length that is answered is within the buffer
-pub written-inside : (work : ℕ) (buffer book rules query : Bytes) (res : QueryWritten) (n : ℕ) → res ≡ written.Length n
+pub written-inside : (work : ℕ) (buffer book rules query : Bytes) (res : TextWritten) (n : ℕ) → res ≡ written.Length n
     → writerAnswer res ≡ writerService work buffer book rules query .answer → n ≤ length buffer
 unfolding writerService writerAnswer
 written-inside work buffer book rules query res n e a =

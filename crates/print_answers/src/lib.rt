@@ -5,10 +5,10 @@ ghost use Rattle.print_answers.specs.Identities.{IdentitiesInside};
 use libc::STDOUT_FILENO;
 use model::BookRead;
 use model::Identity;
-use model::QueryWritten;
 use model::Refusal;
 use model::RequestRead;
 use model::RulesRead;
+use model::TextWritten;
 use model::Verdict;
 use model::limits::MAX_IDENTITIES;
 use model::limits::MAX_QUERY_BYTES;
@@ -105,11 +105,11 @@ pub fn print_written(book: &[u8], rules: &[u8], query: &[u8]) {
     let mut work = [0u32; WORK_WORDS];
     let mut text = [0u8; MAX_QUERY_BYTES];
     match service::write_query(book, rules, query, &mut text, &mut work) {
-        QueryWritten::Length(length) => {
+        TextWritten::Length(length) => {
             program_io::print_front(&text, length);
             io::write_all(STDOUT_FILENO, b"\n");
         }
-        QueryWritten::Refused(refusal) => print_refused(b"write ", refusal),
+        TextWritten::Refused(refusal) => print_refused(b"write ", refusal),
     }
 }
 

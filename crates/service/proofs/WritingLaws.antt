@@ -15,8 +15,8 @@ use Rattle.model.specs.Answers.{refusalOf, patternIn, writerAnswer}
 use Rattle.model.specs.declared.Refusal.{Refusal as RefusalData}
 use Rattle.model.specs.declared.Verdict.the-variants.{Accepted, Refused}
 use Rattle.model.specs.declared.Pattern.{Pattern as PatternData}
-use Rattle.model.specs.declared.QueryWritten.{QueryWritten}
-use Rattle.model.specs.declared.QueryWritten.the-variants as answer
+use Rattle.model.specs.declared.TextWritten.{TextWritten}
+use Rattle.model.specs.declared.TextWritten.the-variants as answer
 use Rattle.model.proofs.AcceptedQuery.{query-accepted}
 use Rattle.book_tables.specs.View.{bookAt}
 use Rattle.rules_tables.specs.View.{treeOf}
@@ -47,10 +47,10 @@ module _ (work : ℕ) (text book rules query request : Bytes) (words table : Lis
   of-texts t = fitting (writtenQuery (patternOf (t .query)))
 
   -- an answer and a buffer are the service's
-  abbrev WriterSays : Bytes → QueryWritten → Type 0
+  abbrev WriterSays : Bytes → TextWritten → Type 0
   WriterSays text′ w = (writerAnswer w ≡ writerService work text book rules query .answer) × (text′ ≡ writerService work text book rules query .text)
 
-  says : (o : Outcome Bytes) → through needed work book rules query request of-texts ≡ o → (text′ : Bytes) (w : QueryWritten)
+  says : (o : Outcome Bytes) → through needed work book rules query request of-texts ≡ o → (text′ : Bytes) (w : TextWritten)
       → writerAnswer w ≡ onAccept o (λ t. accepted (length t)) → text′ ≡ onto o text → WriterSays text′ w
   unfolding writerService writerText through afterBook afterRules onAccept
   says o e text′ w f g = (f ∙ ap (λ (z : Outcome Bytes). onAccept z (λ t. accepted (length t))) (sym e), g ∙ ap (λ (z : Outcome Bytes). onto z text) (sym e))
@@ -81,7 +81,7 @@ module _ (work : ℕ) (text book rules query request : Bytes) (words table : Lis
           ∙ ap (λ (t : Bytes). fitting t) (ap writtenQuery (sym (read .is (treeOf query) (query-accepted b query (treeOf query) (all .query-read) .is-text))))
 
       module _ (text′ : Bytes) (w : Written) (writes : Writes 2048 written text text′ w) where
-        pub wrote : (a : QueryWritten) → a ≡ writerAnswered w → WriterSays text′ a
+        pub wrote : (a : TextWritten) → a ≡ writerAnswered w → WriterSays text′ a
         unfolding writerAnswer onAccept onto refusal refusalOf
         wrote a is = go (tooLong 2048 (length text) (length written)) fits-as (is ∙ ap writerAnswered (writes .answer)) (writes .text)
           where

@@ -9,9 +9,9 @@ ghost use Rattle.model.specs.RequestAnswer.{requestRead};
 ghost use Rattle.model.specs.WholeAnswers.{queryRead};
 use model::BookRead;
 use model::QueryRead;
-use model::QueryWritten;
 use model::RequestRead;
 use model::RulesRead;
+use model::TextWritten;
 use model::Verdict;
 use prepare::Needs;
 use prepare::clear;
@@ -110,7 +110,7 @@ pub fn write_query(
     query: &[u8],
     text: &mut [u8],
     work: &mut [u32],
-) -> QueryWritten
+) -> TextWritten
     ensures answer { λ r. ⌜ writerAnswer r ≡ writerService (length (now (work .entry))) (now (text .entry)) (now (book .entry)) (now (rules .entry))
         (now (query .entry)) .answer ⌝ }
     ensures text { λ _. ⌜ now (text .exit) ≡ writerService (length (now (work .entry))) (now (text .entry)) (now (book .entry)) (now (rules .entry))
@@ -128,7 +128,7 @@ pub fn write_query(
     let verdict = request.verdict;
     if let Verdict::Refused(refusal) = verdict {
         clear(work);
-        return QueryWritten::Refused(refusal);
+        return TextWritten::Refused(refusal);
     }
     let counts = ready.book;
     let pattern = pattern::pattern_of(book, work, counts, query);

@@ -9,8 +9,8 @@ use Rattle.model.specs.declared.BookRead.the-variants as book
 use Rattle.model.specs.declared.RulesRead.{RulesRead}
 use Rattle.model.specs.declared.RulesRead.the-variants as rules
 use Rattle.model.specs.declared.Verdict.the-variants as verdict
-use Rattle.model.specs.declared.QueryWritten.{QueryWritten}
-use Rattle.model.specs.declared.QueryWritten.the-variants as written
+use Rattle.model.specs.declared.TextWritten.{TextWritten}
+use Rattle.model.specs.declared.TextWritten.the-variants as written
 use Rattle.model.specs.declared.RowsListed.{RowsListed}
 use Rattle.model.specs.declared.RowsListed.the-variants as listed
 use Rattle.telling.specs.Told.{VerdictTold, BookTold, NamesTold, RulesTold, CountTold, RowsTold}
@@ -62,7 +62,7 @@ module _ {b : Bool} {x t l : ℕ} where
         record { told-as = refused-told q e w; categories = refused-value q e (λ a. a .categories); policies = refused-value q e (λ a. a .policies) }
 
   -- a written query
-  module _ (r : QueryWritten) where
+  module _ (r : TextWritten) where
     pub written-accepted : {n : ℕ} → r ≡ written.Length n → VerdictTold verdict.Accepted b x t l → CountTold (writerAnswer r) b n x t l
     unfolding writerAnswer
     written-accepted h w = let e = sym (ap writerAnswer h) in record { told-as = accepted-told e w; count = accepted-value e (λ a. a) }

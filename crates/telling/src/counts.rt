@@ -3,9 +3,9 @@ ghost use Rattle.model.specs.Answers.{bookAnswer, rulesAnswer, writerAnswer, li
 ghost use Rattle.telling.specs.Told.{BookTold, NamesTold, RulesTold, CountTold, RowsTold};
 use crate::tell;
 use model::BookRead;
-use model::QueryWritten;
 use model::RowsListed;
 use model::RulesRead;
+use model::TextWritten;
 use model::Verdict;
 
 // Tells what reading a book answers.
@@ -87,7 +87,7 @@ pub fn tell_rules(
 
 // Tells how long a written query is.
 pub fn tell_length(
-    written: QueryWritten,
+    written: TextWritten,
     size: &mut usize,
     number: &mut u32,
     text: &mut u32,
@@ -96,11 +96,11 @@ pub fn tell_length(
     ensures { λ r. ⌜ CountTold (writerAnswer written) r (now (size .exit)) (now (number .exit)) (now (text .exit)) (now (line .exit)) ⌝ }
 {
     match written {
-        QueryWritten::Length(n) => {
+        TextWritten::Length(n) => {
             *size = n;
             return tell(Verdict::Accepted, number, text, line);
         }
-        QueryWritten::Refused(refusal) => {
+        TextWritten::Refused(refusal) => {
             *size = 0;
             return tell(Verdict::Refused(refusal), number, text, line);
         }
