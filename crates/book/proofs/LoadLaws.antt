@@ -1,6 +1,6 @@
 -- A book of no lines, and what a line of a book gives.
 use Prim.Native.Nat.{ℕ, _+_, _-_, _≤_, _<_}
-use mathlib.Core.Path.{_≡_, refl, sym, ap, _∙_, subst, fun-ext}
+use mathlib.Core.Path.{_≡_, refl, sym, ap, _∙_, subst}
 use mathlib.Core.List.{List}
 use native.Mathlib.Omega.{arith}
 use lib.ListN.{length, take, drop, length-drop}
@@ -9,14 +9,12 @@ use borrow.Author.Tests.{lt-ltb, le-ltb}
 use Rattle.model.specs.Bytes.{Bytes}
 use Rattle.model.specs.Choice.{andThen}
 use Rattle.model.specs.Lists.{sum}
-use Rattle.model.specs.Limits.{maxBookBytes}
-use Rattle.model.specs.Lines.{Line, Step, fault, known, faultOr, formStep, readLines, linesOf, bytesFirst}
-use Rattle.model.specs.Names.{mem}
+use Rattle.model.specs.Lines.{Step, fault, known, formStep}
 use Rattle.model.specs.Items.{lineItems}
 use Rattle.model.specs.Forms.{formOf}
 use Rattle.model.specs.Book.{Book, emptyBook, entryCount}
-use Rattle.model.specs.BookLines.{BookLine, vattr, eattr, label, node, rel, bookLine}
-use Rattle.model.specs.ReadBook.{nodeFault, lineFault, addLine, bookStep, readBook}
+use Rattle.model.specs.BookLines.{bookLine}
+use Rattle.model.specs.ReadBook.{bookStep}
 use Rattle.model.specs.Answers.{partOf}
 use Rattle.model.specs.Service.{ones}
 use Rattle.text.specs.Lines.{lineAt}
@@ -24,8 +22,7 @@ use Rattle.chains.specs.Chains.{cleared}
 use Rattle.chains.proofs.ChainLaws.{length-cleared, cleared-before, cleared-chained, chained-kept}
 use Rattle.book_tables.specs.declared.BookCounts.{BookCounts}
 use Rattle.book_tables.specs.declared.NameRule.{NameRule}
-use Rattle.book_tables.specs.declared.NameRule.the-variants.{Exact}
-use Rattle.book_tables.specs.Alike.{taken}
+use Rattle.book_tables.specs.Alike.{alike}
 use Rattle.book_tables.specs.Listed.{listed}
 use Rattle.book_tables.specs.Layout.{nodeHeads, nodeLinks, fromHeads, fromLinks, keys, bookWords}
 use Rattle.book_tables.specs.View.{namesAt, nodeSlot, attrsAt, relFrom, bookAt}
@@ -35,9 +32,9 @@ use Rattle.fill.specs.Filled.{filled}
 use Rattle.fill.specs.FilledLaws.{length-filled, filled-whole}
 use Rattle.book_steps.specs.declared.LineStep.{LineStep}
 use Rattle.book_steps.specs.declared.LineStep.the-variants.{Fault, Known}
-use Rattle.book_steps.specs.Steps.{faultBy, stepOf, Stepped}
+use Rattle.book_steps.specs.Steps.{stepOf, Stepped}
 use Rattle.book_lines.specs.Forms.{formStepOf, FormAsked}
-use Rattle.book.specs.Loaded.{bookStepBy, readBookBy, LineAsked}
+use Rattle.book.specs.Loaded.{LineAsked}
 
 pub empty-is : (text : Bytes) (words : List ℕ) → bookAt text words noCounts ≡ emptyBook
 unfolding bookAt emptyBook attrsAt namesAt listed
@@ -71,8 +68,8 @@ empty-fits text words room = record {
 }
 
 -- a last line without a line feed: 3
-pub line-open : (rule : NameRule) (text : Bytes) (from to : ℕ) (b : Book) → length text ≤ to → bookStepBy rule b (lineAt text from to) ≡ fault 3
-unfolding bookStepBy lineAt formOf formStepOf formStep andThen
+pub line-open : (rule : NameRule) (text : Bytes) (from to : ℕ) (b : Book) → length text ≤ to → bookStep (alike rule) b (lineAt text from to) ≡ fault 3
+unfolding bookStep lineAt formOf formStep andThen
 line-open rule text from to b h = rw (le-ltb to (length text) h)
 
 -- what a line's step says, by its case
@@ -90,8 +87,8 @@ filled-ones words words′ e = e ∙ filled-whole words ∙ ap (λ (n : ℕ). on
 
 -- a line that ends in a line feed goes by its form
 pub line-closed : (rule : NameRule) (text : Bytes) (from to : ℕ) (b : Book) → to < length text
-    → bookStepBy rule b (lineAt text from to) ≡ formStepOf rule b (andThen (lineItems (partOf text from (to - from))) bookLine)
-unfolding bookStepBy lineAt formOf
+    → bookStep (alike rule) b (lineAt text from to) ≡ formStepOf rule b (andThen (lineItems (partOf text from (to - from))) bookLine)
+unfolding bookStep lineAt formOf formStepOf stepOf
 line-closed rule text from to b h = rw (lt-ltb to (length text) h)
 
 -- what reading its form asks
@@ -107,20 +104,3 @@ line-asked text words c from to a =
       is = ap (λ (k : ℕ). take k (drop from text)) (sym n);
       inside = omega (arith, n, a .inside, a .forward);
     }
-
--- by the very name a line, and a book, are read as the model says
-step-exact : (b : Book) (x : BookLine) → stepOf Exact b x ≡ faultOr (lineFault b x) (addLine b x)
-unfolding stepOf faultBy lineFault nodeFault taken mem
-step-exact b (vattr n k) = refl
-step-exact b (eattr n k) = refl
-step-exact b (label n) = refl
-step-exact b (node n es) = refl
-step-exact b (rel l x y es) = refl
-
-book-step-exact : bookStepBy Exact ≡ bookStep
-unfolding bookStepBy bookStep formStepOf
-book-step-exact = fun-ext (λ b. fun-ext (λ l. ap (formStep (andThen (formOf l) bookLine)) (fun-ext (step-exact b))))
-
-pub read-exact : (s : Bytes) → readBookBy Exact s ≡ readBook s
-unfolding readBookBy readBook
-read-exact s = ap (λ (f : Book → Line → Step Book). bytesFirst 1 maxBookBytes (λ l. l) s (readLines 1 f 1 emptyBook (linesOf s))) book-step-exact

@@ -4,29 +4,15 @@ use mathlib.Core.Path.{_≡_}
 use mathlib.Core.List.{List}
 use lib.ListN.{length}
 use Rattle.model.specs.Bytes.{Bytes}
-use Rattle.model.specs.Choice.{andThen}
 use Rattle.model.specs.Refusal.{Outcome, accepted, refused}
-use Rattle.model.specs.Limits.{maxBookBytes}
-use Rattle.model.specs.Lines.{Line, Step, readLines, linesOf, bytesFirst}
-use Rattle.model.specs.Forms.{formOf}
-use Rattle.model.specs.Book.{Book, emptyBook}
-use Rattle.model.specs.BookLines.{bookLine}
+use Rattle.model.specs.Book.{Book}
 use Rattle.model.specs.Service.{ones}
 use Rattle.model.specs.Answers.{refusalOf}
 use Rattle.book_tables.specs.declared.BookCounts.{BookCounts}
-use Rattle.book_tables.specs.declared.NameRule.{NameRule}
 use Rattle.book_tables.specs.View.{bookAt}
 use Rattle.book_tables.specs.Fits.{Fits}
-use Rattle.book_lines.specs.Forms.{formStepOf}
 use Rattle.book.specs.declared.BookLoad.{BookLoad}
 use Rattle.book.specs.declared.BookLoad.the-variants as load
-
--- one line of the book, and a whole one, by a rule for the names of nodes
-unfoldable pub bookStepBy : NameRule → Book → Line → Step Book
-bookStepBy rule b l = formStepOf rule b (andThen (formOf l) bookLine)
-
-unfoldable pub readBookBy : NameRule → Bytes → Outcome Book
-readBookBy rule s = let book = readLines 1 (bookStepBy rule) 1 emptyBook (linesOf s) in bytesFirst 1 maxBookBytes (λ l. l) s book
 
 -- accepted, the words hold the book; refused, they are all ones
 abbrev pub Loaded : Bytes → List ℕ → BookLoad → Outcome Book → Type 0

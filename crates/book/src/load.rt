@@ -4,11 +4,12 @@ ghost use lib.ListN.{length};
 ghost use Rattle.book_tables.specs.Layout.{bookWords};
 ghost use Rattle.model.specs.Lines.{readLines, linesOf};
 ghost use Rattle.model.specs.Book.{emptyBook};
-ghost use Rattle.model.specs.ReadBook.{readBook};
+ghost use Rattle.model.specs.ReadBook.{bookStep, readBookBy, readBook};
 ghost use Rattle.text.specs.Lines.{lineAt};
+ghost use Rattle.book_tables.specs.Alike.{alike};
 ghost use Rattle.book_tables.specs.View.{bookAt};
 ghost use Rattle.book_steps.specs.Steps.{Stepped};
-ghost use Rattle.book.specs.Loaded.{bookStepBy, readBookBy, LineAsked, Loaded};
+ghost use Rattle.book.specs.Loaded.{LineAsked, Loaded};
 use crate::BookLoad;
 use book_steps::LineStep;
 use book_tables::BookCounts;
@@ -22,18 +23,18 @@ use model::refusal_numbers::NOT_ALLOWED;
 use model::refusal_numbers::TOO_LONG;
 use text::BytesRead;
 
-// Reads a book into the tables; on a refusal they are all ones.
+// Reads a book into the tables, by names of nodes that are equal but for case; on a refusal they are all ones.
 pub fn load(text: &[u8], words: &mut [u32]) -> BookLoad
     requires { ⌜ bookWords ≤ length (now words) ⌝ }
     ensures { λ r. ⌜ Loaded (now (text .entry)) (now (words .exit)) r (readBook (now (text .entry))) ⌝ }
 {
-    load_by(text, words, NameRule::Exact)
+    load_by(text, words, NameRule::AnyCase)
 }
 
 // The same by a rule for the names of nodes: which of them are given a second time.
 pub fn load_by(text: &[u8], words: &mut [u32], rule: NameRule) -> BookLoad
     requires { ⌜ bookWords ≤ length (now words) ⌝ }
-    ensures { λ r. ⌜ Loaded (now (text .entry)) (now (words .exit)) r (readBookBy rule (now (text .entry))) ⌝ }
+    ensures { λ r. ⌜ Loaded (now (text .entry)) (now (words .exit)) r (readBookBy (alike rule) (now (text .entry))) ⌝ }
 {
     match text::lines::bytes_read(text, MAX_BOOK_BYTES) {
         BytesRead::TooLong => {
@@ -61,7 +62,7 @@ pub fn load_by(text: &[u8], words: &mut [u32], rule: NameRule) -> BookLoad
 // Reads the lines of a book into the tables; on a refusal they are all ones.
 fn load_lines(text: &[u8], words: &mut [u32], rule: NameRule) -> BookLoad
     requires { ⌜ (length (now text) ≤ 65536) × (bookWords ≤ length (now words)) ⌝ }
-    ensures { λ r. ⌜ Loaded (now (text .entry)) (now (words .exit)) r (readLines 1 (bookStepBy rule) 1 emptyBook (linesOf (now (text .entry)))) ⌝ }
+    ensures { λ r. ⌜ Loaded (now (text .entry)) (now (words .exit)) r (readLines 1 (bookStep (alike rule)) 1 emptyBook (linesOf (now (text .entry)))) ⌝ }
 {
     book_tables::stores::clear_chains(words);
     let mut at = 0;
@@ -99,7 +100,7 @@ fn line_step(
 ) -> LineStep
     requires { ⌜ LineAsked (now text) (now words) counts from to ⌝ }
     ensures { λ r. ⌜ Stepped (now (text .entry)) (now (words .exit)) r
-        (bookStepBy rule (bookAt (now (text .entry)) (now (words .entry)) counts) (lineAt (now (text .entry)) from to)) ⌝ }
+        (bookStep (alike rule) (bookAt (now (text .entry)) (now (words .entry)) counts) (lineAt (now (text .entry)) from to)) ⌝ }
 {
     if text.len() <= to {
         return LineStep::Fault(BROKEN);

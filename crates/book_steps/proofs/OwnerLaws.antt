@@ -18,7 +18,7 @@ use Rattle.model.specs.Lines.{fault, known}
 use Rattle.model.specs.Values.{Entry}
 use Rattle.model.specs.Book.{Book, nodeNames}
 use Rattle.model.specs.BookLines.{node}
-use Rattle.model.specs.ReadBook.{suits, undeclared, addLine}
+use Rattle.model.specs.ReadBook.{suits, undeclared, nodeFault, lineFault, addLine}
 use Rattle.model.specs.Answers.{nameAt}
 use Rattle.model.specs.declared.Part.{Part}
 use Rattle.book_tables.specs.declared.BookCounts.{BookCounts}
@@ -30,14 +30,14 @@ use Rattle.book_tables.specs.Fits.{Fits, Holds}
 use Rattle.book_tables.specs.Owners.{moreOwners}
 use Rattle.book_tables.specs.Stores.{withOwner}
 use Rattle.book_tables.proofs.ListedLaws.{length-listed}
-use Rattle.book_tables.specs.Alike.{NodeAlike}
+use Rattle.book_tables.specs.Alike.{alike, NodeAlike}
 use Rattle.book_tables.proofs.AlikeLaws.{alike-there, taken-mem}
 use Rattle.book_tables.proofs.NameLaws.{mem-place, length-names, node-names}
 use Rattle.book_tables.proofs.OwnerAdded.{node-added}
 use Rattle.book_entries.specs.declared.EntriesRead.{EntriesRead}
 use Rattle.book_entries.specs.Faults.{entriesFault}
 use Rattle.book_entries.specs.Known.{EntriesKnown}
-use Rattle.book_steps.specs.Steps.{faultBy, stepOf, NameAsked, ownerFault}
+use Rattle.book_steps.specs.Steps.{stepOf, NameAsked, ownerFault}
 use Rattle.book_steps.proofs.StepLaws.{step-fault, step-added, word-name, word-new}
 
 -- a fault's number, 0 being none
@@ -109,8 +109,8 @@ module _ (text : Bytes) (words : List ℕ) (c : BookCounts) (fits : Fits text wo
     abbrev full : Bool
     full = leb 256 (c .nodes) || ltb 2048 (c .entries + read .count)
 
-    node-fault : faultBy rule book (node (nameAt text name) es) ≡ numbered (ownerFault (ltb a (c .nodes)) (read .fault) full)
-    unfolding faultBy entriesFault bookAt
+    node-fault : lineFault (alike rule) book (node (nameAt text name) es) ≡ numbered (ownerFault (ltb a (c .nodes)) (read .fault) full)
+    unfolding lineFault nodeFault entriesFault bookAt
     node-fault =
         rw (alike-there rule text words c (nameAt text name) a found, nodes-count, fits .counted, ← after .count)
         (table (undeclared (book .vattrs) es) (ltb a (c .nodes)) (twice (map (λ e. e .attr) es)) (all (suits (book .vattrs)) es) full

@@ -19,6 +19,7 @@ use Rattle.model.specs.ReadBook.{suits, undeclared, related, relFault, lineFaul
 use Rattle.book_tables.specs.declared.BookCounts.{BookCounts}
 use Rattle.book_tables.specs.declared.NameRule.{NameRule}
 use Rattle.book_tables.specs.declared.Owner.the-variants.{Relationship}
+use Rattle.book_tables.specs.Alike.{alike}
 use Rattle.book_tables.specs.Layout.{eattrNames, labelNames}
 use Rattle.book_tables.specs.View.{nameOf, bookAt}
 use Rattle.book_tables.specs.Fits.{Fits}
@@ -29,7 +30,7 @@ use Rattle.book_tables.proofs.OwnerAdded.{rel-added}
 use Rattle.book_entries.specs.declared.EntriesRead.{EntriesRead}
 use Rattle.book_entries.specs.Faults.{entriesFault}
 use Rattle.book_entries.specs.Known.{EntriesKnown}
-use Rattle.book_steps.specs.Steps.{faultBy, stepOf, ownerFault}
+use Rattle.book_steps.specs.Steps.{stepOf, ownerFault}
 use Rattle.book_steps.proofs.StepLaws.{step-fault, step-added}
 use Rattle.book_steps.proofs.OwnerLaws.{numbered, table, owner-fine, numbered-fault, holds, rels-count, node-mem}
 
@@ -54,7 +55,7 @@ module _ (rule : NameRule) (text : Bytes) (words : List ℕ) (c : BookCounts) (f
   label-mem l e = mem-place label (book .labels) ∙ rw (e, length-names text words labelNames (c .labels))
 
   rel-missing : (mem label (book .labels) && mem from (nodeNames book) && mem to (nodeNames book)) ≡ false → stepOf rule book (rel label from to es) ≡ fault 4
-  unfolding faultBy lineFault relFault lowest
+  unfolding lineFault relFault lowest
   rel-missing h = step-fault rule book (rel label from to es) 4
       (rw (some-missing (mem label (book .labels)) (mem from (nodeNames book)) (mem to (nodeNames book)) (undeclared (book .eattrs) es) h))
 
@@ -91,8 +92,8 @@ module _ (rule : NameRule) (text : Bytes) (words : List ℕ) (c : BookCounts) (f
       there-related : related book label (place from (nodeNames book)) (place to (nodeNames book)) ≡ there
       there-related = sym (is-there ∙ rw (labelled, ex, ey))
 
-      rel-fault : faultBy rule book (rel label from to es) ≡ numbered (ownerFault there (read .fault) full)
-      unfolding faultBy lineFault relFault entriesFault bookAt
+      rel-fault : lineFault (alike rule) book (rel label from to es) ≡ numbered (ownerFault there (read .fault) full)
+      unfolding lineFault relFault entriesFault bookAt
       rel-fault =
           rw (
             label-mem l el,

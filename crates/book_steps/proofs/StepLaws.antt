@@ -21,6 +21,7 @@ use Rattle.book_tables.specs.declared.BookCounts.{BookCounts}
 use Rattle.book_tables.specs.declared.NameRule.{NameRule}
 use Rattle.book_tables.specs.declared.Owner.{Owner}
 use Rattle.book_tables.specs.declared.Owner.the-variants.{Node, Relationship}
+use Rattle.book_tables.specs.Alike.{alike}
 use Rattle.book_tables.specs.Layout.{labelNames}
 use Rattle.book_tables.specs.View.{nameIn, kindIn, bookAt}
 use Rattle.book_tables.specs.Fits.{Fits, Holds}
@@ -29,7 +30,7 @@ use Rattle.book_tables.specs.Stores.{moreLabels, withAttr, withLabel}
 use Rattle.book_tables.proofs.NameLaws.{mem-place, length-names}
 use Rattle.book_tables.proofs.OwnerLaws.{owner-declared}
 use Rattle.book_tables.proofs.Added.{NewName, label-added, attr-added}
-use Rattle.book_steps.specs.Steps.{faultBy, stepOf, NameAsked}
+use Rattle.book_steps.specs.Steps.{stepOf, NameAsked}
 
 -- a name among names declared already: 5
 pub name-twice : (n : Bytes) (ns : List Bytes) (count : ℕ) → length ns ≡ count → place n ns < count → nameFault n ns ≡ just 5
@@ -49,18 +50,19 @@ unfolding nameFault lowest
 name-fine n ns count e l m = rw (name-new n ns count e l, lt-leb 32 (length ns) (omega arith))
 
 -- a line with a fault, and one without
-pub step-fault : (rule : NameRule) (b : Book) (line : BookLine) (n : ℕ) → faultBy rule b line ≡ just n → stepOf rule b line ≡ fault n
+pub step-fault : (rule : NameRule) (b : Book) (line : BookLine) (n : ℕ) → lineFault (alike rule) b line ≡ just n → stepOf rule b line ≡ fault n
 unfolding stepOf faultOr
 step-fault rule b line n e = rw e
 
-pub step-added : (rule : NameRule) (b : Book) (line : BookLine) (b′ : Book) → faultBy rule b line ≡ nothing → b′ ≡ addLine b line
+pub step-added : (rule : NameRule) (b : Book) (line : BookLine) (b′ : Book) → lineFault (alike rule) b line ≡ nothing → b′ ≡ addLine b line
     → stepOf rule b line ≡ known b′
 unfolding stepOf faultOr
 step-added rule b line b′ e q = rw (e, q)
 
 -- the fault of a declared attribute is that of its name
-declared-fault : (rule : NameRule) (b : Book) (o : Owner) (n : Bytes) (k : Kind) → faultBy rule b (declares o n k) ≡ nameFault n (attrNames (attrsOf o b))
-unfolding faultBy lineFault
+declared-fault : (rule : NameRule) (b : Book) (o : Owner) (n : Bytes) (k : Kind)
+    → lineFault (alike rule) b (declares o n k) ≡ nameFault n (attrNames (attrsOf o b))
+unfolding lineFault
 declared-fault rule b Node n k = refl
 declared-fault rule b Relationship n k = refl
 
@@ -102,18 +104,18 @@ module _ (rule : NameRule) (text : Bytes) (words : List ℕ) (c : BookCounts) (n
 
   module _ (a : ℕ) (found : a ≡ place (nameAt text name) (book .labels)) where
     pub label-twice : a < c .labels → stepOf rule book (label (nameAt text name)) ≡ fault 5
-    unfolding faultBy lineFault
+    unfolding lineFault
     label-twice l = step-fault rule book (label (nameAt text name)) 5 (name-twice (nameAt text name) (book .labels) (c .labels) labels-length (rw (← found) l))
 
     pub label-full : c .labels ≤ a → 32 ≤ c .labels → stepOf rule book (label (nameAt text name)) ≡ fault 7
-    unfolding faultBy lineFault
+    unfolding lineFault
     label-full l m = step-fault rule book (label (nameAt text name)) 7
         (name-full (nameAt text name) (book .labels) (c .labels) labels-length (rw (← found) l) m)
 
     pub label-fine : c .labels ≤ a → c .labels < 32
         → (stepOf rule book (label (nameAt text name)) ≡ known (bookAt text (withLabel words c word) (moreLabels c)))
         × Fits text (withLabel words c word) (moreLabels c)
-    unfolding faultBy lineFault
+    unfolding lineFault
     label-fine l m =
         let h = label-added text words c book holds word m
         (word-new text name asked (book .labels) (name-new (nameAt text name) (book .labels) (c .labels) labels-length (rw (← found) l))) in (

@@ -1,36 +1,45 @@
 -- Names that a rule takes for the same: they have one slot, and the very name is always taken for itself.
-use Prim.Native.Nat.{ℕ, _+_, _≤_, _<_}
+use Prim.Native.Nat.{ℕ, _+_, _%_, _≤_, _<_}
 use mathlib.Core.Path.{_≡_, refl, sym, ap, _∙_}
 use mathlib.Core.List.{List, [], _∷_, map}
-use mathlib.Core.Bool.{Bool, true, false}
+use mathlib.Core.Bool.{Bool, true, false, _&&_}
 use native.Mathlib.Omega.{arith}
-use lib.Dec.{ltb}
+use lib.Dec.{ltb, leb}
 use borrow.Author.Tests.{lt-ltb, le-ltb}
 use lib.ListN.{length, getD, drop, length-map, List·getD-map}
 use Rattle.logic.specs.Tests.{either, below-or-not}
 use Rattle.model.specs.Bytes.{Bytes, same}
 use Rattle.model.specs.Choice.{pick}
 use Rattle.model.specs.Lists.{any}
-use Rattle.model.specs.Names.{mem, place}
+use Rattle.model.specs.Names.{mem, place, lowered, sameButCase}
 use Rattle.model.specs.Book.{nodeNames}
 use Rattle.compare.proofs.CompareLaws.{same-end, same-step, same-differs}
-use Rattle.chains.specs.Slots.{lowered, slotOf}
-use Rattle.chains.proofs.SlotLaws.{slot-lowered}
+use Rattle.chains.specs.Slots.{slotOf}
+use Rattle.chains.proofs.SlotLaws.{slot-kept}
 use Rattle.book_tables.specs.declared.BookCounts.{BookCounts}
 use Rattle.book_tables.specs.declared.NameRule.{NameRule}
 use Rattle.book_tables.specs.declared.NameRule.the-variants.{Exact, AnyCase}
 use Rattle.book_tables.specs.Layout as layout
 use Rattle.book_tables.specs.View.{nameOf, namesAt, bookAt}
 use Rattle.book_tables.specs.Fits.{Fits}
-use Rattle.book_tables.specs.Alike.{sameButCase, alike, taken, NodeAlike}
+use Rattle.book_tables.specs.Alike.{alike, taken, NodeAlike}
 use Rattle.book_tables.proofs.ListedLaws.{scan-all, scan-found}
 use Rattle.book_tables.proofs.NameLaws.{same-equal, equal-same, node-names, found-only, found-none}
+
+-- a letter of either case counts the same
+lowered-counts : (b : ℕ) → lowered b % 32 ≡ b % 32
+unfolding lowered
+lowered-counts b = go (leb 65 b && leb b 90)
+  where
+    go : (t : Bool) → pick t (b + 32) b % 32 ≡ b % 32
+    go true = omega arith
+    go false = refl
 
 -- names taken for the same have one slot
 pub slot-alike : (rule : NameRule) (a b : Bytes) → alike rule a b ≡ true → slotOf a ≡ slotOf b
 unfolding sameButCase
 slot-alike Exact a b e = ap slotOf (same-equal a b e)
-slot-alike AnyCase a b e = slot-lowered a b (same-equal (map lowered a) (map lowered b) e)
+slot-alike AnyCase a b e = slot-kept lowered lowered-counts a b (same-equal (map lowered a) (map lowered b) e)
 
 -- a name is taken for itself
 pub alike-self : (rule : NameRule) (a b : Bytes) → same a b ≡ true → alike rule a b ≡ true
@@ -40,14 +49,14 @@ alike-self AnyCase a b e = equal-same (map lowered a) (map lowered b) (ap (map l
 
 -- the rule of the very name is membership
 pub taken-exact : (n : Bytes) (ns : List Bytes) → taken Exact n ns ≡ mem n ns
-unfolding taken mem
+unfolding mem
 taken-exact n ns = refl
 
 -- where no name of the slot is taken for this one, none is
 pub none-in-slot : (rule : NameRule) (text : Bytes) (words : List ℕ) (c : BookCounts) (name : Bytes)
     → ((i : ℕ) → i < c .nodes → slotOf (nameOf text words layout.nodeNames i) ≡ slotOf name → alike rule name (nameOf text words layout.nodeNames i) ≡ false)
     → taken rule name (nodeNames (bookAt text words c)) ≡ false
-unfolding taken namesAt
+unfolding namesAt
 none-in-slot rule text words c name h =
     ap (any (alike rule name)) (node-names text words c)
     ∙ scan-all (alike rule name) (nameOf text words layout.nodeNames) (c .nodes) (λ i l. go i l (alike rule name (nameOf text words layout.nodeNames i)) refl)
@@ -60,7 +69,7 @@ none-in-slot rule text words c name h =
 -- the node that is found by the very name is the one at the name's place
 pub found-exact : (text : Bytes) (words : List ℕ) (c : BookCounts) (name : Bytes) (r : ℕ) → Fits text words c → NodeAlike Exact text words c name r
     → r ≡ place name (nodeNames (bookAt text words c))
-unfolding taken namesAt
+unfolding namesAt
 found-exact text words c name r f n =
     rw (node-names text words c)
     (either (below-or-not r (c .nodes))
@@ -71,7 +80,7 @@ found-exact text words c name r f n =
 -- whether a node is found says whether the name is taken
 pub alike-there : (rule : NameRule) (text : Bytes) (words : List ℕ) (c : BookCounts) (name : Bytes) (r : ℕ) → NodeAlike rule text words c name r
     → taken rule name (nodeNames (bookAt text words c)) ≡ ltb r (c .nodes)
-unfolding taken namesAt
+unfolding namesAt
 alike-there rule text words c name r n = either (below-or-not r (c .nodes))
     (λ l. ap (any (alike rule name)) (node-names text words c)
     ∙ scan-found (alike rule name) (nameOf text words layout.nodeNames) (c .nodes) r l (n .found l) ∙ sym (lt-ltb r _ l))
@@ -79,7 +88,7 @@ alike-there rule text words c name r n = either (below-or-not r (c .nodes))
 
 -- a name that is not taken is none of the names
 pub taken-mem : (rule : NameRule) (n : Bytes) (ns : List Bytes) → taken rule n ns ≡ false → mem n ns ≡ false
-unfolding taken mem any
+unfolding mem any
 taken-mem rule n [] h = refl
 taken-mem rule n (x ∷ xs) h = go (same n x) (alike rule n x) (alike-self rule n x) h (taken-mem rule n xs)
   where

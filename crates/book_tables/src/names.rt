@@ -2,13 +2,12 @@
 ghost use mathlib.Core.Path.{_≡_};
 ghost use Prim.Native.Nat.{_+_, _/_, _%_, _≤_, _<_};
 ghost use lib.ListN.{length};
-ghost use Rattle.chains.specs.Slots.{lowered};
-ghost use Rattle.model.specs.Names.{place};
+ghost use Rattle.model.specs.Names.{place, lowered, sameButCase};
 ghost use Rattle.model.specs.Book.{attrNames, nodeNames};
 ghost use Rattle.book_tables.specs.View.{wordAt, nameIn, slotIn, namesAt, bookAt};
 ghost use Rattle.book_tables.specs.Fits.{Inside, NamesFit, Fits};
 ghost use Rattle.book_tables.specs.Owners.{attrsOf};
-ghost use Rattle.book_tables.specs.Alike.{sameButCase, alike, NodeAlike};
+ghost use Rattle.book_tables.specs.Alike.{alike, NodeAlike};
 use crate::BookCounts;
 use crate::LABEL_NAMES;
 use crate::NODE_HEADS;
@@ -86,7 +85,7 @@ pub fn find_alike(
 }
 
 // Whether the name's word at a place says a name that is taken for this one by a rule.
-fn is_named(text: &[u8], words: &[u32], at: usize, rule: NameRule, name: &[u8]) -> bool
+pub fn is_named(text: &[u8], words: &[u32], at: usize, rule: NameRule, name: &[u8]) -> bool
     requires { ⌜ (at < length (now words)) × Inside (now text) (wordAt (now words) at / 32) (wordAt (now words) at % 32) ⌝ }
     ensures { λ r. ⌜ r ≡ alike rule (now (name .entry)) (nameIn (now (text .entry)) (wordAt (now (words .entry)) at)) ⌝ }
 {

@@ -64,6 +64,7 @@ pub mod Faults
 pub mod LowestFaults
 pub mod TextRefusals
 pub mod Refusals
+pub mod RenamingRefusals
 pub mod ListRefusals
 pub mod TableRows
 -- computed: two faults at once, the limits of a full book, whole answers of queries, the traps, whole answers of the request reader
@@ -71,3 +72,5 @@ pub mod RefusalCases
 pub mod WholeCases
 pub mod Traps
 pub mod RequestAnswerCases
+-- the renaming, computed
+pub mod RenamingCases

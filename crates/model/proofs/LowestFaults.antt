@@ -12,7 +12,7 @@ use Rattle.model.specs.Lists.{all}
 use Rattle.model.specs.Refusal.{Row, lowest}
 use Rattle.model.specs.Values.{Entry}
 use Rattle.model.specs.Book.{Book}
-use Rattle.model.specs.ReadBook.{nameFaults, nameFault, nodeFaults, nodeFault, relFaults, relFault}
+use Rattle.model.specs.ReadBook.{NamesAlike, nameFaults, nameFault, nodeFaults, nodeFault, relFaults, relFault}
 use Rattle.model.specs.QueryText.{QueryText}
 use Rattle.model.specs.ReadQuery.{queryFaults, queryFault}
 use Rattle.model.specs.Rules.{Rules}
@@ -74,9 +74,10 @@ unfolding nameFault ascending all
 name-fault-lowest x xs n = gives-lowest (nameFaults x xs) tt n
 
 -- a node line: 4, 5, 6, 7
-pub node-fault-lowest : (b : Book) (x : Bytes) (es : List Entry) (n : ℕ) → (nodeFault b x es ≡ just n) ↔ LowestFound (nodeFaults b x es) n
+pub node-fault-lowest : (alike : NamesAlike) (b : Book) (x : Bytes) (es : List Entry) (n : ℕ)
+    → (nodeFault alike b x es ≡ just n) ↔ LowestFound (nodeFaults alike b x es) n
 unfolding nodeFault ascending all
-node-fault-lowest b x es n = gives-lowest (nodeFaults b x es) tt n
+node-fault-lowest alike b x es n = gives-lowest (nodeFaults alike b x es) tt n
 
 -- a rel line: 4, 5, 6, 7
 pub rel-fault-lowest : (b : Book) (l x y : Bytes) (es : List Entry) (n : ℕ) → (relFault b l x y es ≡ just n) ↔ LowestFound (relFaults b l x y es) n

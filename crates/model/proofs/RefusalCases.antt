@@ -9,6 +9,7 @@ use Rattle.model.specs.Choice.{just}
 use Rattle.model.specs.Refusal.{Outcome, accepted, refused}
 use Rattle.model.specs.Values.{int, str, ints}
 use Rattle.model.specs.Book.{Book}
+use Rattle.model.specs.Names.{sameButCase}
 use Rattle.model.specs.ReadBook.{nameFault, nodeFault, relFault}
 use Rattle.model.specs.Service.{listRows}
 use Rattle.model.specs.Computing.{computing}
@@ -142,9 +143,21 @@ onLine =
     ∷ inRequest "(request view (id guest ana) (id guest ana))\n" (returned 5 4 1)
     ∷ []
 
+-- node names that are equal but for case: 5 after 4 and before 6; other names may be, a word that is never a name may be but for case, and a name is used by
+-- the very name
+abbrev byCase : List Case
+byCase =
+    inBook "(node S6)\n(node s6)\n" (returned 5 1 2)
+    ∷ inBook "(node S6)\n(node s6 (x 1))\n" (returned 4 1 2)
+    ∷ inBook "(vattr x int)\n(node S6)\n(node s6 (x 'a'))\n" (returned 5 1 3)
+    ∷ inBook "(label l)\n(label L)\n(vattr x int)\n(vattr X int)\n(eattr e int)\n(eattr E int)\n(node match)\n(node)\n" (returned 3 1 8)
+    ∷ inBook "(label l)\n(node S6)\n(rel l s6 S6)\n" (returned 4 1 3)
+    ∷ inRequest "(request view (id requestor Ana))\n" (returned 4 4 1)
+    ∷ []
+
 -- all of them
 abbrev cases : List Case
-cases = inTurn ++ inWoven ++ inText ++ onLine
+cases = inTurn ++ inWoven ++ inText ++ onLine ++ byCase
 
 -- each case gives its refusal
 table : map run cases ≡ map (λ c. c .gives) cases
@@ -163,7 +176,7 @@ fullBook = record {
 
 -- a full book and one fault more
 full : (nameFault (bytesOf "l") (replicate 32 (bytesOf "l")) ≡ just 5)
-    × (nodeFault fullBook (bytesOf "m") (record { attr = bytesOf "x"; value = str [] } ∷ []) ≡ just 6)
+    × (nodeFault sameButCase fullBook (bytesOf "m") (record { attr = bytesOf "x"; value = str [] } ∷ []) ≡ just 6)
     × (relFault fullBook (bytesOf "l") (bytesOf "n") (bytesOf "n") (record { attr = bytesOf "x"; value = str [] } ∷ []) ≡ just 6)
 unfolding computing
 full = (refl, refl, refl)

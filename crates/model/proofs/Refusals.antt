@@ -28,7 +28,8 @@ use Rattle.model.proofs.Faults.{over-refused, number-refused, need-refu
 use Rattle.model.proofs.Outcomes.{never, accept-e, if-e}
 use Rattle.model.proofs.Decides.{or-l, or-r, or-cases}
 
-exactly : {A : Type 0} (answer : Outcome A) (Table : Refusal → Type 0) → ((f : Refusal) → (answer ≡ refused f) ↔ Table f) → Exactly answer Table
+-- a table that says when each refusal is given says all that `Exactly` asks
+pub exactly : {A : Type 0} (answer : Outcome A) (Table : Refusal → Type 0) → ((f : Refusal) → (answer ≡ refused f) ↔ Table f) → Exactly answer Table
 exactly {A} answer Table h = record {
   refused-if = h;
   accepted-if = (λ u f t. never f (u .0) (sym (h f .1 t) ∙ u .1), other answer refl);
@@ -74,7 +75,8 @@ after-rules {A} work book rules g f = (
     table (book-first t) = inl t
     table (in-rules {b} u e) = inr (b, u, need-refused (readRules b rules) (g b) f .1 (inl e))
 
-accepts : {A C : Type 0} (a : A) (f : Refusal) → _≡_ {A = Outcome A} (accepted a) (refused f) → C
+-- what is accepted is not refused
+pub accepts : {A C : Type 0} (a : A) (f : Refusal) → _≡_ {A = Outcome A} (accepted a) (refused f) → C
 accepts a f e = never f a (sym e)
 
 -- the book reader refuses by its table, and else accepts
@@ -198,7 +200,7 @@ found-table work words book rules query request = exactly _ (ListTable work word
     back f (no-room {b} {r} {q} {x} a e l d) = behind-texts f b r q x a (woven-refused words b r q x f .1 (inr (e, l, d)))
 
 -- an answer made of what is accepted is refused as that is
-answer-exactly : {A B : Type 0} (o : Outcome A) (g : A → B) (Table : Refusal → Type 0) → Exactly o Table → Exactly (onAccept o (λ a. accepted (g a))) Table
+pub answer-exactly : {A B : Type 0} (o : Outcome A) (g : A → B) (Table : Refusal → Type 0) → Exactly o Table → Exactly (onAccept o (λ a. accepted (g a))) Table
 answer-exactly o g Table h = exactly _ Table
     (λ f. let n = need-refused o (λ a. accepted (g a)) f in
     (λ e. ⊎-elim (h .refused-if f .0) (λ u. accepts _ f (u .2)) (n .0 e), λ t. n .1 (inl (h .refused-if f .1 t))))

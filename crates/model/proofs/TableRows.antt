@@ -5,31 +5,34 @@ use mathlib.Core.Logic.{⊎-elim}
 use mathlib.Core.List.{List, [], _∷_}
 use native.Mathlib.Omega.{arith}
 use lib.ListN.{length}
-use Rattle.model.specs.Bytes.{Bytes}
+use Rattle.model.specs.Bytes.{Bytes, same}
 use Rattle.model.specs.Choice.{just}
 use Rattle.model.specs.Refusal.{Refusal, Row, refused, lowest}
 use Rattle.model.specs.Lines.{badLine, Line, linesOf, Step, fault}
 use Rattle.model.specs.Book.{Book, emptyBook}
 use Rattle.model.specs.BookLines.{label, BookLine, vattr, eattr, node, rel}
-use Rattle.model.specs.ReadBook.{nameFault, nodeFault, relFault, lineFault, bookStep, readBook}
+use Rattle.model.specs.Names.{Name, sameButCase}
+use Rattle.model.specs.ReadBook.{NamesAlike, nameFault, nodeFault, relFault, lineFault, bookStep, readBookBy, readBook}
+use Rattle.model.specs.Renaming.{declaredAt}
 use Rattle.model.specs.ReadQuery.{queryFault, readQuery}
 use Rattle.model.specs.Rules.{Rules}
 use Rattle.model.specs.ReadRules.{RulesLine, category, policy, rulesFault, rulesStep, readRules}
 use Rattle.model.specs.Request.{requestFault, requestStep, readRequest}
 use Rattle.model.specs.Graph.{Each}
-use Rattle.model.specs.Service.{bookService, rulesService, queryService, requestService, writerService, listService}
+use Rattle.model.specs.Service.{bookService, rulesService, queryService, requestService, writerService, renameService, listService}
 use Rattle.model.specs.RefusalTable.{IsText, LineOf, NameOn, TableRow, memory-is-short, text-too-long, byte-not-allowed, grammar-broken}
 use Rattle.model.specs.RefusalTable.{not-declared, second-time, not-of-the-type, passes-the-limit, excluded-from-itself, lacks-an-actor}
 use Rattle.model.specs.RefusalTable.{has-no-policy, no-requestor, woven-limit-passed, vertex-not-tied, rows-exceed-words, written-too-long}
-use Rattle.model.specs.RefusalTable.{InTable}
+use Rattle.model.specs.RefusalTable.{book-exceeds-buffer, InTable}
 use Rattle.model.specs.Refused.{returned, BookTable, memory-short, in-book, RulesTable, book-first, in-rules, QueryTable, in-query}
-use Rattle.model.specs.Refused.{RequestTable, rules-first, in-request, WriterTable, no-room, ListTable, in-woven, woven}
+use Rattle.model.specs.Refused.{RequestTable, rules-first, in-request, WriterTable, no-room, ListTable, in-woven, woven, RenameTable, stuck}
 use Rattle.model.proofs.Members.{test, is-true, is-false}
 use Rattle.model.proofs.Faults.{AtLine}
-use Rattle.model.proofs.TextRefusals.{first-bad-byte, OfText, too-long, bad-byte, own, book-refused, book-line-fault, OfRules, at-line}
+use Rattle.model.proofs.TextRefusals.{first-bad-byte, OfText, too-long, bad-byte, own, book-refused-by, book-line-fault, OfRules, at-line}
 use Rattle.model.proofs.TextRefusals.{no-policy, rules-refused, rules-line-fault, OfQuery, broken, has-fault, query-refused, OfRequest}
 use Rattle.model.proofs.TextRefusals.{no-line, second-line, request-refused, request-line-fault}
 use Rattle.model.proofs.Refusals.{book-table, rules-table, query-table, request-table, writer-service-table, list-service-table}
+use Rattle.model.proofs.RenamingRefusals.{rename-service-table}
 use Rattle.model.proofs.ListRefusals.{woven-number}
 
 -- a refusal by its three numbers
@@ -85,6 +88,11 @@ request-name = record { line-of = request-line 1 (omega arith); request-is-line-
 bad-from-one : (s : Bytes) (l : ℕ) → badLine 1 s ≡ just l → 1 ≤ l
 bad-from-one s l e = let h = first-bad-byte 1 s l .0 e in omega (arith, h .at)
 
+-- so is the line that declares a node
+declared-from-one : (n : Name) (ls : List Line) → 1 ≤ declaredAt n ls
+unfolding declaredAt
+declared-from-one n ls = omega arith
+
 -- a text's refusals are rows: 1, 2, and those of its own
 text-row : {t limit : ℕ} {line : ℕ → ℕ} {s : Bytes} {Own : Refusal → Type 0} {f : Refusal}
     → IsText t → ((l : ℕ) → 1 ≤ l → LineOf t (line l)) → (Own f → InTable f) → OfText t limit line s Own f → InTable f
@@ -100,9 +108,9 @@ at-line-row t step x ls f h u =
     subst (λ (z : ℕ). TableRow (f .number) z (f .line)) (sym (u .of-text)) (h (u .known-before) (u .line) (f .number) (f .line) l (u .has-fault))
 
 -- a fault of a book line is a row of text 1
-book-row : (b : Book) (x : BookLine) (n l : ℕ) → 1 ≤ l → lineFault b x ≡ just n → TableRow n 1 l
+book-row : (alike : NamesAlike) (b : Book) (x : BookLine) (n l : ℕ) → 1 ≤ l → lineFault alike b x ≡ just n → TableRow n 1 l
 unfolding lineFault nameFault nodeFault relFault
-book-row b x n l h e = go x e
+book-row alike b x n l h e = go x e
   where
     In : ℕ → Type 0
     In n = TableRow n 1 l
@@ -116,20 +124,20 @@ book-row b x n l h e = go x e
       (row-5 1 l (omega arith) (omega arith) h, (row-6 1 l (omega arith) (omega arith) h, (row-7 1 l (omega arith) (omega arith) h, tt))),
     )
 
-    go : (x : BookLine) → lineFault b x ≡ just n → In n
+    go : (x : BookLine) → lineFault alike b x ≡ just n → In n
     go (vattr m k) e = number-in In _ n name e
     go (eattr m k) e = number-in In _ n name e
     go (label m) e = number-in In _ n name e
     go (node m es) e = number-in In _ n entry e
     go (rel m x y es) e = number-in In _ n entry e
 
--- a refusal of the book is a row
-book-in-table : (s : Bytes) (f : Refusal) → readBook s ≡ refused f → InTable f
-book-in-table s f e = text-row (omega arith, omega arith) (λ l h. line-of 1 l (omega arith) (omega arith) h)
-    (at-line-row 1 bookStep emptyBook (linesOf s) f (λ b k n l h d. ⊎-elim
+-- a refusal of the book is a row, by any rule for node names
+book-in-table : (alike : NamesAlike) (s : Bytes) (f : Refusal) → readBookBy alike s ≡ refused f → InTable f
+book-in-table alike s f e = text-row (omega arith, omega arith) (λ l h. line-of 1 l (omega arith) (omega arith) h)
+    (at-line-row 1 (bookStep alike) emptyBook (linesOf s) f (λ b k n l h d. ⊎-elim
     (λ u. subst (λ (z : ℕ). TableRow z 1 l) (sym (u .1)) (row-3 1 l (omega arith) (omega arith) h))
-    (λ u. book-row b (u .0) n l h (u .2)) (book-line-fault b k n .0 d)))
-    (book-refused s f .0 e)
+    (λ u. book-row alike b (u .0) n l h (u .2)) (book-line-fault alike b k n .0 d)))
+    (book-refused-by alike s f .0 e)
 
 -- a fault of a rules line is a row of text 2
 rules-row : (b : Book) (r : Rules) (x : RulesLine) (n l : ℕ) → 1 ≤ l → rulesFault b r x ≡ just n → TableRow n 2 l
@@ -211,8 +219,9 @@ request-in-table b r s f e = text-row (omega arith, omega arith) request-line go
     go (second-line d k e) = in-table e (grammar-broken (request-line 2 (omega arith)) (λ z. omega arith))
 
 book-rows : (work : ℕ) (book : Bytes) (f : Refusal) → BookTable work book f → InTable f
+unfolding readBook
 book-rows work book f (memory-short l e) = in-table e memory-is-short
-book-rows work book f (in-book l e) = book-in-table book f e
+book-rows work book f (in-book l e) = book-in-table sameButCase book f e
 
 rules-rows : (work : ℕ) (book rules : Bytes) (f : Refusal) → RulesTable work book rules f → InTable f
 rules-rows work book rules f (book-first t) = book-rows work book f t
@@ -252,6 +261,16 @@ writer-refuses-by-the-table work buffer book rules query f e = go (writer-servic
     go (rules-first t) = rules-rows work book rules f t
     go (in-query {b} u d) = query-in-table b query f d
     go (no-room u d l g) = in-table g written-too-long
+
+-- so does the renaming
+pub rename-refuses-by-the-table : (work : ℕ) (buffer book : Bytes) (f : Refusal) → renameService work buffer book .answer ≡ refused f → InTable f
+rename-refuses-by-the-table work buffer book f e = go (rename-service-table work buffer book .refused-if f .0 e)
+  where
+    go : RenameTable work (length buffer) book f → InTable f
+    go (memory-short l d) = in-table d memory-is-short
+    go (in-book l d) = book-in-table same book f d
+    go (stuck {n = n} l r k d) = in-table d (row-5 1 (declaredAt n (linesOf book)) (omega arith) (omega arith) (declared-from-one n (linesOf book)))
+    go (no-room l r o d) = in-table d book-exceeds-buffer
 
 -- and so does the list
 pub list-refuses-by-the-table : (work words : ℕ) (book rules query request : Bytes)

@@ -15,7 +15,8 @@ use Rattle.model.specs.Lines.{isAllowed, badLine, Line, linesOf, Step, f
 use Rattle.model.specs.Forms.{formOf}
 use Rattle.model.specs.Book.{Book, emptyBook}
 use Rattle.model.specs.BookLines.{BookLine, bookLine}
-use Rattle.model.specs.ReadBook.{lineFault, addLine, bookStep, readBook}
+use Rattle.model.specs.Names.{sameButCase}
+use Rattle.model.specs.ReadBook.{NamesAlike, lineFault, addLine, bookStep, readBookBy, readBook}
 use Rattle.model.specs.QueryText.{QueryText}
 use Rattle.model.specs.Grammar.{queryText}
 use Rattle.model.specs.ReadQuery.{queryFault, textOrFault, readQuery}
@@ -122,18 +123,26 @@ text-refused t limit line s o Own h f = (
     back (bad-byte {l = k} l b e) = long .1 (inr (l, bytes .1 (inl (k, b, e))))
     back (own l b u) = long .1 (inr (l, bytes .1 (inr (b, h f .1 u))))
 
--- text 1: the book is refused by 1, 2, then lines upwards
-pub book-refused : (s : Bytes) (f : Refusal) → (readBook s ≡ refused f) ↔ OfText 1 65536 (λ l. l) s (AtLine 1 bookStep 1 emptyBook (linesOf s)) f
+-- text 1, by any rule for node names: the book is refused by 1, 2, then lines upwards
+pub book-refused-by : (alike : NamesAlike) (s : Bytes) (f : Refusal)
+    → (readBookBy alike s ≡ refused f) ↔ OfText 1 65536 (λ l. l) s (AtLine 1 (bookStep alike) 1 emptyBook (linesOf s)) f
+unfolding readBookBy
+book-refused-by alike s f =
+    text-refused 1 65536 (λ l. l) s (readLines 1 (bookStep alike) 1 emptyBook (linesOf s)) (AtLine 1 (bookStep alike) 1 emptyBook (linesOf s))
+    (first-line 1 (bookStep alike) 1 emptyBook (linesOf s)) f
+
+-- a book is read by names that are equal but for case
+pub book-refused : (s : Bytes) (f : Refusal)
+    → (readBook s ≡ refused f) ↔ OfText 1 65536 (λ l. l) s (AtLine 1 (bookStep sameButCase) 1 emptyBook (linesOf s)) f
 unfolding readBook
-book-refused s f = text-refused 1 65536 (λ l. l) s (readLines 1 bookStep 1 emptyBook (linesOf s)) (AtLine 1 bookStep 1 emptyBook (linesOf s))
-    (first-line 1 bookStep 1 emptyBook (linesOf s)) f
+book-refused s f = book-refused-by sameButCase s f
 
 -- a book line's fault: a broken grammar, then its table
-pub book-line-fault : (b : Book) (l : Line) (n : ℕ)
-    → (bookStep b l ≡ fault n) ↔ (((andThen (formOf l) bookLine ≡ nothing) × (n ≡ 3)) ⊎
-    ((x : BookLine) × (andThen (formOf l) bookLine ≡ just x) × (lineFault b x ≡ just n)))
+pub book-line-fault : (alike : NamesAlike) (b : Book) (l : Line) (n : ℕ)
+    → (bookStep alike b l ≡ fault n) ↔ (((andThen (formOf l) bookLine ≡ nothing) × (n ≡ 3)) ⊎
+    ((x : BookLine) × (andThen (formOf l) bookLine ≡ just x) × (lineFault alike b x ≡ just n)))
 unfolding bookStep
-book-line-fault b l n = step-fault (andThen (formOf l) bookLine) (lineFault b) (addLine b) n
+book-line-fault alike b l n = step-fault (andThen (formOf l) bookLine) (lineFault alike b) (addLine b) n
 
 -- rules of no lines
 abbrev noRules : Rules

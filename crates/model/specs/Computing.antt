@@ -4,7 +4,7 @@ use Prim.Native.Nat.{ℕ}
 use Rattle.model.specs.Choice.{andThen}
 use Rattle.model.specs.Bytes.{same}
 use Rattle.model.specs.Lists.{isNil, any, all, keep, each, joined, sum, memℕ, upTo, placeWhere, addNewBy, firstsBy}
-use Rattle.model.specs.Names.{mem, twice, place}
+use Rattle.model.specs.Names.{mem, twice, place, lowered, sameButCase}
 use Rattle.model.specs.Words.{between, isLetter, isDigit, isWordByte, run, before, wordAt, biased, decimal, plainDigits, isWhole, digitsAt}
 use Rattle.model.specs.Words.{wholeAt, isText, textAt, quotedAt, readAs}
 use Rattle.model.specs.Items.{plainAt, isList, onward, onwardWith, listAt, asList, opens, itemAt, itemList, itemsOf, lineItems}
@@ -14,7 +14,11 @@ use Rattle.model.specs.Forms.{asWord, asQuoted, neverNames, nameOf, asNa
 use Rattle.model.specs.Book.{emptyBook, attrNames, nodeNames, entryCount}
 use Rattle.model.specs.BookLines.{attrLine, labelLine, nodeLine, relLine, bookLine}
 use Rattle.model.specs.Values.{ofKind}
-use Rattle.model.specs.ReadBook.{suits, undeclared, related, nameFault, nodeFault, relFault, lineFault, addLine, bookStep, readBook}
+use Rattle.model.specs.ReadBook.{suits, undeclared, related, nameFault, nodeFault, relFault, lineFault, addLine, bookStep}
+use Rattle.model.specs.ReadBook.{readBookBy, readBook}
+use Rattle.model.specs.Renaming.{laterNames, beforeWord, firstWord, behindWord, afterWord, nodeWords, piecesOf, linePieces, textPieces, pieceBytes}
+use Rattle.model.specs.Renaming.{oldBytes, renamed, cannotHave, firstStuck, declaresNode, declaredAt, unlessStuck, renamedBook, newName, newNode}
+use Rattle.model.specs.Renaming.{withNewNames}
 use Rattle.model.specs.Signs.{marks, begins, markAt, orBroken, digitNext, signAt, isWord, isMark, wordy, chainBehind, signs, signsOf, signName}
 use Rattle.model.specs.Signs.{signValue, next, expect}
 use Rattle.model.specs.Grammar.{spotAfter, signRelation, vertexAt, startAt, linkAt, conditionAt, returnAt, pieceAt, endsAt, pieces, tailOf, queryText}
@@ -35,9 +39,10 @@ use Rattle.model.specs.Weave.{askedQuery, askedPolicies, named, moved, m
 use Rattle.model.specs.Weave.{wovenTooMany, withIdentity, stepAlong, stepsAlong, tied, wovenFault, sameVertex, placeVertex, weaveVertex}
 use Rattle.model.specs.Weave.{identifiedBy}
 use Rattle.model.specs.Rows.{nodesFor, someChoice, actorNodes, allHave, rowGiven, mayHave, tuples, rowsOf}
-use Rattle.model.specs.Service.{ones, withWork, bookService, rulesService, queryService, requestService, writerText, onto, writerService}
+use Rattle.model.specs.Service.{ones, withWork, bookService, rulesService, queryService, requestService, writerText, onto, writerService, bookWritten}
+use Rattle.model.specs.Service.{bookWriter, renameService}
 use Rattle.model.specs.Service.{listFound, listRows, rowWords, listService}
-use Rattle.model.specs.Printed.{rowText, refusalText, rowsText, outcomeText, namesOf, printed}
+use Rattle.model.specs.Printed.{rowText, refusalText, rowsText, outcomeText, namesOf, printed, bookText, printedRenaming}
 use Rattle.model.specs.MayHave.{isActor}
 use Rattle.model.specs.RequestPlaces.{wordsFrom, placedBy, identityPlaces, slots}
 use Rattle.model.specs.RequestAnswer.{toldRequest, requestRead}
@@ -67,5 +72,7 @@ unfolding andThen same isNil any all keep each joined sum mem memℕ twice place
     listFound listRows rowWords listService rowText refusalText rowsText outcomeText namesOf printed wordsFrom placedBy identityPlaces slots refusalData
     toldRequest requestRead partOf nameAt bookOf placed bracketOf variableAt standingAt standings standingIn vertexPart edgePart valuePart addPart
     firstParts vertexParts edgeParts valueParts padded firstPart relationData valueData behindValue clauseData behindClause clausesData edgeData edgesData
-    queryData queryOutcome queryRead
+    queryData queryOutcome queryRead lowered sameButCase readBookBy laterNames beforeWord firstWord behindWord afterWord nodeWords piecesOf linePieces
+    textPieces pieceBytes oldBytes renamed cannotHave firstStuck declaresNode declaredAt unlessStuck renamedBook newName newNode withNewNames bookWritten
+    bookWriter renameService bookText printedRenaming
 computing = 0

@@ -12,6 +12,7 @@ pub mod Forms
 pub mod Book
 pub mod BookLines
 pub mod ReadBook
+pub mod Renaming
 pub mod Signs
 pub mod QueryText
 pub mod Grammar

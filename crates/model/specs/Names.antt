@@ -1,7 +1,8 @@
--- Names, and names in lists: membership, repeats, places, first appearances.
-use Prim.Native.Nat.{ℕ}
-use mathlib.Core.List.{List, [], _∷_}
-use mathlib.Core.Bool.{Bool, true, false}
+-- Names, and names in lists: membership, repeats, places, first appearances; names that are equal but for the case of letters.
+use Prim.Native.Nat.{ℕ, _+_}
+use mathlib.Core.List.{List, [], _∷_, map}
+use mathlib.Core.Bool.{Bool, true, false, _&&_}
+use lib.Dec.{leb}
 use Rattle.model.specs.Bytes.{Bytes, same}
 use Rattle.model.specs.Choice.{pick}
 use Rattle.model.specs.Lists.{any, placeWhere, addNewBy, firstsBy}
@@ -30,3 +31,11 @@ addNew ws w = addNewBy same ws w
 -- every name once, in order of first appearance, behind those seen already
 abbrev pub firsts : List Name → List Name → List Name
 firsts seen ws = firstsBy same seen ws
+
+-- a byte, an upper case letter (A to Z, 65 to 90) as the lower case one
+unfoldable pub lowered : ℕ → ℕ
+lowered b = pick (leb 65 b && leb b 90) (b + 32) b
+
+-- two names are equal but for the case of their letters
+unfoldable pub sameButCase : Name → Name → Bool
+sameButCase a b = same (map lowered a) (map lowered b)

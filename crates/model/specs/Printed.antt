@@ -1,16 +1,17 @@
--- What the list program prints.
+-- What the programs print: the list, and the renaming.
 use Prim.Native.Nat.{ℕ}
 use mathlib.Core.List.{List, [], _++_, map}
 use lib.ListN.{length, getD}
 use Rattle.model.specs.Bytes.{Bytes, bytesOf}
 use Rattle.model.specs.Lists.{joined}
-use Rattle.model.specs.Limits.{wholeMemory}
+use Rattle.model.specs.Limits.{maxBookBytes, wholeMemory}
 use Rattle.model.specs.Names.{Name}
 use Rattle.model.specs.Refusal.{Outcome, accepted, refused, Refusal}
 use Rattle.model.specs.Book.{Book, nodeNames}
 use Rattle.model.specs.ReadBook.{readBook}
 use Rattle.model.specs.Writing.{digits, eachBehind}
-use Rattle.model.specs.Service.{listRows}
+use Rattle.model.specs.Renaming.{renamedBook}
+use Rattle.model.specs.Service.{bookWritten, listRows}
 
 -- a row as the list program prints it: its node names
 unfoldable pub rowText : List Name → List ℕ → Bytes
@@ -37,3 +38,12 @@ namesOf (refused r) = []
 -- what the list program prints; it lends 16,384 row words
 unfoldable pub printed : Bytes → Bytes → Bytes → Bytes → Bytes
 printed book rules query request = outcomeText (namesOf (readBook book)) (listRows wholeMemory 16384 book rules query request)
+
+-- a book that is written, or the refusal alone
+unfoldable pub bookText : Outcome Bytes → Bytes
+bookText (accepted t) = t
+bookText (refused r) = refusalText r
+
+-- what the renaming program prints; it lends 65,536 bytes, as many as a book may have
+unfoldable pub printedRenaming : Bytes → Bytes
+printedRenaming book = bookText (bookWritten wholeMemory maxBookBytes (renamedBook book))

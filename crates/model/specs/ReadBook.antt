@@ -1,4 +1,5 @@
--- A book line by line: the faults of a line after the lines before, and the book with it.
+-- A book line by line: the faults of a line after the lines before, and the book with it. Which node names are taken for the same is a rule, `alike`: a
+-- book is read by names that are equal but for case; the renaming reads by the very names.
 use Prim.Native.Nat.{ℕ, _+_}
 use mathlib.Core.List.{List, [], _∷_, _++_, map}
 use mathlib.Core.Bool.{Bool, not, _&&_, _||_}
@@ -8,7 +9,7 @@ use Rattle.model.specs.Bytes.{Bytes, same}
 use Rattle.model.specs.Choice.{Maybe, andThen}
 use Rattle.model.specs.Lists.{any, all}
 use Rattle.model.specs.Limits.{maxBookBytes, maxNodes, maxRelationships, maxEntries, maxDeclared}
-use Rattle.model.specs.Names.{Name, mem, twice, place}
+use Rattle.model.specs.Names.{Name, mem, twice, place, sameButCase}
 use Rattle.model.specs.Refusal.{Outcome, Row, lowest, _if_}
 use Rattle.model.specs.Lines.{Line, Step, faultOr, formStep, readLines, linesOf, bytesFirst}
 use Rattle.model.specs.Values.{Entry, ofKind}
@@ -36,18 +37,22 @@ nameFaults n ns = (5 if mem n ns) ∷ (7 if leb maxDeclared (length ns)) ∷ []
 unfoldable pub nameFault : Name → List Name → Maybe ℕ
 nameFault n ns = lowest (nameFaults n ns)
 
+-- a rule: whether two node names are taken for the same
+abbrev pub NamesAlike : Type 0
+NamesAlike = Name → Name → Bool
+
 -- the table of faults of a node line
-abbrev pub nodeFaults : Book → Name → List Entry → List Row
-nodeFaults b n es =
+abbrev pub nodeFaults : NamesAlike → Book → Name → List Entry → List Row
+nodeFaults alike b n es =
     (4 if undeclared (b .vattrs) es)
-    ∷ (5 if mem n (nodeNames b) || twice (map (λ e. e .attr) es))
+    ∷ (5 if any (alike n) (nodeNames b) || twice (map (λ e. e .attr) es))
     ∷ (6 if not (all (suits (b .vattrs)) es))
     ∷ (7 if leb maxNodes (length (b .nodes)) || ltb maxEntries (entryCount b + length es))
     ∷ []
 
 -- the lowest of them
-unfoldable pub nodeFault : Book → Name → List Entry → Maybe ℕ
-nodeFault b n es = lowest (nodeFaults b n es)
+unfoldable pub nodeFault : NamesAlike → Book → Name → List Entry → Maybe ℕ
+nodeFault alike b n es = lowest (nodeFaults alike b n es)
 
 -- the table of faults of a rel line
 abbrev pub relFaults : Book → Name → Name → Name → List Entry → List Row
@@ -63,12 +68,12 @@ unfoldable pub relFault : Book → Name → Name → Name → List Entry → May
 relFault b l x y es = lowest (relFaults b l x y es)
 
 -- the lowest fault of a line after the lines before
-unfoldable pub lineFault : Book → BookLine → Maybe ℕ
-lineFault b (vattr n k) = nameFault n (attrNames (b .vattrs))
-lineFault b (eattr n k) = nameFault n (attrNames (b .eattrs))
-lineFault b (label n) = nameFault n (b .labels)
-lineFault b (node n es) = nodeFault b n es
-lineFault b (rel l x y es) = relFault b l x y es
+unfoldable pub lineFault : NamesAlike → Book → BookLine → Maybe ℕ
+lineFault alike b (vattr n k) = nameFault n (attrNames (b .vattrs))
+lineFault alike b (eattr n k) = nameFault n (attrNames (b .eattrs))
+lineFault alike b (label n) = nameFault n (b .labels)
+lineFault alike b (node n es) = nodeFault alike b n es
+lineFault alike b (rel l x y es) = relFault b l x y es
 
 -- the book with a line more
 unfoldable pub addLine : Book → BookLine → Book
@@ -107,9 +112,13 @@ addLine b (rel l x y es) =
     }
 
 -- one line of the book
-unfoldable pub bookStep : Book → Line → Step Book
-bookStep b l = formStep (andThen (formOf l) bookLine) (λ x. faultOr (lineFault b x) (addLine b x))
+unfoldable pub bookStep : NamesAlike → Book → Line → Step Book
+bookStep alike b l = formStep (andThen (formOf l) bookLine) (λ x. faultOr (lineFault alike b x) (addLine b x))
 
--- text 1
+-- text 1, by a rule for node names
+unfoldable pub readBookBy : NamesAlike → Bytes → Outcome Book
+readBookBy alike s = let book = readLines 1 (bookStep alike) 1 emptyBook (linesOf s) in bytesFirst 1 maxBookBytes (λ l. l) s book
+
+-- text 1: a node name that is equal to an earlier one but for case is declared a second time
 unfoldable pub readBook : Bytes → Outcome Book
-readBook s = let book = readLines 1 bookStep 1 emptyBook (linesOf s) in bytesFirst 1 maxBookBytes (λ l. l) s book
+readBook s = readBookBy sameButCase s

@@ -1,4 +1,4 @@
--- The table "Refused, and how it reads": a constructor for each of its sixteen rows, by the number, the text and the line that are returned.
+-- The table "Refused, and how it reads": a constructor for each of its rows, by the number, the text and the line that are returned.
 use Prim.Native.Nat.{ℕ, _≤_}
 use mathlib.Core.Path.{_≡_}
 use Rattle.model.specs.Refusal.{Refusal}
@@ -18,7 +18,7 @@ pub record NameOn (text line : ℕ) : Type 0 where
   pub line-of : LineOf text line
   pub request-is-line-1 : text ≡ 4 → line ≡ 1
 
--- the sixteen rows: returned number, text and line
+-- document 01's sixteen rows, and those of the change requests: returned number, text and line
 pub data TableRow : ℕ → ℕ → ℕ → Type 0 where
   -- 15: working memory is under 16,384 words
   memory-is-short : TableRow 15 0 0
@@ -30,7 +30,7 @@ pub data TableRow : ℕ → ℕ → ℕ → Type 0 where
   grammar-broken : {text line : ℕ} → LineOf text line → (text ≡ 4 → line ≤ 2) → TableRow 3 text line
   -- 4: a name is not declared
   not-declared : {text line : ℕ} → NameOn text line → TableRow 4 text line
-  -- 5: declared, related, listed, given or returned a second time; a second policy of a category
+  -- 5: declared, related, listed, given or returned a second time; a second policy of a category; in the renaming a name that cannot have its new one
   second-time : {text line : ℕ} → NameOn text line → TableRow 5 text line
   -- 6: value or relation not of the declared type; a request has neither
   not-of-the-type : {text line : ℕ} → LineOf text line → text ≤ 3 → TableRow 6 text line
@@ -52,6 +52,8 @@ pub data TableRow : ℕ → ℕ → ℕ → Type 0 where
   rows-exceed-words : TableRow 14 5 0
   -- 14: written query longer than its buffer or than 2,048 bytes
   written-too-long : TableRow 14 3 1
+  -- 14: a book that is written is longer than its buffer
+  book-exceeds-buffer : TableRow 14 1 0
 
 -- a refusal is one of these rows
 abbrev pub InTable : Refusal → Type 0

@@ -1,14 +1,17 @@
--- The refusals of the six services, each a table in the paper's order: which refusal is given, and exactly if what holds.
+-- The refusals of the seven services, each a table in the paper's order: which refusal is given, and exactly if what holds.
 use Prim.Native.Nat.{ℕ, _<_, _≤_, _*_}
 use mathlib.Core.Path.{_≡_}
 use mathlib.Core.Logic.{_⊎_, _↔_}
-use mathlib.Core.List.{List, _∷_}
+use mathlib.Core.List.{List, [], _∷_}
 use lib.ListN.{length}
-use Rattle.model.specs.Bytes.{Bytes}
+use Rattle.model.specs.Bytes.{Bytes, same}
 use Rattle.model.specs.Choice.{Maybe, nothing, just}
 use Rattle.model.specs.Refusal.{Refusal, Outcome, accepted, refused}
-use Rattle.model.specs.Book.{Book}
-use Rattle.model.specs.ReadBook.{readBook}
+use Rattle.model.specs.Names.{Name}
+use Rattle.model.specs.Lines.{linesOf}
+use Rattle.model.specs.Book.{Book, nodeNames}
+use Rattle.model.specs.ReadBook.{readBookBy, readBook}
+use Rattle.model.specs.Renaming.{laterNames, firstStuck, declaredAt, renamedBook}
 use Rattle.model.specs.QueryText.{QueryText}
 use Rattle.model.specs.ReadQuery.{readQuery}
 use Rattle.model.specs.Pattern.{patternOf}
@@ -34,6 +37,15 @@ pub record Exactly {A : Type 0} (answer : Outcome A) (Table : Refusal → Type 0
 pub data BookTable (work : ℕ) (book : Bytes) (f : Refusal) : Type 0 where
   memory-short : work < 16384 → f ≡ returned 15 0 0 → BookTable work book f
   in-book : 16384 ≤ work → readBook book ≡ refused f → BookTable work book f
+
+-- the renaming: 15, then the book's own by the very names and 5 for a name that cannot have its new one, then 14 for a book over its buffer
+pub data RenameTable (work room : ℕ) (book : Bytes) (f : Refusal) : Type 0 where
+  memory-short : work < 16384 → f ≡ returned 15 0 0 → RenameTable work room book f
+  in-book : 16384 ≤ work → readBookBy same book ≡ refused f → RenameTable work room book f
+  stuck : {b : Book} {n : Name} → 16384 ≤ work → readBookBy same book ≡ accepted b
+      → firstStuck book (nodeNames b) [] (laterNames [] (nodeNames b)) ≡ just n → f ≡ returned 5 1 (declaredAt n (linesOf book))
+      → RenameTable work room book f
+  no-room : {t : Bytes} → 16384 ≤ work → renamedBook book ≡ accepted t → room < length t → f ≡ returned 14 1 0 → RenameTable work room book f
 
 -- memory is whole and the book is read
 pub record BookRead (work : ℕ) (book : Bytes) (b : Book) : Type 0 where

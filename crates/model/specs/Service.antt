@@ -12,6 +12,7 @@ use Rattle.model.specs.Names.{place}
 use Rattle.model.specs.Refusal.{Outcome, accepted, refused, onAccept, refusal, refusedIf}
 use Rattle.model.specs.Book.{entryCount}
 use Rattle.model.specs.ReadBook.{readBook}
+use Rattle.model.specs.Renaming.{renamedBook}
 use Rattle.model.specs.ReadQuery.{readQuery}
 use Rattle.model.specs.Pattern.{Pattern, patternOf}
 use Rattle.model.specs.Writing.{writtenQuery}
@@ -92,7 +93,7 @@ writerText work room book rules query =
     let t = writtenQuery (patternOf q) in
     pick (ltb room (length t) || ltb maxQueryBytes (length t)) (refusal 14 3 1) (accepted t)))))
 
--- what the query writer leaves
+-- what a writer of a text leaves
 pub record Written : Type 0 where
   pub answer : Outcome ℕ
   pub text : Bytes
@@ -108,6 +109,20 @@ unfoldable pub writerService : ℕ → Bytes → Bytes → Bytes → Bytes → W
 writerService work buffer book rules query =
     let t = writerText work (length buffer) book rules query in
     record { answer = onAccept t (λ x. accepted (length x)); text = onto t buffer; work = ones work }
+
+-- a book that is written, if it fits its buffer: 15 first, then what the texts give, 14 last
+unfoldable pub bookWritten : ℕ → ℕ → Outcome Bytes → Outcome Bytes
+bookWritten work room o = withWork work (onAccept o (λ t. pick (ltb room (length t)) (refusal 14 1 0) (accepted t)))
+
+-- a writer of a book answers its length in bytes and leaves the bytes past it
+unfoldable pub bookWriter : ℕ → Bytes → Outcome Bytes → Written
+bookWriter work buffer o =
+    let t = bookWritten work (length buffer) o in
+    record { answer = onAccept t (λ x. accepted (length x)); text = onto t buffer; work = ones work }
+
+-- the renaming
+unfoldable pub renameService : ℕ → Bytes → Bytes → Written
+renameService work buffer book = bookWriter work buffer (renamedBook book)
 
 -- the rows that a list finds, and how many Return names each row answers
 pub record FoundRows : Type 0 where

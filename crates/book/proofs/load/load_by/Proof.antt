@@ -1,5 +1,5 @@
 use Rattle.text.proofs.LineReads.{text-too-long, text-bad-line, text-allowed, text-short, bad-small}
-use Rattle.book.specs.Loaded.{readBookBy}
+use Rattle.model.specs.ReadBook.{readBookBy}
 use Rattle.book.proofs.LoadLaws.{filled-ones}
 use Rattle.model.specs.Answers.{refusalOf}
 use Rattle.model.specs.Refusal.{refusal}

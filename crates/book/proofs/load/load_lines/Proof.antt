@@ -4,7 +4,8 @@ use Rattle.book.proofs.LoadLaws.{empty-is, empty-fits, step-refuses, st
 use Rattle.text.proofs.LineReads.{line-forward, line-inside, lines-fault, lines-known, lines-over}
 use Rattle.book_tables.specs.Fits.{Fits}
 use Rattle.book_tables.specs.View.{bookAt}
-use Rattle.book.specs.Loaded.{bookStepBy}
+use Rattle.model.specs.ReadBook.{bookStep}
+use Rattle.book_tables.specs.Alike.{alike}
 use Rattle.model.specs.Book.{Book, emptyBook}
 use Rattle.model.specs.Lines.{readLines, linesOf}
 use lib.ListN.{length, drop}
@@ -17,8 +18,8 @@ use Rattle.book.proofs.load.load_lines.Tie as tie
 
 abbrev Inv-loop : tie.InvT-loop
 Inv-loop text words₀ rule at₀ line₀ counts₀ words at line counts = (length words ≡ length words₀) × Fits text words counts × (at ≤ length text + 1)
-    × (line ≤ at + 1) × (readLines 1 (bookStepBy rule) line (bookAt text words counts) (linesOf (drop at text))
-    ≡ readLines 1 (bookStepBy rule) 1 emptyBook (linesOf text))
+    × (line ≤ at + 1) × (readLines 1 (bookStep (alike rule)) line (bookAt text words counts) (linesOf (drop at text))
+    ≡ readLines 1 (bookStep (alike rule)) 1 emptyBook (linesOf text))
 
 abbrev μ-loop : tie.MeasureT-loop
 μ-loop text words₀ rule at₀ line₀ counts₀ words at line counts = length text + 1 - at
@@ -31,7 +32,7 @@ loop-holds c =
       rw (c .no-counts .ensures, c .before .before .before .clear-chains .ensures) (empty-fits (a .args .text .now) (a .args .words .now) (a .pre .1)),
       omega arith,
       omega arith,
-      ap (λ (b : Book). readLines 1 (bookStepBy (a .args .rule)) 1 b (linesOf (a .args .text .now)))
+      ap (λ (b : Book). readLines 1 (bookStep (alike (a .args .rule))) 1 b (linesOf (a .args .text .now)))
           (ap (bookAt (a .args .text .now) _) (c .no-counts .ensures) ∙ empty-is (a .args .text .now) _),
     )
 
@@ -58,7 +59,7 @@ returns c =
     let at-loop = at-loop-test .before in
     let at-args = at-loop .before .before .before .before .before .before .before .before in (
       sym (at-loop .loop .inv .4) ∙ lines-fault (at-args .args .text .now) (at-loop .loop .at) _ (at-line-end .line-end .ensures)
-          (at-loop-test .loop-test .taken) 1 (bookStepBy (at-args .args .rule)) (at-loop .loop .line) _ _
+          (at-loop-test .loop-test .taken) 1 (bookStep (alike (at-args .args .rule))) (at-loop .loop .line) _ _
           (step-refuses (at-args .args .text .now) _ _ _ _ (at-number .number .given .1) (at-line-step .line-step .ensures)),
       filled-ones _ _
           (c .before .before .fill .ensures),
@@ -106,13 +107,13 @@ loop-again c =
       s .1,
       omega (arith, line-inside text at _ ends more),
       omega (arith, at-loop .loop .inv .3, line-forward text at _ ends more),
-      sym (lines-known text at _ ends more 1 (bookStepBy (a .rule)) (at-loop .loop .line) _ _ (s .0)) ∙ at-loop .loop .inv .4,
+      sym (lines-known text at _ ends more 1 (bookStep (alike (a .rule))) (at-loop .loop .line) _ _ (s .0)) ∙ at-loop .loop .inv .4,
     )
 
 returns-2 : tie.Need-returns-2 Inv-loop μ-loop
 returns-2 c =
     let at-args = c .before .before .before .before .before .before .before .before .before in (
-      sym (c .before .loop .inv .4) ∙ lines-over (at-args .args .text .now) (c .before .loop .at) 1 (bookStepBy (at-args .args .rule))
+      sym (c .before .loop .inv .4) ∙ lines-over (at-args .args .text .now) (c .before .loop .at) 1 (bookStep (alike (at-args .args .rule)))
           (c .before .loop .line) _ (c .loop-test .left),
       c .before .loop .inv .1,
     )

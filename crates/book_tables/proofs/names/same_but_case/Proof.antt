@@ -5,8 +5,7 @@ use mathlib.Core.List.{map}
 use native.Mathlib.Omega.{arith}
 use lib.ListN.{length, drop}
 use Rattle.model.specs.Bytes.{same}
-use Rattle.chains.specs.Slots.{lowered}
-use Rattle.book_tables.specs.Alike.{sameButCase}
+use Rattle.model.specs.Names.{lowered, sameButCase}
 use Rattle.book_tables.proofs.AlikeLaws.{case-lengths, case-over, case-step, case-differs}
 use Rattle.book_tables.proofs.names.same_but_case.Statement.{statement}
 use Rattle.book_tables.proofs.names.same_but_case.Tie as tie
