@@ -1,0 +1,2 @@
+-- What the contract of the printed renaming speaks of.
+pub mod Front

@@ -1,0 +1,2 @@
+-- The laws of the renaming.
+pub mod RenameLaws

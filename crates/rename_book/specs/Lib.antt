@@ -1,0 +1,2 @@
+-- What the contracts of the renaming speak of.
+pub mod Leaves
