@@ -3,11 +3,12 @@
 
 usage: tests/vectors.py FOLDER [--most BYTES] [--only NAME ...]
 
-FOLDER holds one folder for each set of texts: book.txt, rules.txt, query.txt, request.txt, list.out (what the list program
-prints), readers.out (a line for each reader) and, where the query writer accepts, write.out. Sets whose four texts have more than
-BYTES bytes together (1500 if not given) are left out. A scratch repository is made below the system's temporary folder, with two
-theorems for each set (readers and writer; list), proved by computation alone. Sets whose theorem is refused are listed; so are lists
-that have more mappings to try than the checker's limit of steps allows. No part of the gate.
+FOLDER holds one folder for each set of texts: book.txt, rules.txt, query.txt, request.txt. The answers stand in list.out (what the list
+program prints), readers.out (a line for each reader) and, where the query writer accepts, write.out; or, in folders of a stage of document
+02, in a file for each call, COMMAND.out or COMMAND-NUMBERS.out. Sets whose four texts have more than BYTES bytes together (1500 if not
+given) are left out. A scratch repository is made below the system's temporary folder, with two theorems for each set (readers and writers;
+lists), proved by computation alone. Sets whose theorem is refused are listed; so are lists that have more mappings to try than the checker's
+limit of steps allows. No part of the gate.
 """
 import os, re, shutil, subprocess, sys, tempfile
 
@@ -30,8 +31,10 @@ use Rattle.model.specs.Pattern.{Pattern, Edge, Clause, excluded, vertexHas, edg
 use Rattle.model.specs.Weave.{isExcluded}
 use Rattle.model.specs.Writing.{digits, relationText, valueText}
 use Rattle.model.specs.Request.{Identity}
-use Rattle.model.specs.Service.{BookAnswer, RulesAnswer, RequestAnswer, bookService, rulesService, queryService, requestService, writerText}
-use Rattle.model.specs.Printed.{refusalText}
+use Rattle.model.specs.Service.{BookAnswer, RulesAnswer, RequestAnswer, bookService, rulesService, queryService, requestService, writerText, bookWritten}
+use Rattle.model.specs.Service.{listRows}
+use Rattle.model.specs.Renaming.{renamedBook}
+use Rattle.model.specs.Printed.{refusalText, outcomeText, namesOf, bookText}
 
 unfoldable pub number : ℕ → Bytes
 number n = digits 20 n
@@ -103,8 +106,40 @@ answers book rules query request =
       written = writtenText w;
     }
 
+-- the answer of a reader, or its refusal alone
+unfoldable pub shownAlone : {A : Type 0} → (A → Bytes) → Outcome A → Bytes
+shownAlone f (accepted a) = f a ++ bytesOf "\\n"
+shownAlone f (refused r) = refusalText r
+
+-- what a file of a call says: COMMAND-NUMBERS.out
+unfoldable pub bookCall : ℕ → Bytes → Bytes → Bytes → Bytes → Bytes
+bookCall work book rules query request = shownAlone bookShown (bookService work book .answer)
+
+unfoldable pub rulesCall : ℕ → Bytes → Bytes → Bytes → Bytes → Bytes
+rulesCall work book rules query request = shownAlone rulesShown (rulesService work book rules .answer)
+
+unfoldable pub queryCall : ℕ → Bytes → Bytes → Bytes → Bytes → Bytes
+queryCall work book rules query request = shownAlone (bookOf (readBook book) patternShown) (queryService work book query .answer)
+
+unfoldable pub requestCall : ℕ → Bytes → Bytes → Bytes → Bytes → Bytes
+requestCall work book rules query request = shownAlone requestShown (requestService work book rules request .answer)
+
+unfoldable pub writeCall : ℕ → ℕ → Bytes → Bytes → Bytes → Bytes → Bytes
+writeCall room work book rules query request = bookText (writerText work room book rules query)
+
+unfoldable pub renameCall : ℕ → ℕ → Bytes → Bytes → Bytes → Bytes → Bytes
+renameCall room work book rules query request = bookText (bookWritten work room (renamedBook book))
+
+unfoldable pub listCall : ℕ → ℕ → Bytes → Bytes → Bytes → Bytes → Bytes
+listCall words work book rules query request = outcomeText (namesOf (readBook book)) (listRows work words book rules query request)
+
+-- the answers of calls on four texts
+unfoldable pub called : List (Bytes → Bytes → Bytes → Bytes → Bytes) → Bytes → Bytes → Bytes → Bytes → List Bytes
+called calls book rules query request = map (λ call. call book rules query request) calls
+
 unfoldable pub showing : ℕ
-unfolding number spaced listed bracket clauseShown patternShown outcomeShown bookOf bookShown rulesShown requestShown writtenShown writtenText answers
+unfolding shownAlone bookCall rulesCall queryCall requestCall writeCall renameCall listCall called
+    number spaced listed bracket clauseShown patternShown outcomeShown bookOf bookShown rulesShown requestShown writtenShown writtenText answers
 showing = 0
 '''
 
@@ -117,26 +152,60 @@ def literal(data):
     return "(" + "".join(f"{b} ∷ " for b in data) + "[])"
 
 
-def case(name, folder):
-    read = lambda f: open(os.path.join(folder, f), "rb").read() if os.path.exists(os.path.join(folder, f)) else b""
-    texts = " ".join(literal(read(f)) for f in TEXTS)
-    gives = f"record {{ readers = {literal(read('readers.out'))}; written = {literal(read('write.out'))} }}"
-    return f'''-- Set {name}: every service's answer, by computation.
+# The numbers of a call, where its file's name gives none.
+NUMBERS = {"book": [16384], "rules": [16384], "query": [16384], "request": [16384], "write": [2048, 16384], "rename": [65536, 16384], "list": [16384, 16384]}
+
+HEAD = '''-- Set {name}: every service's answer, by computation.
 use mathlib.Core.Path.{{_≡_, refl}}
 use mathlib.Core.List.{{List, [], _∷_}}
-use Rattle.model.specs.Bytes.{{bytesOf}}
+use Rattle.model.specs.Bytes.{{Bytes, bytesOf}}
 use Rattle.model.specs.Computing.{{computing}}
 use Rattle.model.specs.Printed.{{printed}}
-use Rattle.cases.specs.Shown.{{Answers, answers, showing}}
-
-readers : answers {texts} ≡ {gives}
-unfolding computing showing
-readers = refl
-
-list : printed {texts} ≡ {literal(read('list.out'))}
-unfolding computing showing
-list = refl
+use Rattle.cases.specs.Shown.{{{uses}}}
 '''
+
+
+def read(folder, file):
+    """The bytes of a file; a missing one has none."""
+    path = os.path.join(folder, file)
+    return open(path, "rb").read() if os.path.exists(path) else b""
+
+
+def theorem(name, left, right):
+    return f"\n{name} : {left} ≡ {right}\nunfolding computing showing\n{name} = refl\n"
+
+
+def calls(folder):
+    """The calls that a stage's folder answers: for each the term of its definition, and its answer."""
+    found = []
+    for file in sorted(os.listdir(folder)):
+        command, *numbers = file[:-4].split("-") if file.endswith(".out") else [""]
+        if command in NUMBERS:
+            given = [int(n) for n in numbers] + NUMBERS[command][len(numbers):]
+            found.append((command, f"{command}Call " + " ".join(map(str, given)), literal(read(folder, file))))
+    return found
+
+
+def stage_case(name, folder, texts):
+    """A set of a stage of document 02: a theorem for the readers and writers, one for the lists."""
+    found = calls(folder)
+    uses = sorted({f"{command}Call" for command, _, _ in found})
+    out = HEAD.format(name=name, uses=", ".join(["called", "showing"] + uses))
+    for part, which in ("readers", lambda c: c != "list"), ("list", lambda c: c == "list"):
+        mine = [(term, answer) for command, term, answer in found if which(command)]
+        if mine:
+            terms, answers = ("(" + "".join(f"{x} ∷ " for x in column) + "[])" for column in zip(*mine))
+            out += theorem(part, f"called {terms} {texts}", answers)
+    return out
+
+
+def case(name, folder):
+    texts = " ".join(literal(read(folder, f)) for f in TEXTS)
+    if not os.path.exists(os.path.join(folder, "readers.out")):
+        return stage_case(name, folder, texts)
+    gives = f"record {{ readers = {literal(read(folder, 'readers.out'))}; written = {literal(read(folder, 'write.out'))} }}"
+    out = HEAD.format(name=name, uses="Answers, answers, showing")
+    return out + theorem("readers", f"answers {texts}", gives) + theorem("list", f"printed {texts}", literal(read(folder, "list.out")))
 
 
 def main():
@@ -149,7 +218,7 @@ def main():
         at = os.path.join(folder, name)
         if not os.path.isdir(at) or (only and name not in only):
             continue
-        if sum(os.path.getsize(os.path.join(at, f)) for f in TEXTS) <= most:
+        if sum(len(read(at, f)) for f in TEXTS) <= most:
             names.append(name)
     scratch = tempfile.mkdtemp(prefix="vectors-")
     shutil.copytree(os.path.join(ROOT, "crates", "model"), os.path.join(scratch, "crates", "model"), ignore=shutil.ignore_patterns("must-fail"))
@@ -173,7 +242,9 @@ def main():
     for l in other[:10] + [l for l in out.split("\n") if "/Set" in l and ": error" in l][:10]:
         print(l[:600])
     proved = not refused and not other and (run.returncode == 0 or long)
-    print(f"{len(names)} sets: readers and writer computed for {len(names)}, lists for {len(names) - len(long)}")
+    if not proved and not told and not other:
+        print(f"rt check ended with {run.returncode}: {out[-600:]}")
+    print(f"{len(names)} sets: readers and writers computed for {len(names)}, lists for {len(names) - len(long)}")
     if long:
         print(f"lists with too many mappings for the checker's limit of steps: {' '.join(long)}")
     if refused:

@@ -1,6 +1,7 @@
 //! Times whole calls of the library in one process, beside plain Rust, and tells what share reading, weaving and searching have.
 //!
-//! The calls take turns, so that a busy moment of the machine falls on all of them.
+//! `bench renaming` times the renaming alone. The calls take turns, so that a busy moment of the machine falls on all of them.
+mod renaming;
 mod texts;
 
 use hifmuneth::{lent, WORK_WORDS};
@@ -70,7 +71,11 @@ fn measure(t: &Texts) {
 }
 
 fn main() {
+    if std::env::args().nth(1).as_deref() == Some("renaming") {
+        return renaming::run();
+    }
     for t in [texts::worked(), texts::full(), texts::dense()] {
         measure(&t);
     }
+    renaming::run();
 }

@@ -3,6 +3,7 @@ use crate::damage::damage;
 use crate::limits::at_limit;
 use crate::patterns::pattern;
 use crate::random::Random;
+use crate::twins::grown;
 use crate::world::*;
 
 #[derive(Clone, Debug, Default)]
@@ -35,8 +36,8 @@ fn category(r: &mut Random, name: &str, earlier: &[Category]) -> (Category, Vec<
     (Category { name: name.to_string(), actors }, over.iter().map(|c| c.name.clone()).collect())
 }
 
-fn sound(r: &mut Random) -> Texts {
-    let world = World::new(r);
+fn sound(r: &mut Random, twins: bool) -> Texts {
+    let world = World::new(r, twins);
     let mut rules = String::new();
     let mut categories: Vec<Category> = Vec::new();
     let mut late = Vec::new();
@@ -74,9 +75,22 @@ fn sound(r: &mut Random) -> Texts {
     }
 }
 
-/// The next case: mostly in order; damaged in some of the cases; at a limit now and then.
+/// A stored book whose names differ by case: left so, made long, or renamed already.
+fn stored(r: &mut Random, texts: &mut Texts) {
+    match r.below(10) {
+        0 => grown(r, &mut texts.book),
+        1..=4 => texts.book = plain::rename::renamed(&texts.book).unwrap_or(std::mem::take(&mut texts.book)),
+        _ => {}
+    }
+}
+
+/// The next case: mostly in order; with node names that differ by case in some, damaged in some; at a limit now and then.
 pub fn case(r: &mut Random) -> Texts {
-    let mut texts = sound(r);
+    let twins = r.percent(20);
+    let mut texts = sound(r, twins);
+    if twins {
+        stored(r, &mut texts);
+    }
     if r.percent(6) {
         at_limit(r, &mut texts);
     }

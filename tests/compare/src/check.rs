@@ -1,4 +1,5 @@
-//! Every service of the library on the texts of a case, in buffers full of noise, against plain Rust: answers, numbers, words and bytes.
+//! The services of the library on the texts of a case, in buffers full of noise, against plain Rust: answers, numbers, words and bytes. Those that write
+//! a text stand in `writers`.
 use crate::cases::Texts;
 use crate::random::Random;
 use crate::tally::Tally;
@@ -18,6 +19,7 @@ pub struct Expected {
     pub query: Result<Pattern, Refusal>,
     pub request: Result<Request, Refusal>,
     pub written: Result<Vec<u8>, Refusal>,
+    pub renamed: Result<Vec<u8>, Refusal>,
     pub rows: Result<Vec<Vec<usize>>, Refusal>,
     pub enumerated: bool,
 }
@@ -48,22 +50,22 @@ pub fn expect(t: &Texts) -> Expected {
         assert!(!enumerated || rows == rows_by_enumeration(b, &x, &asked), "plain Rust's search and enumeration differ");
         Ok(rows)
     });
-    Expected { book, rules, query, request, written, rows, enumerated }
+    Expected { book, rules, query, request, written, renamed: plain::rename::renamed(&t.book), rows, enumerated }
 }
 
 /// The numbers that a call leaves: noise before it.
-struct Left {
-    counts: [usize; 4],
-    refusal: Refusal,
+pub struct Left {
+    pub counts: [usize; 4],
+    pub refusal: Refusal,
 }
 
-fn noise(r: &mut Random) -> Left {
+pub fn noise(r: &mut Random) -> Left {
     let mut n = || r.word() as u32;
     Left { counts: [0; 4].map(|_| n() as usize), refusal: Refusal { number: n(), text: n(), line: n() } }
 }
 
 /// Holds a call's verdict and numbers to what is expected: counts and no refusal, or a refusal and no counts.
-fn told(name: &str, accepted: bool, left: &Left, counts: usize, expected: Result<Vec<usize>, Refusal>) {
+pub fn told(name: &str, accepted: bool, left: &Left, counts: usize, expected: Result<Vec<usize>, Refusal>) {
     let zero = Refusal { number: 0, text: 0, line: 0 };
     let (want, refusal) = match &expected {
         Ok(c) => (c.clone(), zero),
@@ -74,12 +76,12 @@ fn told(name: &str, accepted: bool, left: &Left, counts: usize, expected: Result
     assert_eq!(left.counts[..counts], want[..], "{name}: numbers");
 }
 
-fn all_ones(name: &str, words: &[u32]) {
+pub fn all_ones(name: &str, words: &[u32]) {
     assert!(words.iter().all(|w| *w == ONES), "{name}: words not all ones");
 }
 
 /// Refusal 15 first, if the working memory is too small.
-fn given<T>(work: usize, answer: Result<T, Refusal>) -> Result<T, Refusal> {
+pub fn given<T>(work: usize, answer: Result<T, Refusal>) -> Result<T, Refusal> {
     if work < WORK { refuse(15, 0, 0) } else { answer }
 }
 
@@ -91,7 +93,7 @@ pub struct Check<'a> {
 
 impl Check<'_> {
     /// Whole working memory, and once in a while too little or more.
-    fn works(&mut self) -> Vec<usize> {
+    pub fn works(&mut self) -> Vec<usize> {
         match self.random.below(4) {
             0 => vec![WORK, *self.random.one(&[0, 1, WORK - 1])],
             1 => vec![WORK + self.random.below(300)],
@@ -176,37 +178,6 @@ impl Check<'_> {
         all_ones("request", &work);
         let identities = expected.map_or(vec![], |x| x.identities);
         assert_eq!(ids, identity_words(&t.request, &identities), "request: words of the identities");
-    }
-
-    pub fn writer(&mut self) {
-        let exact = self.expected.written.as_ref().map_or(40, |w| w.len());
-        let mut rooms = vec![exact, exact + self.random.below(600)];
-        rooms.push(if self.random.percent(50) { 0 } else { exact - 1 });
-        for room in rooms {
-            for words in self.works() {
-                self.write(room, words);
-            }
-        }
-    }
-
-    fn write(&mut self, room: usize, words: usize) {
-        let t = self.texts;
-        let (mut work, before, mut l) = (self.random.words(words), self.random.bytes(room), noise(self.random));
-        let mut out = before.clone();
-        let Refusal { number, text, line } = &mut l.refusal;
-        let ok = within("write", || unsafe {
-            raw::hifmuneth_write_query(
-                t.book.as_ptr(), t.book.len(), t.rules.as_ptr(), t.rules.len(), t.query.as_ptr(), t.query.len(),
-                out.as_mut_ptr(), room, work.as_mut_ptr(), words, &mut l.counts[0], number, text, line,
-            )
-        });
-        let fits = |w: &Vec<u8>| if w.len() > room || w.len() > 2048 { refuse(14, 3, 1) } else { Ok(w.clone()) };
-        let expected = given(words, self.expected.written.clone().and_then(|w| fits(&w)));
-        told("write", ok, &l, 1, expected.as_ref().map(|w| vec![w.len()]).map_err(|r| *r));
-        all_ones("write", &work);
-        let written = expected.unwrap_or_default();
-        assert_eq!(out[..written.len()], written[..], "write: text");
-        assert_eq!(out[written.len()..], before[written.len()..], "write: bytes past the text");
     }
 
     pub fn list(&mut self, tally: &mut Tally) {

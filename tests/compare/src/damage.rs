@@ -1,5 +1,6 @@
-//! Damage to a text: bytes flipped, dropped or added, lines dropped, doubled or swapped, names swapped.
+//! Damage to a text: bytes flipped, dropped or added, lines dropped, doubled or swapped, names swapped or their case turned.
 use crate::random::Random;
+use crate::twins::turned;
 
 const WORDS: [&str; 22] = [
     "a", "rate", "hub", "requestor", "dut", "view", "tend", "Match", "Where", "AND", "Return", "true", "e0", "int", "node", "over", "9223372036854775808",
@@ -58,11 +59,13 @@ fn names(r: &mut Random, text: &mut Vec<u8>) {
         return;
     }
     let (from, to) = *r.one(&all);
-    let new: Vec<u8> = if r.percent(60) {
-        let (a, b) = *r.one(&all);
-        text[a..b].to_vec()
-    } else {
-        r.one(&WORDS).bytes().collect()
+    let new: Vec<u8> = match r.below(10) {
+        0..=4 => {
+            let (a, b) = *r.one(&all);
+            text[a..b].to_vec()
+        }
+        5 | 6 => turned(r, &String::from_utf8_lossy(&text[from..to])).into_bytes(),
+        _ => r.one(&WORDS).bytes().collect(),
     };
     text.splice(from..to, new);
 }

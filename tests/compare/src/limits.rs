@@ -1,4 +1,4 @@
-//! Texts at a limit of document 01, or one past it.
+//! Texts at a limit of document 01, or one past it; some of their books have node names that differ by case.
 use crate::cases::Texts;
 use crate::random::Random;
 use plain::{book, query, rules};
@@ -41,16 +41,23 @@ fn declarations(r: &mut Random, texts: &mut Texts, over: usize) {
     append(&mut texts.book, (have..32 + over).map(form));
 }
 
-fn nodes(texts: &mut Texts, over: usize) {
-    let Ok(b) = book::read_book(&texts.book) else { return };
-    append(&mut texts.book, (b.nodes.len()..256 + over).map(|i| format!("(node z{i})")));
+/// The name of a node by its number; in pairs every other one is the one before but for case.
+fn node(pairs: bool, i: usize) -> String {
+    if pairs && i % 2 == 1 { format!("Z{}", i - 1) } else { format!("z{i}") }
 }
 
-fn relationships(texts: &mut Texts, over: usize) {
+fn nodes(r: &mut Random, texts: &mut Texts, over: usize) {
     let Ok(b) = book::read_book(&texts.book) else { return };
-    append(&mut texts.book, (0..33).map(|i| format!("(node z{i})")));
+    let pairs = r.percent(50);
+    append(&mut texts.book, (b.nodes.len()..256 + over).map(|i| format!("(node {})", node(pairs, i))));
+}
+
+fn relationships(r: &mut Random, texts: &mut Texts, over: usize) {
+    let Ok(b) = book::read_book(&texts.book) else { return };
+    let pairs = r.percent(50);
+    append(&mut texts.book, (0..33).map(|i| format!("(node {})", node(pairs, i))));
     append(&mut texts.book, ["(label zz)".to_string()]);
-    append(&mut texts.book, (b.rels.len()..1024 + over).map(|i| format!("(rel zz z{} z{})", i / 33, i % 33)));
+    append(&mut texts.book, (b.rels.len()..1024 + over).map(|i| format!("(rel zz {} {})", node(pairs, i / 33), node(pairs, i % 33))));
 }
 
 fn entries(texts: &mut Texts, over: usize) {
@@ -150,8 +157,8 @@ pub fn at_limit(r: &mut Random, texts: &mut Texts) {
     match r.below(14) {
         0 => long(r, texts, over),
         1 => declarations(r, texts, over),
-        2 => nodes(texts, over),
-        3 => relationships(texts, over),
+        2 => nodes(r, texts, over),
+        3 => relationships(r, texts, over),
         4 => entries(texts, over),
         5..=7 => big_query(r, texts, over),
         8..=10 => big_rules(r, texts, over),

@@ -11,9 +11,11 @@ mod random;
 mod slow;
 mod tally;
 mod timed;
+mod twins;
 mod vectors;
 mod words;
 mod world;
+mod writers;
 
 use std::{env, panic, process, time::Instant};
 
@@ -27,9 +29,9 @@ fn run(seed: u64, tally: &mut tally::Tally) -> bool {
         let expected = check::expect(&texts);
         let mut c = check::Check { texts: &texts, expected: &expected, random: &mut r };
         c.readers();
-        c.writer();
+        c.writers();
         c.list(tally);
-        tally.case(&expected);
+        tally.case(&texts.book, &expected);
     }));
     if done.is_err() {
         println!("case {seed} differs:");

@@ -1,5 +1,5 @@
-//! Texts that are made to be slow: as long as they may be, and of one kind throughout. Each is read by every reader, which must agree with plain
-//! Rust and end within the limit of `timed`.
+//! Texts that are made to be slow: as long as they may be, and of one kind throughout. Each is read by every reader, and its book renamed, which must
+//! agree with plain Rust and end within the limit of `timed`.
 use crate::cases::Texts;
 use crate::timed::{timed, LIMIT};
 use hifmuneth::Refusal;
@@ -108,6 +108,26 @@ fn books() -> Vec<String> {
     ]
 }
 
+/// The first or the later name of one of 128 pairs that differ only by case. The digit 0 and the letter p have the same remainder by 32, so
+/// that all these names share one slot of the index of names, and so do all their new ones.
+fn of_pair(i: usize, later: bool) -> String {
+    let end: String = (0..7).map(|bit| if i >> bit & 1 == 1 { 'p' } else { '0' }).collect();
+    format!("{}ast_tiltmet_{end}", if later { 'M' } else { 'm' })
+}
+
+/// Books that keep the renaming busy: full ones with pairs, renamed and refused at their last name.
+fn stored_books() -> Vec<String> {
+    let nodes = |pairs: usize| (0..pairs).map(|i| format!("(node {})\n(node {})\n", of_pair(i, false), of_pair(i, true))).collect::<String>();
+    let rels: String = (0..1024).map(|i| format!("(rel l {} {})\n", of_pair(i % 128, true), of_pair((i * 7 + i / 128) % 128, true))).collect();
+    let full = nodes(128) + "(label l)\n" + &rels;
+    let growth = 2 * 128 + 4 * 1024;
+    let too_long = full.clone() + "(label m)" + &" ".repeat(65_536 + 1 - growth - full.len() - 10) + "\n";
+    let taken = nodes(127) + &format!("(node {}_B)\n", of_pair(126, false));
+    let cases = |i: usize| (0..8).map(|bit| if i >> bit & 1 == 1 { 'p' } else { 'P' }).collect::<String>();
+    let alike: String = (0..256).map(|i| format!("(node mast_tilt_{})\n", cases(i))).collect();
+    vec![full, too_long, taken, alike]
+}
+
 fn requests() -> Vec<String> {
     let fill = |begin: &str, end: &str, piece: &dyn Fn(usize) -> String| filled(begin, end, 2_048, piece);
     vec![
@@ -120,7 +140,7 @@ fn requests() -> Vec<String> {
 
 fn texts() -> Vec<Texts> {
     let set = |b: &str, r: &str, q: &str, x: &str| Texts { book: b.into(), rules: r.into(), query: q.into(), request: x.into() };
-    let mut all: Vec<Texts> = books().iter().map(|b| set(b, RULES, QUERY, REQUEST)).collect();
+    let mut all: Vec<Texts> = books().iter().chain(&stored_books()).map(|b| set(b, RULES, QUERY, REQUEST)).collect();
     all.extend(rules().iter().map(|r| set(BOOK, r, QUERY, REQUEST)));
     all.extend(queries(2_048).iter().map(|q| set(BOOK, RULES, q, REQUEST)));
     all.extend(requests().iter().map(|x| set(BOOK, RULES, QUERY, x)));
@@ -140,10 +160,11 @@ fn read(t: &Texts) -> Vec<(&'static str, Option<Refusal>, Duration)> {
         least("query", &|| hifmuneth::read_query(&t.book, &t.query).err()),
         least("request", &|| hifmuneth::read_request(&t.book, &t.rules, &t.request).err()),
         least("write", &|| hifmuneth::write_query(&t.book, &t.rules, &t.query).err()),
+        least("rename", &|| hifmuneth::rename_book(&t.book).err()),
     ]
 }
 
-/// What plain Rust says of the texts that the three first readers read.
+/// What plain Rust says of the texts that a reader reads, of those that are long, or of a renaming.
 fn expected(t: &Texts, name: &str) -> Option<Option<Refusal>> {
     let refusal = |r: plain::text::Refusal| Refusal { number: r.number, text: r.text, line: r.line };
     let book = plain::book::read_book(&t.book);
@@ -151,6 +172,7 @@ fn expected(t: &Texts, name: &str) -> Option<Option<Refusal>> {
         "book" | "names" => Some(book.err().map(refusal)),
         "rules" => Some(book.and_then(|b| plain::rules::read_rules(&b, &t.rules)).err().map(refusal)),
         "query" => Some(book.and_then(|b| plain::query::read_query(&b, &t.query)).err().map(refusal)),
+        "rename" => Some(plain::rename::renamed(&t.book).err().map(refusal)),
         _ => None,
     }
 }
@@ -158,6 +180,10 @@ fn expected(t: &Texts, name: &str) -> Option<Option<Refusal>> {
 pub fn run() -> bool {
     let (mut fine, mut slowest, all) = (true, Duration::ZERO, texts());
     for (i, t) in all.iter().enumerate() {
+        if hifmuneth::rename_book(&t.book).ok() != plain::rename::renamed(&t.book).ok() {
+            println!("slow text {i}: the renamed book differs");
+            fine = false;
+        }
         for (name, refusal, time) in read(t) {
             slowest = slowest.max(time);
             if time > LIMIT {
@@ -170,6 +196,6 @@ pub fn run() -> bool {
             }
         }
     }
-    println!("{} texts that are made to be slow: the slowest reading took {slowest:?}", all.len());
+    println!("{} texts that are made to be slow: the slowest call took {slowest:?}", all.len());
     fine
 }

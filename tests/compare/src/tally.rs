@@ -1,5 +1,6 @@
 //! What the cases covered, so that it can be seen.
 use crate::check::Expected;
+use plain::book::{read_book_by, same, same_but_case};
 use plain::list::asked;
 use plain::query::Clause;
 use plain::text::{Refusal, Value};
@@ -11,6 +12,7 @@ pub struct Tally {
     answers: BTreeMap<&'static str, BTreeMap<u32, usize>>,
     calls: BTreeMap<u32, usize>,
     seen: BTreeMap<&'static str, usize>,
+    renamings: BTreeMap<&'static str, usize>,
     rows: usize,
     most: usize,
 }
@@ -29,13 +31,15 @@ impl Tally {
         *self.seen.entry(what).or_default() += there as usize;
     }
 
-    pub fn case(&mut self, e: &Expected) {
+    pub fn case(&mut self, book: &[u8], e: &Expected) {
         self.cases += 1;
+        self.renaming(book, &e.renamed);
         self.answer("book", &e.book);
         self.answer("rules", &e.rules);
         self.answer("query", &e.query);
         self.answer("request", &e.request);
         self.answer("write", &e.written);
+        self.answer("rename", &e.renamed);
         self.answer("list", &e.rows);
         let (Ok(b), Ok(r), Ok(q), Ok(x), Ok(rows)) = (&e.book, &e.rules, &e.query, &e.request, &e.rows) else { return };
         self.rows += rows.len();
@@ -61,10 +65,40 @@ impl Tally {
         self.see("absent attributes asked for", asked.iter().any(|a| a.pattern.clauses.iter().any(|c| matches!(c, Clause::Vertex(_, at, _, _) if b.nodes.iter().any(|n| n.entries.iter().all(|e| e.0 != *at))))));
     }
 
+    /// What a book's renaming does, or why it cannot.
+    fn renaming(&mut self, book: &[u8], renamed: &Result<Vec<u8>, Refusal>) {
+        let Ok(b) = read_book_by(book, same) else { return };
+        let names: Vec<&Vec<u8>> = b.nodes.iter().map(|n| &n.name).collect();
+        let is_later = |i: &usize| names[..*i].iter().any(|n| same_but_case(n, names[*i]));
+        let later: Vec<&Vec<u8>> = (0..names.len()).filter(is_later).map(|i| names[i]).collect();
+        let what = match renamed {
+            Ok(_) if later.is_empty() => "nothing to rename",
+            Ok(_) if later.len() == 1 => "one name renamed",
+            Ok(_) => "two names or more renamed",
+            Err(r) => {
+                let line = String::from_utf8_lossy(book.split(|b| *b == b'\n').nth(r.line as usize - 1).unwrap()).to_string();
+                let new = line.split([' ', '(', ')']).filter(|w| !w.is_empty()).nth(1).unwrap().to_string() + "_b";
+                let before = later.iter().take_while(|n| ***n != new.as_bytes()[..new.len() - 2]);
+                match () {
+                    _ if names.iter().any(|n| same_but_case(n, new.as_bytes())) => "refused: another node's name",
+                    _ if before.map(|n| [n, &b"_b"[..]].concat()).any(|n| same_but_case(&n, new.as_bytes())) => "refused: a name given above",
+                    _ if new.len() > 24 => "refused: the name too long",
+                    _ if later.len() == 1 => "refused: the book too long",
+                    _ => "refused: the book too long, several names",
+                }
+            }
+        };
+        *self.renamings.entry(what).or_default() += 1;
+    }
+
     pub fn print(&self) {
         println!("{} cases; answers by refusal number, 0 being accepted:", self.cases);
         for (service, numbers) in &self.answers {
             println!("  {service:8} {}", listed(numbers));
+        }
+        println!("renamings of books that are right by the very names:");
+        for (what, n) in &self.renamings {
+            println!("  {n:6} {what}");
         }
         println!("list calls in buffers of all sizes: {}", listed(&self.calls));
         println!("rows of accepted lists: {}, most in one {}; accepted lists with", self.rows, self.most);

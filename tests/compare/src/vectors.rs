@@ -1,98 +1,93 @@
-//! Runs every set of a folder of vectors through the library and compares what it answers with the set's files.
-use hifmuneth::Refusal;
-use std::{fs, path::Path};
+//! Runs every set of a folder of vectors through plain Rust and through the library, and compares what they answer with the set's files.
+use hifmuneth::pattern::{Condition, Pattern, Relation, Requirement, Value};
+use hifmuneth::{lent, Refusal};
+use plain::answers::{self, number, rows_text};
+use plain::sets::{self, Set};
 
-fn line(name: &str, answer: Result<String, Refusal>) -> String {
-    match answer {
-        Ok(t) => t + "\n",
-        Err(r) => format!("{name} {}\n", r.printed()),
+fn relation_text(r: Relation) -> &'static str {
+    match r {
+        Relation::Equal => "=",
+        Relation::Differs => "<>",
+        Relation::Less => "<",
+        Relation::AtMost => "<=",
+        Relation::Greater => ">",
+        Relation::AtLeast => ">=",
     }
 }
 
-/// How many of each a shown pattern has: vertices, edges, conditions, Return names.
-fn shown_counts(line: &str) -> Option<[usize; 4]> {
-    let mut depth = 0;
-    let mut counts = Vec::new();
-    let mut quoted = false;
-    let mut open = false;
-    // in "(query (vertices a b) (edges (..) (..)) ..)" an item is a word or a list at depth 2
-    for c in line.chars() {
-        if c == '\'' {
-            quoted = !quoted;
-        }
+fn requirement_text(kind: &str, owner: usize, r: &Requirement) -> String {
+    let value = match r.value {
+        Value::Number(z) => z.to_string(),
+        Value::Text(t) => format!("'{t}'"),
+        Value::Truth(b) => b.to_string(),
+    };
+    format!(" ({kind} {owner} {} {} {value})", r.attribute, relation_text(r.relation))
+}
+
+/// A pattern as the vectors show it.
+fn pattern_text(p: &Pattern) -> String {
+    let vertices: String = p.vertices.iter().map(|v| format!(" {v}")).collect();
+    let edges: String = p.edges.iter().map(|e| format!(" ({} {} {} {})", e.name, e.label, e.from, e.to)).collect();
+    let (mut exclusions, mut requirements) = (String::new(), String::new());
+    for c in &p.conditions {
         match c {
-            _ if quoted => {}
-            '(' => {
-                depth += 1;
-                if depth == 2 {
-                    counts.push(0);
-                    open = true;
-                }
-                if depth == 3 {
-                    *counts.last_mut()? += 1;
-                }
-            }
-            ')' => depth -= 1,
-            ' ' if depth == 2 => open = false,
-            _ if depth == 2 && !open => {
-                *counts.last_mut()? += 1;
-                open = true;
-            }
-            _ => {}
+            Condition::Differ(u, v) => exclusions += &format!(" ({u} {v})"),
+            Condition::OfVertex(v, r) => requirements += &requirement_text("v", *v, r),
+            Condition::OfEdge(e, r) => requirements += &requirement_text("e", *e, r),
         }
     }
-    match counts[..] {
-        [v, e, x, r, n] => Some([v, e, x + r, n]),
-        _ => None,
-    }
+    let returns: String = p.returns.iter().map(|v| format!(" {v}")).collect();
+    format!("(query (vertices{vertices}) (edges{edges}) (exclusions{exclusions}) (requirements{requirements}) (return{returns}))\n")
 }
 
-fn rows(book: &[u8], list: Result<Vec<Vec<u32>>, Refusal>) -> String {
-    match list {
-        Err(r) => format!("{}\n", r.printed()),
-        Ok(rows) => {
-            let names = plain::book::read_book(book).expect("an accepted book").nodes;
-            let mut t = format!("(rows {})\n", rows.len());
-            for row in rows {
-                let shown: String = row.iter().map(|n| format!(" {}", String::from_utf8_lossy(&names[*n as usize].name))).collect();
-                t += &format!("(row{shown})\n");
-            }
-            t
-        }
-    }
+fn query_text(t: &Set, work: &mut [u32]) -> Result<String, Refusal> {
+    let mut words = lent::PatternWords::default();
+    let counts = lent::read_query(&t.book, &t.query, &mut words, work)?;
+    Ok(pattern_text(&Pattern::of_words(&t.query, &counts, &words)))
 }
 
-fn same(at: &Path) -> bool {
-    let read = |f: &str| fs::read(at.join(f)).unwrap_or_default();
-    let text = |f: &str| String::from_utf8(read(f)).expect("ASCII");
-    let (book, rules, query, request) = (read("book.txt"), read("rules.txt"), read("query.txt"), read("request.txt"));
-    let readers = text("readers.out");
-    let shown = readers.lines().find(|l| l.starts_with("(query") || l.starts_with("query")).unwrap_or("").to_string();
-    let mut out = line("book", hifmuneth::read_book(&book).map(|c| format!("(book {} {} {})", c.nodes, c.relationships, c.entries)));
-    out += &line("rules", hifmuneth::read_rules(&book, &rules).map(|c| format!("(rules {} {})", c.categories, c.policies)));
-    out += &line("query", hifmuneth::read_query(&book, &query).map(|c| {
-        let counts = [c.vertices.len(), c.edges.len(), c.conditions.len(), c.returns.len()];
-        if shown_counts(&shown) == Some(counts) { shown.clone() } else { format!("{counts:?}") }
-    }));
-    out += &line("request", hifmuneth::read_request(&book, &rules, &request).map(|x| {
-        let ids: String = x.identities.iter().map(|i| format!(" ({} {})", String::from_utf8_lossy(&request[i.actor.clone()]), i.node)).collect();
-        format!("(request {}{ids})", x.category)
-    }));
-    let written = hifmuneth::write_query(&book, &rules, &query);
-    if let Err(r) = &written {
-        out += &format!("write {}\n", r.printed());
+fn request_text(t: &Set, work: &mut [u32]) -> Result<String, Refusal> {
+    let mut words = [0; lent::IDENTITY_WORDS];
+    let (category, count) = lent::read_request(&t.book, &t.rules, &t.request, &mut words, work)?;
+    let id = |i: &[usize]| format!(" ({} {})", String::from_utf8_lossy(&t.request[i[0]..i[0] + i[1]]), i[2]);
+    Ok(format!("(request {category}{})\n", words.chunks(3).take(count).map(id).collect::<String>()))
+}
+
+fn list_text(t: &Set, row_words: usize, work: &mut [u32]) -> Result<Vec<u8>, Refusal> {
+    let mut rows = vec![0; row_words];
+    let counts = lent::list(&t.book, &t.rules, &t.query, &t.request, &mut rows, work)?;
+    let names: Vec<Vec<u8>> = hifmuneth::node_names(&t.book)?.into_iter().map(String::into_bytes).collect();
+    let rows: Vec<Vec<usize>> = rows.chunks(counts.width).take(counts.rows).map(|r| r.iter().map(|n| *n as usize).collect()).collect();
+    Ok(rows_text(&names, &rows))
+}
+
+/// What a writer leaves in front of a buffer of so many bytes.
+fn written(room: usize, call: impl FnOnce(&mut [u8]) -> Result<usize, Refusal>) -> Result<Vec<u8>, Refusal> {
+    let mut text = vec![0; room];
+    let length = call(&mut text)?;
+    text.truncate(length);
+    Ok(text)
+}
+
+/// The answer of the library to a command of the vectors, with the numbers that its file's name gives.
+fn library(t: &Set, command: &str, numbers: &[usize]) -> Result<Vec<u8>, Refusal> {
+    let at = |i: usize, otherwise: usize| number(numbers, i, otherwise);
+    let writes = matches!(command, "write" | "rename" | "list");
+    let mut work = vec![0; at(writes as usize, hifmuneth::WORK_WORDS)];
+    let w = &mut work;
+    match command {
+        "book" => lent::read_book(&t.book, w).map(|c| format!("(book {} {} {})\n", c.nodes, c.relationships, c.entries).into_bytes()),
+        "rules" => lent::read_rules(&t.book, &t.rules, w).map(|c| format!("(rules {} {})\n", c.categories, c.policies).into_bytes()),
+        "query" => query_text(t, w).map(String::into_bytes),
+        "request" => request_text(t, w).map(String::into_bytes),
+        "write" => written(at(0, hifmuneth::QUERY_BYTES), |out| lent::write_query(&t.book, &t.rules, &t.query, out, w)),
+        "rename" => written(at(0, hifmuneth::BOOK_BYTES), |out| lent::rename_book(&t.book, out, w)),
+        "list" => list_text(t, at(0, 16_384), w),
+        _ => panic!("no such command: {command}"),
     }
-    let list = rows(&book, hifmuneth::list(&book, &rules, &query, &request, 16_384));
-    out == readers && written.unwrap_or_default() == read("write.out") && list == text("list.out")
 }
 
 pub fn run(folder: &str) -> bool {
-    let mut sets: Vec<_> = fs::read_dir(folder).expect("a folder").map(|e| e.unwrap().path()).filter(|p| p.is_dir()).collect();
-    sets.sort();
-    let differ: Vec<_> = sets.iter().filter(|s| !same(s)).collect();
-    for s in &differ {
-        println!("{}: differs", s.display());
-    }
-    println!("{} sets, {} differ", sets.len(), differ.len());
-    differ.is_empty()
+    let of_plain = |r: Refusal| plain::text::Refusal { number: r.number, text: r.text, line: r.line };
+    sets::run(folder, &[("plain", &answers::answer), ("library", &|t, command, numbers| library(t, command, numbers).map_err(of_plain))])
 }

@@ -1,5 +1,6 @@
 //! A random small world that the texts of a case speak about: attributes, labels, nodes, relationships, and who each actor is.
 use crate::random::Random;
+use crate::twins::with_twins;
 
 pub const INT: usize = 0;
 pub const STR: usize = 1;
@@ -62,11 +63,19 @@ fn entries(r: &mut Random, attrs: &[(String, usize)], percent: usize) -> Entries
 }
 
 impl World {
-    pub fn new(r: &mut Random) -> World {
+    /// `twins`: some node names differ only by case, so that a book of it is refused and its renaming has something to do.
+    pub fn new(r: &mut Random, twins: bool) -> World {
         let most = r.from_to(1, 8);
         let (a, e, l) = (r.below(4), r.below(3), r.from_to(1, 3));
         let (vattrs, eattrs, labels) = (attributes(r, a), attributes(r, e), names(r, l));
-        let nodes: Vec<_> = names(r, most).into_iter().map(|n| (n, entries(r, &vattrs, 65))).collect();
+        let plain = names(r, most);
+        let named = if twins { with_twins(r, plain) } else { plain };
+        let mut nodes: Vec<_> = named.into_iter().map(|n| (n, entries(r, &vattrs, 65))).collect();
+        if twins && r.percent(15) {
+            // a value of another type beside a name that is refused, or is not
+            let at = r.below(nodes.len());
+            nodes[at].1.iter_mut().take(1).for_each(|e| e.1 = value(r, (vattrs[e.0].1 + 1) % 3));
+        }
         let density = r.from_to(5, 60);
         let mut rels = Vec::new();
         for label in 0..labels.len() {
@@ -79,7 +88,7 @@ impl World {
             }
         }
         r.shuffle(&mut rels);
-        let who = (0..=ACTORS.len()).map(|_| r.below(most)).collect();
+        let who = (0..=ACTORS.len()).map(|_| r.below(nodes.len())).collect();
         World { vattrs, eattrs, labels, nodes, rels, who }
     }
 

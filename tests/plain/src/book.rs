@@ -91,7 +91,20 @@ fn declare(attrs: &mut Vec<(Vec<u8>, Kind)>, name: &Item, kind: &Item) -> Result
     Ok(())
 }
 
-fn add_line(book: &mut Book, items: &[Item]) -> Result<(), u32> {
+/// Whether two node names are taken for the same.
+pub type Alike = fn(&[u8], &[u8]) -> bool;
+
+/// The rule of books: case aside.
+pub fn same_but_case(a: &[u8], b: &[u8]) -> bool {
+    a.eq_ignore_ascii_case(b)
+}
+
+/// The rule before it, by which stored books are read for their renaming: the very name.
+pub fn same(a: &[u8], b: &[u8]) -> bool {
+    a == b
+}
+
+fn add_line(book: &mut Book, items: &[Item], alike: Alike) -> Result<(), u32> {
     let head = items.first().and_then(as_word).ok_or(3u32)?;
     match (head, &items[1..]) {
         (b"vattr", [n, k]) => declare(&mut book.vattrs, n, k),
@@ -106,9 +119,10 @@ fn add_line(book: &mut Book, items: &[Item]) -> Result<(), u32> {
             let name = as_name(n).ok_or(3u32)?;
             let entries = entries_of(rest).ok_or(3u32)?;
             let (undeclared, repeated, mistyped, known) = check_entries(&book.vattrs, &entries);
+            let second = book.nodes.iter().any(|n| alike(&n.name, &name));
             lowest(&[
                 (4, undeclared),
-                (5, book.node(&name).is_some() || repeated),
+                (5, second || repeated),
                 (6, mistyped),
                 (7, book.nodes.len() >= 256 || book.entries() + entries.len() > 2048),
             ])?;
@@ -135,10 +149,14 @@ fn add_line(book: &mut Book, items: &[Item]) -> Result<(), u32> {
 }
 
 pub fn read_book(bytes: &[u8]) -> Result<Book, Refusal> {
+    read_book_by(bytes, same_but_case)
+}
+
+pub fn read_book_by(bytes: &[u8], alike: Alike) -> Result<Book, Refusal> {
     check_bytes(bytes, 65_536, 1, false)?;
     let mut book = Book::default();
     for (i, (line, ended)) in lines(bytes).into_iter().enumerate() {
-        let done = form(line, ended).ok_or(3).and_then(|items| add_line(&mut book, &items));
+        let done = form(line, ended).ok_or(3).and_then(|items| add_line(&mut book, &items, alike));
         if let Err(number) = done {
             return refuse(number, 1, i as u32 + 1);
         }
