@@ -91,7 +91,8 @@ extern "C" {
 /* A row word past the rows: all ones, which is no node. */
 #define HIFMUNETH_NO_NODE UINT32_C(0xffffffff)
 
-/* Reads a book and tells how many nodes, relationships and attribute entries it has. */
+/* Reads a book and tells how many nodes, relationships and attribute entries it has. A node name that is an earlier one but for the case of letters is
+ * refused with HIFMUNETH_SECOND_TIME, here and wherever a book is read; hifmuneth_rename_book gives a stored book with such names new ones. */
 bool hifmuneth_read_book(const uint8_t *book, size_t book_length,
                          uint32_t *work, size_t work_words,
                          size_t *nodes, size_t *relationships, size_t *entries,
@@ -149,6 +150,20 @@ bool hifmuneth_read_request(const uint8_t *book, size_t book_length,
 bool hifmuneth_write_query(const uint8_t *book, size_t book_length,
                            const uint8_t *rules, size_t rules_length,
                            const uint8_t *query, size_t query_length,
+                           uint8_t *out, size_t out_length,
+                           uint32_t *work, size_t work_words,
+                           size_t *length,
+                           uint32_t *number, uint32_t *text, uint32_t *line);
+
+/* Renames the nodes of a stored book whose names differ only by case, and writes the new book into the text buffer; tells its length in bytes. Of
+ * names that are equal case aside the first stays, and each later one gets _b at its end, on its own line and at both ends of rel lines; every other
+ * byte stays. A book without such names is written unchanged. Bytes past the new book are unchanged; a refusal changes none.
+ *
+ * The book is read by the rules from before such names were refused, and gets its own refusal by them first. Then HIFMUNETH_SECOND_TIME on the line of
+ * the first later name that cannot have its new one: that is another node's, case aside, or one given on a line above; or it passes 24 bytes; or with it
+ * the book passes HIFMUNETH_BOOK_BYTES. Last HIFMUNETH_NO_SPACE, text HIFMUNETH_BOOK, line 0, if the new book does not fit the buffer:
+ * HIFMUNETH_BOOK_BYTES are always enough. A full book is renamed in at most twice the time in which it is read (measured by tests/bench). */
+bool hifmuneth_rename_book(const uint8_t *book, size_t book_length,
                            uint8_t *out, size_t out_length,
                            uint32_t *work, size_t work_words,
                            size_t *length,

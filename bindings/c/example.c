@@ -1,4 +1,5 @@
-/* The worked example in C: shows the query's pattern, lists the calm stations of ana's hubs by name, then asks with too little working memory. */
+/* The worked example in C: shows the query's pattern, lists the calm stations of ana's hubs by name, asks with too little
+ * working memory, and renames a stored book. */
 #include "../hifmuneth.h"
 #include <stdio.h>
 #include <string.h>
@@ -13,6 +14,7 @@ static const char RULES[] =
 static const char QUERY[] =
     "Match (requestor)-[a:runs]->(h)<-[b:feeds]-(s) Where s.rate < 50 Return s";
 static const char REQUEST[] = "(request view (id requestor ana))\n";
+static const char STORED[] = "(node S6)\n(node s6)\n";
 
 static uint32_t work[HIFMUNETH_WORK_WORDS];
 
@@ -49,6 +51,18 @@ static void list(size_t work_words)
         printf("node %u %s\n", rows[i], (const char *)names + HIFMUNETH_NAME_BYTES * rows[i]);
 }
 
+/* A book that was stored before names that differ only by case were refused, in a buffer of so many bytes. */
+static void rename_stored(size_t bytes)
+{
+    static uint8_t out[HIFMUNETH_BOOK_BYTES];
+    uint32_t number, text, line;
+    size_t length;
+    if (hifmuneth_rename_book((const uint8_t *)STORED, strlen(STORED), out, bytes, work, HIFMUNETH_WORK_WORDS, &length, &number, &text, &line))
+        printf("%.*s", (int)length, (const char *)out);
+    else
+        printf("refused %u text %u line %u\n", number, text, line);
+}
+
 int main(void)
 {
     uint32_t number, text, line;
@@ -57,5 +71,7 @@ int main(void)
     hifmuneth_node_names((const uint8_t *)BOOK, strlen(BOOK), work, HIFMUNETH_WORK_WORDS, &count, names, &number, &text, &line);
     list(HIFMUNETH_WORK_WORDS);
     list(HIFMUNETH_WORK_WORDS - 1);
+    rename_stored(HIFMUNETH_BOOK_BYTES);
+    rename_stored(strlen(STORED));
     return 0;
 }

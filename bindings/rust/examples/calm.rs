@@ -1,4 +1,4 @@
-//! The worked example: which of ana's stations tilt by less than 50?
+//! The worked example: which of ana's stations tilt by less than 50? At its end a stored book is renamed.
 const BOOK: &[u8] = b"(vattr kind str)
 (vattr rate int)
 (label runs)
@@ -17,6 +17,9 @@ const RULES: &[u8] = b"(category view (actors requestor) (over))
 const QUERY: &[u8] = b"Match (requestor)-[a:runs]->(h)<-[b:feeds]-(s) Where s.rate < 50 Return s";
 const REQUEST: &[u8] = b"(request view (id requestor ana))\n";
 
+/// Two lines of a book that was stored before names that differ only by case were refused.
+const STORED: &[u8] = b"(node S6)\n(node s6)\n";
+
 fn main() -> Result<(), hifmuneth::Refusal> {
     println!("{:?}", hifmuneth::read_book(BOOK)?);
     println!("{:?}", hifmuneth::read_request(BOOK, RULES, REQUEST)?);
@@ -34,5 +37,9 @@ fn main() -> Result<(), hifmuneth::Refusal> {
         let shown: Vec<&str> = row.iter().map(|node| names[*node as usize].as_str()).collect();
         println!("{row:?} {}", shown.join(" "));
     }
+    if let Err(refusal) = hifmuneth::read_book(STORED) {
+        println!("{refusal}");
+    }
+    print!("{}", String::from_utf8_lossy(&hifmuneth::rename_book(STORED)?));
     Ok(())
 }

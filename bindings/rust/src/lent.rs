@@ -117,6 +117,20 @@ pub fn write_query(book: &[u8], rules: &[u8], query: &[u8], out: &mut [u8], work
     if accepted { Ok(length) } else { Err(r) }
 }
 
+/// Writes a stored book in front of the text buffer, each later one of names that differ only by case with `_b` at its end; its length in bytes.
+/// A refusal leaves the buffer as it is.
+pub fn rename_book(book: &[u8], out: &mut [u8], work: &mut [u32]) -> Result<usize, Refusal> {
+    let (mut length, mut r) = (0, NO_REFUSAL);
+    let accepted = unsafe {
+        hifmuneth_rename_book(
+            book.as_ptr(), book.len(), out.as_mut_ptr(), out.len(), work.as_mut_ptr(), work.len(),
+            &mut length,
+            &mut r.number, &mut r.text, &mut r.line,
+        )
+    };
+    if accepted { Ok(length) } else { Err(r) }
+}
+
 /// Lists the rows that may be had into the row words: how many there are, and how wide each is. Row words past the rows end all ones, after a
 /// refusal all of them.
 pub fn list(

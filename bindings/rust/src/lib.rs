@@ -75,7 +75,7 @@ fn work() -> Vec<u32> {
     vec![0; WORK_WORDS]
 }
 
-/// Reads a book.
+/// Reads a book. Node names that differ only by case are refused with 5: [`rename_book`] gives a stored book with such names new ones.
 pub fn read_book(book: &[u8]) -> Result<BookCounts, Refusal> {
     lent::read_book(book, &mut work())
 }
@@ -111,6 +111,15 @@ pub fn read_request(book: &[u8], rules: &[u8], request: &[u8]) -> Result<Request
 pub fn write_query(book: &[u8], rules: &[u8], query: &[u8]) -> Result<Vec<u8>, Refusal> {
     let mut text = vec![0; QUERY_BYTES];
     let length = lent::write_query(book, rules, query, &mut text, &mut work())?;
+    text.truncate(length);
+    Ok(text)
+}
+
+/// Renames the nodes of a stored book whose names differ only by case: of names that are equal case aside the first stays, each later one gets `_b` at its
+/// end wherever it names a node, and every other byte stays. Refused with 5 on the line of the first later name that cannot have its new one.
+pub fn rename_book(book: &[u8]) -> Result<Vec<u8>, Refusal> {
+    let mut text = vec![0; BOOK_BYTES];
+    let length = lent::rename_book(book, &mut text, &mut work())?;
     text.truncate(length);
     Ok(text)
 }

@@ -64,6 +64,41 @@ fn a_written_query_reads_back() {
 }
 
 #[test]
+fn names_that_differ_by_case() {
+    let stored = b"(label near)\n(node S6)\n( node  s6 )\n(rel near S6 s6)\n(rel near s6 s6)\n";
+    let renamed = b"(label near)\n(node S6)\n( node  s6_b )\n(rel near S6 s6_b)\n(rel near s6_b s6_b)\n";
+    let second = refused(hifmuneth::read_book(stored));
+    assert_eq!(second, Refusal { number: refusal::SECOND_TIME, text: 1, line: 3 });
+    assert_eq!(second.to_string(), "book, line 3: a second time (refused 5 text 1 line 3)");
+    assert_eq!(hifmuneth::rename_book(stored).unwrap(), renamed);
+    assert_eq!(hifmuneth::node_names(renamed).unwrap(), ["S6", "s6_b"]);
+    assert_eq!(hifmuneth::rename_book(BOOK).unwrap(), BOOK);
+}
+
+#[test]
+fn a_renaming_that_is_refused() {
+    let at = |book: &[u8]| refused(hifmuneth::rename_book(book));
+    assert_eq!(at(b"(node ab)\n(node Ab)\n(node aB)\n"), Refusal { number: refusal::SECOND_TIME, text: 1, line: 3 });
+    assert_eq!(at(b"(node S6)\n(node s6)\n(node S6_B)\n"), Refusal { number: refusal::SECOND_TIME, text: 1, line: 2 });
+    assert_eq!(at(b"(node S6)\n(node s6)\n(node s7\n"), Refusal { number: refusal::GRAMMAR_BROKEN, text: 1, line: 3 });
+}
+
+#[test]
+fn a_renamed_book_in_lent_buffers() {
+    let (stored, mut work) = (b"(node S6)\n(node s6)\n", vec![7; hifmuneth::WORK_WORDS]);
+    let mut short = [b'.'; 21];
+    let r = refused(lent::rename_book(stored, &mut short, &mut work));
+    assert_eq!(r, Refusal { number: refusal::NO_SPACE, text: 1, line: 0 });
+    assert_eq!(r.to_string(), "book: what is to be given does not fit the buffer (refused 14 text 1 line 0)");
+    assert_eq!(short, [b'.'; 21]);
+    let mut long = [b'.'; 24];
+    assert_eq!(lent::rename_book(stored, &mut long, &mut work), Ok(22));
+    assert_eq!(&long, b"(node S6)\n(node s6_b)\n..");
+    assert!(work.iter().all(|w| *w == u32::MAX));
+    assert_eq!(refused(lent::rename_book(stored, &mut long, &mut work[1..])).number, refusal::MEMORY_MISSING);
+}
+
+#[test]
 fn rows_by_their_width() {
     let rows = hifmuneth::list(BOOK, RULES, QUERY, REQUEST, 1024).unwrap();
     assert_eq!(rows, [[2, 1]]);
