@@ -23,7 +23,7 @@ use Rattle.model.specs.Computing.{computing}
 use Rattle.model.specs.declared.RowsListed.{RowsListed}
 use Rattle.model.proofs.Faults.{need-refused}
 use Rattle.model.proofs.Outcomes.{never, accept-e}
-use Rattle.model.proofs.Refusals.{list-given}
+use Rattle.model.proofs.Refusals.{finding, list-given}
 use Rattle.model.proofs.ListRefusals.{found-14}
 use Rattle.model.proofs.Example as example
 use Rattle.demand_three.proofs.PremiseLaws.{premises-of, had-rows, only-list, rows-given}
@@ -85,7 +85,8 @@ module _ (book rules query request : Bytes) (rows work rows′ work′ : List �
   unfolding listService
   counted-exactly n w = (
     λ e. let (f, d, m) = accept-e found answerOf (record { rows = n; width = w }) (sym (call .answer) ∙ e) in
-        let g = list-given (length work) (length rows) book rules query request f d in
+        let l = list-given (length work) (length rows) book rules query request f d in
+        let g = finding (length work) book rules query request f (l .found-rows) in
         let h = premises-of (length work) book rules query request (g .b) (g .r) (g .q) (g .x) (g .read) (g .woven) in
         let a : Due (f .rows) = record {
           b = g .b;
@@ -99,7 +100,7 @@ module _ (book rules query request : Bytes) (rows work rows′ work′ : List �
         let same : _≡_ {A = ListAnswer} (record { rows = length (f .rows); width = f .width }) (record { rows = n; width = w }) = cc in (
           f .rows,
           a,
-          g .fits,
+          subst (λ (k : ℕ). length (f .rows) * k ≤ length rows) (ap (λ (z : FoundRows). z .width) (g .found-is)) (l .fits),
           ap (λ (z : ListAnswer). z .rows) same,
           sym (ap (λ (z : FoundRows). z .width) (g .found-is))
               ∙ ap (λ (z : ListAnswer). z .width) same,

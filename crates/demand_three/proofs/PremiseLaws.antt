@@ -7,17 +7,16 @@ use mathlib.Core.List.{List}
 use native.Mathlib.Omega.{arith}
 use lib.ListN.{length}
 use lib.Dec.{T, ltb}
-use borrow.Author.Tests.{le-ltb}
 use Rattle.model.specs.Bytes.{Bytes}
 use Rattle.model.specs.Choice.{pick, Maybe, nothing, just}
 use Rattle.model.specs.Lists.{all, memℕ, below}
-use Rattle.model.specs.Refusal.{accepted, refusal, onAccept, refusedIf, lowest}
+use Rattle.model.specs.Refusal.{accepted, refusal, onAccept, lowest}
 use Rattle.model.specs.Book.{Book}
 use Rattle.model.specs.QueryText.{QueryText}
 use Rattle.model.specs.Rules.{Rules}
 use Rattle.model.specs.Request.{Identity, Request}
 use Rattle.model.specs.Weave.{WovenPattern, askedQuery, askedPolicies, tied, wovenTooMany, wovenFault}
-use Rattle.model.specs.Service.{withWork, listFound}
+use Rattle.model.specs.Service.{listFound}
 use Rattle.model.proofs.Members.{all-e, all-i, below-i, below-e}
 use Rattle.model.proofs.Tied.{tied-by-path, memℕ-e, memℕ-i}
 use Rattle.model.proofs.AcceptedQuery.{query-named}
@@ -25,7 +24,8 @@ use Rattle.model.proofs.Accepted.{policies-named}
 use Rattle.model.proofs.RowsHad.{rows-may-be-had}
 use Rattle.model.proofs.Ascending.{rows-ascend, ascending-none-twice}
 use Rattle.rows.specs.SortedLaws.{same-list}
-use Rattle.listing.proofs.AskedLaws.{ascending-sorted}
+use Rattle.asking.proofs.AskedLaws.{ascending-sorted}
+use Rattle.model.proofs.Refusals.{gives-rows}
 use Rattle.model.specs.Tied.{IsVertex, TiedTo}
 use Rattle.model.specs.Refused.{AllRead, woven, wovenNumber, rowsFor, foundFor}
 use Rattle.model.specs.Demands.{Premises, HadRows}
@@ -82,12 +82,5 @@ module _ (work : ℕ) (book rules query request : Bytes) (b : Book) (r : Rules) 
     -- what the list gives: these rows, or 14 where they do not fit
     pub rows-given : (words : ℕ) → listFound work words book rules query request
         ≡ pick (ltb words (length (rowsFor b r q x) * length (q .returns))) (refusal 14 5 0) (accepted (foundFor b r q x))
-    unfolding listFound withWork onAccept refusedIf
-    rows-given words = rw (
-      le-ltb work 16384 (h .read .rules-before .book-before .memory-whole),
-      h .read .rules-before .book-before .book-read,
-      h .read .rules-before .rules-read,
-      h .read .query-read,
-      h .read .request-read,
-      no-woven-fault,
-    )
+    unfolding listFound onAccept
+    rows-given words = rw (gives-rows work book rules query request b r q x (h .read) no-woven-fault)

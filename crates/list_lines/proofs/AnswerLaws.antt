@@ -11,7 +11,7 @@ use Rattle.model.specs.Refusal.{Refusal, Outcome, accepted, refused, onAccept}
 use Rattle.model.specs.Book.{Book, nodeNames}
 use Rattle.model.specs.ReadBook.{readBook}
 use Rattle.model.specs.Weave.{askedQuery, askedPolicies}
-use Rattle.model.specs.Service.{withWork, ones, FoundRows, ListAnswer, listFound, listRows, rowWords, listService}
+use Rattle.model.specs.Service.{withWork, ones, FoundRows, ListAnswer, listFound, rowsAsked, listRows, rowWords, listService}
 use Rattle.model.specs.Answers.{refusalOf, listAnswer}
 use Rattle.model.specs.Printed.{rowsText, refusalText, outcomeText, namesOf, printed}
 use Rattle.model.specs.declared.Refusal.{Refusal as RefusalData}
@@ -20,7 +20,7 @@ use Rattle.model.specs.declared.RowsListed.the-variants as listed
 use Rattle.model.proofs.Outcomes.{never}
 use Rattle.model.specs.Refused.{rowsFor}
 use Rattle.model.specs.RowOrder.{Ascending, NoneTwice}
-use Rattle.model.proofs.Refusals.{same-accepted, list-given}
+use Rattle.model.proofs.Refusals.{same-accepted, finding, list-given}
 use Rattle.model.proofs.Members.{_∈_}
 use Rattle.model.proofs.Ascending.{rows-ascend, ascending-none-twice, rows-are-rows}
 use Rattle.rows.specs.Buffer.{rowsIn, flat, Wide}
@@ -52,7 +52,7 @@ module _ (book rules query request : Bytes) where
 
   -- the refusal of a book is printed
   pub book-refused : (r : Refusal) → readBook book ≡ refused r → refusalText r ≡ printed book rules query request
-  unfolding printed listRows listFound withWork onAccept outcomeText
+  unfolding printed listRows listFound rowsAsked withWork onAccept outcomeText
   book-refused r e = sym (rw e)
 
   -- the refusal of a list is printed
@@ -76,14 +76,15 @@ module _ (book rules query request : Bytes) where
   given : (f : FoundRows) → found ≡ accepted f → (Wide (f .width) (f .rows)) × NoneTwice (f .rows) × (length (f .rows) * f .width ≤ 16384)
   unfolding askedQuery
   given f e =
-      let g = list-given 16384 16384 book rules query request f e in
+      let l = list-given 16384 16384 book rules query request f e in
+      let g = finding 16384 book rules query request f (l .found-rows) in
       let rows-are : f .rows ≡ rowsFor (g .b) (g .r) (g .q) (g .x) = ap (λ (z : FoundRows). z .rows) (g .found-is) in
       let width-is : f .width ≡ length (g .q .returns) = ap (λ (z : FoundRows). z .width) (g .found-is) in
       let up = rows-ascend (g .b) (g .x .identities) (askedQuery (g .r) (g .x) (g .q)) (askedPolicies (g .r) (g .x)) in (
         λ row m. rows-are-rows (g .b) (g .x .identities) (askedQuery (g .r) (g .x) (g .q)) (askedPolicies (g .r) (g .x)) row
             (subst (λ z. row ∈ z) rows-are m) .0 ∙ sym width-is,
         ascending-none-twice (f .rows) (subst Ascending (sym rows-are) up),
-        rw width-is (g .fits),
+        l .fits,
       )
 
   pub list-shown : (res : RowsListed) (n w : ℕ) → res ≡ listed.Count n w → listAnswer res ≡ listService 16384 16384 book rules query request .answer

@@ -1,4 +1,2 @@
--- Why the rows listed are the rows that may be had.
+-- What a list gives, by what asking gives.
 pub mod ListingLaws
-pub mod AskedLaws
-pub mod CallLaws

@@ -1,88 +1,92 @@
--- A list's answer and its row words, step by step.
+-- A list's answer and its row words, by what asking gives.
 use Prim.Native.Nat.{ℕ, _-_, _*_, _≤_}
 use mathlib.Core.Path.{_≡_, refl, sym, ap, ap₂, subst, _∙_}
-use mathlib.Core.Bool.{Bool, true, false}
 use mathlib.Core.List.{List, [], _∷_, _++_}
 use native.Mathlib.Omega.{arith}
 use lib.ListN.{length, take}
-use lib.Dec.{ltb}
 use lib.Seq.{length-take-le}
 use borrow.Author.Tests.{lt-ltb, le-ltb}
-use Rattle.model.specs.Choice.{pick}
+use Rattle.model.specs.Bytes.{Bytes}
 use Rattle.model.specs.Lists.{joined}
 use Rattle.model.specs.Refusal.{Outcome, accepted, refused, onAccept, refusal}
-use Rattle.model.specs.Book.{Book}
-use Rattle.model.specs.Request.{Identity}
-use Rattle.model.specs.Service.{ones, FoundRows, rowWords}
+use Rattle.model.specs.Service.{ones, FoundRows, rowsAsked, listFound, rowWords, listService}
 use Rattle.model.specs.Answers.{refusalOf, listAnswer}
+use Rattle.model.specs.Demands.{ListCalled}
 use Rattle.model.specs.declared.Refusal.{Refusal as RefusalData}
 use Rattle.model.specs.declared.RowsListed.{RowsListed}
 use Rattle.model.specs.declared.RowsListed.the-variants as answer
 use Rattle.fill.specs.Filled.{filled}
 use Rattle.fill.specs.FilledLaws.{filled-whole}
 use Rattle.rows.specs.Order.{Row}
-use Rattle.rows.specs.SortedLaws.{same-list}
 use Rattle.rows.specs.Buffer.{rowsIn, flat}
 use Rattle.rows.specs.BufferLaws.{length-rowsIn, flat-rowsIn}
-use Rattle.jumps.specs.Problem.{AllRows}
-use Rattle.start_sets.specs.ProblemOf.{problemOf}
-use Rattle.weave.specs.Given.{Identified}
-use Rattle.problem.specs.Rows.{RowsFound}
+use Rattle.asking.specs.Asks.{AreFound, TooManyRows}
 use Rattle.listing.specs.Listed.{Lists}
-use Rattle.model.specs.Weave.{WovenPattern}
-
--- rows that were found or refused
-abbrev pub RowsGiven : Type 0
-RowsGiven = Outcome FoundRows
 
 -- a refusal clears the row words
 pub lists-nothing : (x : RefusalData) (before after : List ℕ) → after ≡ filled 0 before → Lists (refused (refusalOf x)) (length before) after (answer.Refused x)
 unfolding listAnswer onAccept rowWords ones
 lists-nothing x before after e = record { answer = refl; rows = e ∙ filled-whole before }
 
--- the same list, of an outcome that is the same
-pub lists-as : (o o′ : RowsGiven) (n : ℕ) (after : List ℕ) (r : RowsListed) → o ≡ o′ → Lists o′ n after r → Lists o n after r
-lists-as o o′ n after r e h = subst (λ (x : RowsGiven). Lists x n after r) (sym e) h
-
--- the same list, of row words of the same length
-pub lists-long : (o : RowsGiven) (n n′ : ℕ) (after : List ℕ) (r : RowsListed) → n ≡ n′ → Lists o n′ after r → Lists o n after r
-lists-long o n n′ after r e h = subst (λ (m : ℕ). Lists o m after r) (sym e) h
-
 joined-flat : (rows : List Row) → joined (λ row. row) rows ≡ flat rows
 unfolding joined flat
 joined-flat [] = refl
 joined-flat (row ∷ rows) = ap (λ (l : List ℕ). row ++ l) (joined-flat rows)
 
--- all rows of a problem, as the search found them
-module _ (b : Book) (p : WovenPattern) (woven : List ℕ) (returns : ℕ) (before after : List ℕ) (count : ℕ) (full : Bool)
-    (found : RowsFound b p woven returns before after count full)
-    (ids : List Identity) (identified : Identified p ids woven) (list : List Row) (all : AllRows (problemOf b p ids) list) where
+-- rows that stand in front of row words, the words behind them being filled
+pub lists-rows : (words n w : ℕ) (after after′ : List ℕ) → n * w ≤ words → length after ≡ words → after′ ≡ filled (n * w) after
+    → Lists (accepted (record { rows = rowsIn w n after; width = w })) words after′ (answer.Count n w)
+unfolding listAnswer onAccept rowWords filled ones
+lists-rows words n w after after′ fits long f =
+    let held : joined (λ row. row) (rowsIn w n after) ≡ take (n * w) after = joined-flat (rowsIn w n after) ∙ flat-rowsIn w n after in
+    let size : length (joined (λ row. row) (rowsIn w n after)) ≡ n * w = ap length held ∙ length-take-le (n * w) after (omega (arith, fits, long)) in
+    let room : length after - n * w ≡ words - length (joined (λ row. row) (rowsIn w n after)) = omega arith in
+    record {
+      answer = ap (λ (k : ℕ). accepted (record { rows = k; width = w })) (sym (length-rowsIn w n after));
+      rows = f ∙ ap₂ (λ (l : List ℕ) (k : ℕ). l ++ ones k) (sym held) room;
+    }
+
+module _ (book rules query request : Bytes) (rows work rows′ work′ : List ℕ) (cleared : work′ ≡ ones (length work)) where
+  abbrev found : Outcome FoundRows
+  found = rowsAsked (length work) book rules query request
+
+  abbrev listed : Outcome FoundRows
+  listed = listFound (length work) (length rows) book rules query request
+
+  -- what the call of the list promises
+  called : (o : Outcome FoundRows) (n : ℕ) (res : RowsListed) → listed ≡ o → length rows ≡ n → Lists o n rows′ res
+      → ListCalled book rules query request rows work rows′ work′ res
+  unfolding listService
+  called o n res e l h =
+      let s = subst (λ (k : ℕ). Lists listed k rows′ res) (sym l) (subst (λ (x : Outcome FoundRows). Lists x n rows′ res) (sym e) h) in
+      record { answer = s .answer; rows-left = s .rows; cleared = cleared }
+
+  -- the rows are found
+  pub list-found : (n w : ℕ) (after : List ℕ) → AreFound found (length rows) after n w → length after ≡ length rows → rows′ ≡ filled (n * w) after
+      → ListCalled book rules query request rows work rows′ work′ (answer.Count n w)
+  unfolding listFound onAccept
+  list-found n w after a long f = called _ (length rows) (answer.Count n w) is refl (lists-rows (length rows) n w after rows′ (a .fits) long f)
+    where
+      fits : length (rowsIn w n after) * w ≤ length rows
+      fits = subst (λ (k : ℕ). k * w ≤ length rows) (sym (length-rowsIn w n after)) (a .fits)
+
+      is : listed ≡ accepted (record { rows = rowsIn w n after; width = w })
+      is = rw (a .is, le-ltb (length rows) (length (rowsIn w n after) * w) fits)
+
   -- they do not fit
-  pub found-too-many : full ≡ true → _≡_ {A = RowsGiven}
-      (pick (ltb (length before) (length list * returns)) (refusal 14 5 0) (accepted (record { rows = list; width = returns }))) (refusal 14 5 0)
-  found-too-many e = rw (lt-ltb (length before) (length list * returns) (found .too-many ids identified e list all))
+  pub list-full : TooManyRows found (length rows) → (n : ℕ) (x : RefusalData) → refusalOf x ≡ record { number = 14; text = 5; line = 0 } → (res : RowsListed)
+      → length rows ≡ n → Lists (refused (refusalOf x)) n rows′ res → ListCalled book rules query request rows work rows′ work′ res
+  unfolding listFound onAccept refusal
+  list-full d n x e res l h = called _ n res is l h
+    where
+      is : listed ≡ refused (refusalOf x)
+      is = rw (d .is, lt-ltb (length rows) (length (d .found .rows) * d .found .width) (d .too-many), e)
 
-  -- they fit: the rows found are all rows
-  found-all : full ≡ false → list ≡ rowsIn returns count after
-  found-all e =
-      let g = found .all-rows ids identified e in
-      same-list list (rowsIn returns count after) (all .ascends) (g .ascends) (λ x m. g .each x (all .only x m)) (λ x m. all .each x (g .only x m))
-
-  found-count : full ≡ false → length list ≡ count
-  found-count e = ap length (found-all e) ∙ length-rowsIn returns count after
-
-  found-words : full ≡ false → joined (λ row. row) list ≡ take (count * returns) after
-  found-words e = joined-flat list ∙ ap flat (found-all e) ∙ flat-rowsIn returns count after
-
-  pub found-listed : full ≡ false → length after ≡ length before → (after′ : List ℕ) → after′ ≡ filled (count * returns) after
-      → Lists (pick (ltb (length before) (length list * returns)) (refusal 14 5 0) (accepted (record { rows = list; width = returns })))
-      (length before) after′ (answer.Count count returns)
-  unfolding listAnswer onAccept rowWords filled ones
-  found-listed e l after′ f =
-      let size : length (joined (λ row. row) list) ≡ count * returns = ap length (found-words e) ∙ length-take-le (count * returns) after (found .fits) in
-      let room : length after - count * returns ≡ length before - length (joined (λ row. row) list) = omega arith in
-      let fits : length list * returns ≤ length before = subst (λ (n : ℕ). n * returns ≤ length before) (sym (found-count e)) (omega (arith, found .fits)) in
-      rw (le-ltb (length before) (length list * returns) fits) (record {
-        answer = ap (λ (n : ℕ). accepted (record { rows = n; width = returns })) (sym (found-count e));
-        rows = f ∙ ap₂ (λ (l : List ℕ) (n : ℕ). l ++ ones n) (sym (found-words e)) room;
-      })
+  -- a text or the woven pattern is refused
+  pub list-refused : (x : RefusalData) → found ≡ refused (refusalOf x) → (n : ℕ) (res : RowsListed) → length rows ≡ n
+      → Lists (refused (refusalOf x)) n rows′ res → ListCalled book rules query request rows work rows′ work′ res
+  unfolding listFound onAccept
+  list-refused x e n res l h = called _ n res is l h
+    where
+      is : listed ≡ refused (refusalOf x)
+      is = rw e

@@ -1,2 +1,2 @@
--- What the steps of a list promise one another.
+-- What a list gives.
 pub mod Listed

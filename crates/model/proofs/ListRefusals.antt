@@ -24,7 +24,7 @@ use Rattle.model.proofs.Refusals.{found-table}
 use Rattle.model.proofs.Tied.{tied-by-path, memℕ-e, memℕ-i}
 use Rattle.model.specs.Tied.{Untied}
 use Rattle.model.specs.Refused.{returned, Exactly, memory-short, in-book, book-first, in-rules, AllRead, ListTable, rules-first, in-query}
-use Rattle.model.specs.Refused.{in-request, in-woven, no-room, woven, wovenNumber, rowsFor}
+use Rattle.model.specs.Refused.{in-request, in-woven, lamp-first, no-room, woven, wovenNumber, rowsFor}
 
 -- a test that does not hold everywhere fails somewhere
 fails-somewhere : {A : Type 0} (p : A → Bool) (l : List A) → (T (all p l) → ⊥) → (x : A) × (x ∈ l) × (T (p x) → ⊥)
@@ -103,12 +103,12 @@ module _ (work words : ℕ) (book rules query request : Bytes) where
   behind : (f : Refusal) → ListTable work words book rules query request f
       → ((f .text ≡ 0) → work < 16384) × ((f .text ≡ 5)
       → ReadAnd (λ b r q x. (wovenNumber r q x ≡ just (f .number)) ⊎ ((f .number ≡ 14) × (wovenNumber r q x ≡ nothing) × TooFewWords b r q x)))
-  behind f (rules-first (book-first (memory-short l e))) = (λ z. l, λ z. let d : f .text ≡ 0 = ap (λ z. z .text) e in absurd (omega arith))
-  behind f (rules-first (book-first (in-book l e))) = let d = book-is-text-1 book f e in (λ z. absurd (omega arith), λ z. absurd (omega arith))
-  behind f (rules-first (in-rules {b} u e)) = let d = rules-are-text-2 b rules f e in (λ z. absurd (omega arith), λ z. absurd (omega arith))
-  behind f (in-query {b} u e) = let d = query-is-text-3 b query f e in (λ z. absurd (omega arith), λ z. absurd (omega arith))
-  behind f (in-request {b} {r} u q e) = let d = request-is-text-4 b r request f e in (λ z. absurd (omega arith), λ z. absurd (omega arith))
-  behind f (in-woven {b} {r} {q} {x} a n e) = let d : f .text ≡ 5 = ap (λ z. z .text) e in
+  behind f (lamp-first (rules-first (book-first (memory-short l e)))) = (λ z. l, λ z. let d : f .text ≡ 0 = ap (λ z. z .text) e in absurd (omega arith))
+  behind f (lamp-first (rules-first (book-first (in-book l e)))) = let d = book-is-text-1 book f e in (λ z. absurd (omega arith), λ z. absurd (omega arith))
+  behind f (lamp-first (rules-first (in-rules {b} u e))) = let d = rules-are-text-2 b rules f e in (λ z. absurd (omega arith), λ z. absurd (omega arith))
+  behind f (lamp-first (in-query {b} u e)) = let d = query-is-text-3 b query f e in (λ z. absurd (omega arith), λ z. absurd (omega arith))
+  behind f (lamp-first (in-request {b} {r} u q e)) = let d = request-is-text-4 b r request f e in (λ z. absurd (omega arith), λ z. absurd (omega arith))
+  behind f (lamp-first (in-woven {b} {r} {q} {x} a n e)) = let d : f .text ≡ 5 = ap (λ z. z .text) e in
       (λ z. absurd (omega arith), λ z. (b, r, q, x, a, inl (n ∙ ap (λ z. just (z .number)) (sym e))))
   behind f (no-room {b} {r} {q} {x} a n l e) = let d : f .text ≡ 5 = ap (λ z. z .text) e in
       (λ z. absurd (omega arith), λ z. (b, r, q, x, a, inr (ap (λ z. z .number) e, n, l)))
@@ -118,7 +118,7 @@ module _ (work words : ℕ) (book rules query request : Bytes) where
   found-15 = (
     λ e. behind (returned 15 0 0) (table .refused-if (returned 15 0 0) .0 e) .0 refl,
     λ l. table .refused-if (returned 15 0 0) .1
-        (rules-first (book-first (memory-short l refl))),
+        (lamp-first (rules-first (book-first (memory-short l refl)))),
   )
 
   -- 12 exactly if the texts are read and a woven limit is passed
@@ -126,7 +126,7 @@ module _ (work words : ℕ) (book rules query request : Bytes) where
   found-12 = (
     λ e. let (b, r, q, x, a, u) = behind (returned 12 5 0) (table .refused-if (returned 12 5 0) .0 e) .1 refl in
         (b, r, q, x, a, woven-12 (woven r q x) (x .identities) .0 (⊎-elim (λ n. n) (λ n. let z : _≡_ {A = ℕ} 12 14 = n .0 in absurd (omega arith)) u)),
-    λ u. table .refused-if (returned 12 5 0) .1 (in-woven (u .4) (woven-12 (woven (u .1) (u .2) (u .3)) (u .3 .identities) .1 (u .5)) refl),
+    λ u. table .refused-if (returned 12 5 0) .1 (lamp-first (in-woven (u .4) (woven-12 (woven (u .1) (u .2) (u .3)) (u .3 .identities) .1 (u .5)) refl)),
   )
 
   -- 13 exactly if no limit is passed and a woven vertex is not tied to an identity
@@ -135,7 +135,7 @@ module _ (work words : ℕ) (book rules query request : Bytes) where
   found-13 = (
     λ e. let (b, r, q, x, a, u) = behind (returned 13 5 0) (table .refused-if (returned 13 5 0) .0 e) .1 refl in
         (b, r, q, x, a, woven-13 (woven r q x) (x .identities) .0 (⊎-elim (λ n. n) (λ n. let z : _≡_ {A = ℕ} 13 14 = n .0 in absurd (omega arith)) u)),
-    λ u. table .refused-if (returned 13 5 0) .1 (in-woven (u .4) (woven-13 (woven (u .1) (u .2) (u .3)) (u .3 .identities) .1 (u .5)) refl),
+    λ u. table .refused-if (returned 13 5 0) .1 (lamp-first (in-woven (u .4) (woven-13 (woven (u .1) (u .2) (u .3)) (u .3 .identities) .1 (u .5)) refl)),
   )
 
   -- 14 exactly if the woven pattern has no fault and the rows do not fit

@@ -3,11 +3,13 @@ use Prim.Native.Nat.{ℕ, _<_, _≤_, _*_}
 use mathlib.Core.Path.{_≡_, refl, sym, ap, subst, _∙_}
 use mathlib.Core.Logic.{_⊎_, inl, inr, ⊎-elim, _↔_}
 use mathlib.Core.List.{List}
-use mathlib.Core.Bool.{_||_}
+use mathlib.Core.Bool.{not, _||_}
 use lib.ListN.{length}
 use lib.Dec.{ltb, ltb→lt, lt→ltb, nltb→le, not-T}
+use borrow.Author.Tests.{le-ltb}
 use Rattle.model.specs.Bytes.{Bytes}
 use Rattle.model.specs.Choice.{pick, nothing, just}
+use Rattle.model.specs.Lists.{isNil}
 use Rattle.model.specs.Refusal.{Refusal, Outcome, accepted, refused, onAccept, refusal, refusedIf}
 use Rattle.model.specs.Book.{Book}
 use Rattle.model.specs.ReadBook.{readBook}
@@ -19,10 +21,10 @@ use Rattle.model.specs.Rules.{Rules}
 use Rattle.model.specs.ReadRules.{readRules}
 use Rattle.model.specs.Request.{Request, readRequest}
 use Rattle.model.specs.Service.{withWork, bookService, rulesService, queryService, requestService, writerText, writerService, FoundRows}
-use Rattle.model.specs.Service.{listFound, listRows, listService}
+use Rattle.model.specs.Service.{rowsAsked, listFound, listRows, listService, lampService}
 use Rattle.model.specs.Refused.{returned, Exactly, BookTable, memory-short, in-book, BookRead, RulesTable, book-first, in-rules, RulesRead}
 use Rattle.model.specs.Refused.{QueryTable, in-query, RequestTable, rules-first, in-request, WriterTable, no-room, AllRead, wovenNumber}
-use Rattle.model.specs.Refused.{rowsFor, foundFor, ListTable, in-woven}
+use Rattle.model.specs.Refused.{foundFor, LampTable, in-woven, ListTable, lamp-first}
 use Rattle.model.proofs.Members.{test, is-true, is-false}
 use Rattle.model.proofs.Faults.{over-refused, number-refused, need-refused}
 use Rattle.model.proofs.Outcomes.{never, accept-e, if-e}
@@ -149,55 +151,131 @@ writer-table work room book rules query = exactly _ (WriterTable work room book 
           (inr (q, e, either-refused room 2048 (length (writtenQuery (patternOf q))) (returned 14 3 1) (writtenQuery (patternOf q)) f .1 (l, d))),
     ))
 
--- behind the four texts the list gives this refusal
-abbrev Behind : ℕ → Book → Rules → QueryText → Request → Refusal → Type 0
-Behind words b r q x f =
-    refusedIf (wovenNumber r q x) 5 0 (pick (ltb words (length (rowsFor b r q x) * length (q .returns))) (refused (returned 14 5 0))
-    (accepted (foundFor b r q x))) ≡ refused f
+-- behind the four texts the lamp refuses by the number of the woven pattern's fault, whatever is found
+woven-refused : {A : Type 0} (a : A) (r : Rules) (q : QueryText) (x : Request) (f : Refusal)
+    → (refusedIf (wovenNumber r q x) 5 0 (accepted a) ≡ refused f) ↔ ((n : ℕ) × (wovenNumber r q x ≡ just n) × (f ≡ returned n 5 0))
+woven-refused a r q x f =
+    let h = number-refused (wovenNumber r q x) 5 0 (accepted a) f in
+    (λ e. ⊎-elim (λ u. u) (λ u. accepts _ f (u .1)) (h .0 e), λ u. h .1 (inl u))
 
-woven-refused : (words : ℕ) (b : Book) (r : Rules) (q : QueryText) (x : Request) (f : Refusal)
-    → Behind words b r q x f ↔ (((n : ℕ) × (wovenNumber r q x ≡ just n) × (f ≡ returned n 5 0)) ⊎
-    ((wovenNumber r q x ≡ nothing) × (words < length (rowsFor b r q x) * length (q .returns)) × (f ≡ returned 14 5 0)))
-woven-refused words b r q x f =
-    let h = number-refused (wovenNumber r q x) 5 0
-    (pick (ltb words (length (rowsFor b r q x) * length (q .returns))) (refused (returned 14 5 0)) (accepted (foundFor b r q x))) f in
-    let o = over-refused words (length (rowsFor b r q x) * length (q .returns)) (returned 14 5 0) (accepted (foundFor b r q x)) f in (
-      λ e. ⊎-elim inl (λ u. inr (⊎-elim (λ v. (u .0, v .0, v .1)) (λ v. accepts _ f (v .1)) (o .0 (u .1)))) (h .0 e),
-      λ u. h .1 (⊎-elim inl (λ v. inr (v .0, o .1 (inl (v .1, v .2)))) u),
-    )
-
--- what the list finds is refused by the list's table, and else given
-pub found-table : (work words : ℕ) (book rules query request : Bytes)
-    → Exactly (listFound work words book rules query request) (ListTable work words book rules query request)
-unfolding listFound refusal
-found-table work words book rules query request = exactly _ (ListTable work words book rules query request) (λ f. (
+-- what is found is refused by the lamp's table, and else given
+pub rows-table : (work : ℕ) (book rules query request : Bytes)
+    → Exactly (rowsAsked work book rules query request) (LampTable work book rules query request)
+unfolding rowsAsked
+rows-table work book rules query request = exactly _ (LampTable work book rules query request) (λ f. (
   λ e. ⊎-elim rules-first (λ u. ⊎-elim (in-query (u .2)) (λ v. ⊎-elim (in-request (u .2) (v .1))
-      (λ w. let a : AllRead work book rules query request (u .0) (u .1) (v .0) (w .0) =
-      record { rules-before = u .2; query-read = v .1; request-read = w .1 } in
-      ⊎-elim (λ z. in-woven a (z .1) (z .2)) (λ z. no-room a (z .0) (z .1) (z .2)) (woven-refused words (u .0) (u .1) (v .0) (w .0) f .0 (w .2)))
+      (λ w. let z = woven-refused _ (u .1) (v .0) (w .0) f .0 (w .2) in
+      in-woven (record { rules-before = u .2; query-read = v .1; request-read = w .1 }) (z .1) (z .2))
       (need-refused (readRequest (u .0) (u .1) request) _ f .0 (v .2)))
       (need-refused (readQuery (u .0) query) _ f .0 (u .3))) (after-rules work book rules _ f .0 e),
   back f,
 ))
   where
-    behind-texts : (f : Refusal) (b : Book) (r : Rules) (q : QueryText) (x : Request) → AllRead work book rules query request b r q x
-        → Behind words b r q x f → listFound work words book rules query request ≡ refused f
-    behind-texts f b r q x a e = after-rules work book rules _ f .1
+    back : (f : Refusal) → LampTable work book rules query request f → rowsAsked work book rules query request ≡ refused f
+    back f (rules-first t) = after-rules work book rules _ f .1 (inl t)
+    back f (in-query {b} {r} u e) = after-rules work book rules _ f .1 (inr (b, r, u, need-refused (readQuery b query) _ f .1 (inl e)))
+    back f (in-request {b} {r} {q} u e d) = after-rules work book rules _ f .1
+        (inr (b, r, u, need-refused (readQuery b query) _ f .1 (inr (q, e, need-refused (readRequest b r request) _ f .1 (inl d)))))
+    back f (in-woven {b} {r} {q} {x} {n} a e d) = after-rules work book rules _ f .1
         (inr (
           b,
           r,
           a .rules-before,
           need-refused (readQuery b query) _ f .1
-              (inr (q, a .query-read, need-refused (readRequest b r request) _ f .1 (inr (x, a .request-read, e)))),
+              (inr (
+                q,
+                a .query-read,
+                need-refused (readRequest b r request) _ f .1
+                    (inr (x, a .request-read, woven-refused _ r q x f .1 (n, e, d))),
+              )),
         ))
 
-    back : (f : Refusal) → ListTable work words book rules query request f → listFound work words book rules query request ≡ refused f
-    back f (rules-first t) = after-rules work book rules _ f .1 (inl t)
-    back f (in-query {b} {r} u e) = after-rules work book rules _ f .1 (inr (b, r, u, need-refused (readQuery b query) _ f .1 (inl e)))
-    back f (in-request {b} {r} {q} u e d) = after-rules work book rules _ f .1
-        (inr (b, r, u, need-refused (readQuery b query) _ f .1 (inr (q, e, need-refused (readRequest b r request) _ f .1 (inl d)))))
-    back f (in-woven {b} {r} {q} {x} {n} a e d) = behind-texts f b r q x a (woven-refused words b r q x f .1 (inl (n, e, d)))
-    back f (no-room {b} {r} {q} {x} a e l d) = behind-texts f b r q x a (woven-refused words b r q x f .1 (inr (e, l, d)))
+-- rows that are found: all four texts are read, the woven pattern has no fault, and they are the rows that may be had
+pub record Finding (work : ℕ) (book rules query request : Bytes) (found : FoundRows) : Type 0 where
+  pub b : Book
+  pub r : Rules
+  pub q : QueryText
+  pub x : Request
+  pub read : AllRead work book rules query request b r q x
+  pub woven : wovenNumber r q x ≡ nothing
+  pub found-is : found ≡ foundFor b r q x
+
+within : {A : Type 0} (m n : ℕ) (g : Refusal) (o : Outcome A) (a : A) → pick (ltb m n) (refused g) o ≡ accepted a → (n ≤ m) × (o ≡ accepted a)
+within m n g o a e = ⊎-elim (λ t. never g a (rw (is-true (ltb m n) t) at e)) (λ t. (nltb→le m n (not-T (ltb m n) t), rw (is-false (ltb m n) t) at e))
+    (test (ltb m n))
+
+pub same-accepted : {A : Type 0} (a c : A) → _≡_ {A = Outcome A} (accepted a) (accepted c) → a ≡ c
+same-accepted a c e = cc
+
+-- rows that are found are so given
+pub finding : (work : ℕ) (book rules query request : Bytes) (found : FoundRows) → rowsAsked work book rules query request ≡ accepted found
+    → Finding work book rules query request found
+unfolding rowsAsked withWork refusal
+finding work book rules query request found e =
+    let w = within work 16384 (returned 15 0 0) _ found e in
+    let a = accept-e (readBook book) _ found (w .1) in
+    let c = accept-e (readRules (a .0) rules) _ found (a .2) in
+    let d = accept-e (readQuery (a .0) query) _ found (c .2) in
+    let f = accept-e (readRequest (a .0) (c .0) request) _ found (d .2) in
+    let g = if-e (wovenNumber (c .0) (d .0) (f .0)) 5 0 (accepted (foundFor (a .0) (c .0) (d .0) (f .0))) found (f .2) in
+    record {
+      b = a .0;
+      r = c .0;
+      q = d .0;
+      x = f .0;
+      read = record {
+        rules-before = record { book-before = record { memory-whole = w .0; book-read = a .1 }; rules-read = c .1 };
+        query-read = d .1;
+        request-read = f .1;
+      };
+      woven = g .0;
+      found-is = sym (same-accepted (foundFor (a .0) (c .0) (d .0) (f .0)) found (g .1));
+    }
+
+-- and the texts that are read without a woven fault give these rows
+pub gives-rows : (work : ℕ) (book rules query request : Bytes) (b : Book) (r : Rules) (q : QueryText) (x : Request)
+    → AllRead work book rules query request b r q x → wovenNumber r q x ≡ nothing → rowsAsked work book rules query request ≡ accepted (foundFor b r q x)
+unfolding rowsAsked withWork onAccept refusedIf
+gives-rows work book rules query request b r q x read clear = rw (
+  le-ltb work 16384 (read .rules-before .book-before .memory-whole),
+  read .rules-before .book-before .book-read,
+  read .rules-before .rules-read,
+  read .query-read,
+  read .request-read,
+  clear,
+)
+
+-- what the list gives-rows is refused by the list's table, and else given
+pub found-table : (work words : ℕ) (book rules query request : Bytes)
+    → Exactly (listFound work words book rules query request) (ListTable work words book rules query request)
+unfolding listFound refusal
+found-table work words book rules query request = exactly _ (ListTable work words book rules query request) (λ f. (
+  λ e. ⊎-elim (λ d. lamp-first (rows-table work book rules query request .refused-if f .0 d)) (λ u. too-many f (u .0) (u .1) (u .2)) (found f .0 e),
+  back f,
+))
+  where
+    over : FoundRows → Outcome FoundRows
+    over g = pick (ltb words (length (g .rows) * g .width)) (refused (returned 14 5 0)) (accepted g)
+
+    found : (f : Refusal) → (onAccept (rowsAsked work book rules query request) over ≡ refused f) ↔
+        ((rowsAsked work book rules query request ≡ refused f) ⊎ ((g : FoundRows) × (rowsAsked work book rules query request ≡ accepted g) × (over g ≡ refused f)))
+    found f = need-refused (rowsAsked work book rules query request) over f
+
+    exceeds : (f : Refusal) (g : FoundRows) → (over g ≡ refused f) ↔ ((words < length (g .rows) * g .width) × (f ≡ returned 14 5 0))
+    exceeds f g = let o = over-refused words (length (g .rows) * g .width) (returned 14 5 0) (accepted g) f in
+        (λ e. ⊎-elim (λ v. v) (λ v. accepts _ f (v .1)) (o .0 e), λ v. o .1 (inl v))
+
+    too-many : (f : Refusal) (g : FoundRows) → rowsAsked work book rules query request ≡ accepted g → over g ≡ refused f
+        → ListTable work words book rules query request f
+    too-many f g e d =
+        let v = exceeds f g .0 d in
+        let t = finding work book rules query request g e in
+        no-room (t .read) (t .woven) (subst (λ (z : FoundRows). words < length (z .rows) * z .width) (t .found-is) (v .0)) (v .1)
+
+    back : (f : Refusal) → ListTable work words book rules query request f → onAccept (rowsAsked work book rules query request) over ≡ refused f
+    back f (lamp-first t) = found f .1 (inl (rows-table work book rules query request .refused-if f .1 t))
+    back f (no-room {b} {r} {q} {x} a e l d) = found f .1
+        (inr (foundFor b r q x, gives-rows work book rules query request b r q x a e, exceeds f (foundFor b r q x) .1 (l, d)))
 
 -- an answer made of what is accepted is refused as that is
 pub answer-exactly : {A B : Type 0} (o : Outcome A) (g : A → B) (Table : Refusal → Type 0) → Exactly o Table → Exactly (onAccept o (λ a. accepted (g a))) Table
@@ -226,66 +304,33 @@ unfolding listService
 list-service-table work words book rules query request = answer-exactly (listFound work words book rules query request)
     (λ f. record { rows = length (f .rows); width = f .width }) _ (found-table work words book rules query request)
 
--- an accepted list: all four texts are read, the woven pattern has no fault, the rows fit, and they are the rows that may be had
+-- the lamp refuses by its table, and else answers
+pub lamp-service-table : (work : ℕ) (book rules query request : Bytes)
+    → Exactly (lampService work book rules query request .answer) (LampTable work book rules query request)
+unfolding lampService
+lamp-service-table work book rules query request = answer-exactly (rowsAsked work book rules query request) (λ f. not (isNil (f .rows))) _
+    (rows-table work book rules query request)
+
+-- an accepted list: these rows are found, and they fit
 pub record ListGiven (work words : ℕ) (book rules query request : Bytes) (found : FoundRows) : Type 0 where
-  pub b : Book
-  pub r : Rules
-  pub q : QueryText
-  pub x : Request
-  pub read : AllRead work book rules query request b r q x
-  pub woven : wovenNumber r q x ≡ nothing
-  pub fits : length (found .rows) * length (q .returns) ≤ words
-  pub found-is : found ≡ foundFor b r q x
-
-within : {A : Type 0} (m n : ℕ) (g : Refusal) (o : Outcome A) (a : A) → pick (ltb m n) (refused g) o ≡ accepted a → (n ≤ m) × (o ≡ accepted a)
-within m n g o a e = ⊎-elim (λ t. never g a (rw (is-true (ltb m n) t) at e)) (λ t. (nltb→le m n (not-T (ltb m n) t), rw (is-false (ltb m n) t) at e))
-    (test (ltb m n))
-
-pub same-accepted : {A : Type 0} (a c : A) → _≡_ {A = Outcome A} (accepted a) (accepted c) → a ≡ c
-same-accepted a c e = cc
+  pub found-rows : rowsAsked work book rules query request ≡ accepted found
+  pub fits : length (found .rows) * found .width ≤ words
 
 -- a list that is accepted is so given
 pub list-given : (work words : ℕ) (book rules query request : Bytes) (found : FoundRows) → listFound work words book rules query request ≡ accepted found
     → ListGiven work words book rules query request found
-unfolding listFound withWork refusal
+unfolding listFound refusal
 list-given work words book rules query request found e =
-    let w = within work 16384 (returned 15 0 0) _ found e in
-    let a = accept-e (readBook book) _ found (w .1) in
-    let c = accept-e (readRules (a .0) rules) _ found (a .2) in
-    let d = accept-e (readQuery (a .0) query) _ found (c .2) in
-    let f = accept-e (readRequest (a .0) (c .0) request) _ found (d .2) in
-    let g = if-e (wovenNumber (c .0) (d .0) (f .0)) 5 0 _ found (f .2) in
-    let read : AllRead work book rules query request (a .0) (c .0) (d .0) (f .0) =
-    record {
-      rules-before = record { book-before = record { memory-whole = w .0; book-read = a .1 }; rules-read = c .1 };
-      query-read = d .1;
-      request-read =
-          f .1;
-    } in
-    last (a .0) (c .0) (d .0) (f .0) read (g .0) (g .1)
-  where
-    last : (b : Book) (r : Rules) (q : QueryText) (x : Request) → AllRead work book rules query request b r q x → wovenNumber r q x ≡ nothing
-        → pick (ltb words (length (rowsFor b r q x) * length (q .returns))) (refused (returned 14 5 0)) (accepted (foundFor b r q x)) ≡ accepted found
-        → ListGiven work words book rules query request found
-    last b r q x read n e =
-        let h = within words (length (rowsFor b r q x) * length (q .returns)) (returned 14 5 0) (accepted (foundFor b r q x)) found e in
-        let i = same-accepted (foundFor b r q x) found (h .1) in
-        record {
-          b = b;
-          r = r;
-          q = q;
-          x = x;
-          read = read;
-          woven = n;
-          fits = subst (λ (z : FoundRows). length (z .rows) * length (q .returns) ≤ words) i
-              (h .0);
-          found-is = sym i;
-        }
+    let a = accept-e (rowsAsked work book rules query request) _ found e in
+    let w = within words (length (a .0 .rows) * a .0 .width) (returned 14 5 0) (accepted (a .0)) found (a .2) in
+    let i = same-accepted (a .0) found (w .1) in
+    record { found-rows = a .1 ∙ ap accepted i; fits = subst (λ (z : FoundRows). length (z .rows) * z .width ≤ words) i (w .0) }
 
--- rows that are accepted stand in an accepted list
+-- rows that are accepted are found
 pub rows-found : (work words : ℕ) (book rules query request : Bytes) (rows : List (List ℕ)) → listRows work words book rules query request ≡ accepted rows
-    → (found : FoundRows) × ListGiven work words book rules query request found × (rows ≡ found .rows)
+    → (found : FoundRows) × Finding work book rules query request found × (rows ≡ found .rows)
 unfolding listRows
 rows-found work words book rules query request rows e =
     let (found, f, d) = accept-e (listFound work words book rules query request) (λ f. accepted (f .rows)) rows e in
-    (found, list-given work words book rules query request found f, sym (same-accepted (found .rows) rows d))
+    let g = list-given work words book rules query request found f in
+    (found, finding work book rules query request found (g .found-rows), sym (same-accepted (found .rows) rows d))

@@ -1,5 +1,6 @@
 -- What each case of an answer's data says, in document 01's numbers and values. Promises about answers use these definitions.
 use Prim.Native.Nat.{ℕ}
+use mathlib.Core.Bool.{Bool, true, false}
 use mathlib.Core.List.{[], map}
 use lib.ListN.{getD, take, drop}
 use Rattle.model.specs.Bytes.{Bytes}
@@ -34,6 +35,8 @@ use Rattle.model.specs.declared.TextWritten.{TextWritten}
 use Rattle.model.specs.declared.TextWritten.the-variants as written
 use Rattle.model.specs.declared.RowsListed.{RowsListed}
 use Rattle.model.specs.declared.RowsListed.the-variants as listed
+use Rattle.model.specs.declared.LampShown.{LampShown}
+use Rattle.model.specs.declared.LampShown.the-variants as lamp
 
 -- a refusal's three numbers
 unfoldable pub refusalOf : RefusalData → Refusal
@@ -121,6 +124,12 @@ writerAnswer (written.Refused r) = refused (refusalOf r)
 unfoldable pub listAnswer : RowsListed → Outcome ListAnswer
 listAnswer (listed.Count n w) = accepted (record { rows = n; width = w })
 listAnswer (listed.Refused r) = refused (refusalOf r)
+
+-- what the lamp answers
+unfoldable pub lampAnswer : LampShown → Outcome Bool
+lampAnswer lamp.Yes = accepted true
+lampAnswer lamp.No = accepted false
+lampAnswer (lamp.Refused r) = refused (refusalOf r)
 
 -- the book that a text is, or an empty one where it is refused
 unfoldable pub bookOf : Outcome Book → Book

@@ -41,8 +41,9 @@ use Rattle.model.specs.Weave.{identifiedBy}
 use Rattle.model.specs.Rows.{nodesFor, someChoice, actorNodes, allHave, rowGiven, mayHave, tuples, rowsOf}
 use Rattle.model.specs.Service.{ones, withWork, bookService, rulesService, queryService, requestService, writerText, onto, writerService, bookWritten}
 use Rattle.model.specs.Service.{bookWriter, renameService}
-use Rattle.model.specs.Service.{listFound, listRows, rowWords, listService}
-use Rattle.model.specs.Printed.{rowText, refusalText, rowsText, outcomeText, namesOf, printed, bookText, printedRenaming}
+use Rattle.model.specs.Service.{rowsAsked, listFound, listRows, rowWords, listService, lampService}
+use Rattle.model.specs.Printed.{rowText, refusalText, rowsText, outcomeText, namesOf, printed, lampText, printedLamp, bookText}
+use Rattle.model.specs.Printed.{printedRenaming}
 use Rattle.model.specs.MayHave.{isActor}
 use Rattle.model.specs.RequestPlaces.{wordsFrom, placedBy, identityPlaces, slots}
 use Rattle.model.specs.RequestAnswer.{toldRequest, requestRead}
@@ -74,5 +75,5 @@ unfolding andThen same isNil any all keep each joined sum mem memℕ twice place
     firstParts vertexParts edgeParts valueParts padded firstPart relationData valueData behindValue clauseData behindClause clausesData edgeData edgesData
     queryData queryOutcome queryRead lowered sameButCase readBookBy laterNames beforeWord firstWord behindWord afterWord nodeWords piecesOf linePieces
     textPieces pieceBytes oldBytes renamed cannotHave firstStuck declaresNode declaredAt unlessStuck renamedBook newName newNode withNewNames bookWritten
-    bookWriter renameService bookText printedRenaming
+    bookWriter renameService bookText printedRenaming rowsAsked lampService lampText printedLamp
 computing = 0

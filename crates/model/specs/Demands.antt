@@ -1,4 +1,4 @@
--- Demand 3 in words: what a call of the list promises, its premises, the rows that are due, and how they are listed or refused.
+-- Demand 3 in words: what a call of the list and one of the lamp promise, their premises, the rows that are due, and how they are listed or refused.
 use Prim.Native.Nat.{ℕ, _-_, _*_}
 use mathlib.Core.Path.{_≡_}
 use mathlib.Core.Logic.{_↔_}
@@ -16,15 +16,21 @@ use Rattle.model.specs.Weave.{askedQuery, askedPolicies, wovenTooMany}
 use Rattle.model.specs.Tied.{IsVertex, TiedTo}
 use Rattle.model.specs.MayHave.{MayHave}
 use Rattle.model.specs.RowOrder.{Ascending, NoneTwice}
-use Rattle.model.specs.Service.{ones, listService}
+use Rattle.model.specs.Service.{ones, listService, lampService}
 use Rattle.model.specs.Refused.{returned, AllRead, woven}
-use Rattle.model.specs.Answers.{listAnswer}
+use Rattle.model.specs.Answers.{listAnswer, lampAnswer}
 use Rattle.model.specs.declared.RowsListed.{RowsListed}
+use Rattle.model.specs.declared.LampShown.{LampShown}
 
 -- the contract of a call of the list: rows and work are the lent words before it, rows′ and work′ after it, r its answer
 pub record ListCalled (book rules query request : Bytes) (rows work rows′ work′ : List ℕ) (r : RowsListed) : Type 0 where
   pub answer : listAnswer r ≡ listService (length work) (length rows) book rules query request .answer
   pub rows-left : rows′ ≡ listService (length work) (length rows) book rules query request .rows
+  pub cleared : work′ ≡ ones (length work)
+
+-- the contract of a call of the lamp: work is the lent memory before it, work′ after it, r its answer
+pub record LampCalled (book rules query request : Bytes) (work work′ : List ℕ) (r : LampShown) : Type 0 where
+  pub answer : lampAnswer r ≡ lampService (length work) book rules query request .answer
   pub cleared : work′ ≡ ones (length work)
 
 -- the premises of a list, its row words aside

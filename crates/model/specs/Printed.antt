@@ -1,5 +1,6 @@
--- What the programs print: the list, and the renaming.
+-- What the programs print: the list, the lamp and the renaming.
 use Prim.Native.Nat.{ℕ}
+use mathlib.Core.Bool.{Bool, true, false}
 use mathlib.Core.List.{List, [], _++_, map}
 use lib.ListN.{length, getD}
 use Rattle.model.specs.Bytes.{Bytes, bytesOf}
@@ -11,7 +12,7 @@ use Rattle.model.specs.Book.{Book, nodeNames}
 use Rattle.model.specs.ReadBook.{readBook}
 use Rattle.model.specs.Writing.{digits, eachBehind}
 use Rattle.model.specs.Renaming.{renamedBook}
-use Rattle.model.specs.Service.{bookWritten, listRows}
+use Rattle.model.specs.Service.{bookWritten, listRows, lampService}
 
 -- a row as the list program prints it: its node names
 unfoldable pub rowText : List Name → List ℕ → Bytes
@@ -38,6 +39,16 @@ namesOf (refused r) = []
 -- what the list program prints; it lends 16,384 row words
 unfoldable pub printed : Bytes → Bytes → Bytes → Bytes → Bytes
 printed book rules query request = outcomeText (namesOf (readBook book)) (listRows wholeMemory 16384 book rules query request)
+
+-- the lamp in words, or the refusal alone
+unfoldable pub lampText : Outcome Bool → Bytes
+lampText (accepted true) = bytesOf "(lamp yes)\n"
+lampText (accepted false) = bytesOf "(lamp no)\n"
+lampText (refused r) = refusalText r
+
+-- what the lamp program prints
+unfoldable pub printedLamp : Bytes → Bytes → Bytes → Bytes → Bytes
+printedLamp book rules query request = lampText (lampService wholeMemory book rules query request .answer)
 
 -- a book that is written, or the refusal alone
 unfoldable pub bookText : Outcome Bytes → Bytes

@@ -1,4 +1,4 @@
--- The refusals of the seven services, each a table in the paper's order: which refusal is given, and exactly if what holds.
+-- The refusals of the eight services, each a table in the paper's order: which refusal is given, and exactly if what holds.
 use Prim.Native.Nat.{ℕ, _<_, _≤_, _*_}
 use mathlib.Core.Path.{_≡_}
 use mathlib.Core.Logic.{_⊎_, _↔_}
@@ -102,13 +102,17 @@ rowsFor b r q x = rowsOf b (x .identities) (askedQuery r x q) (askedPolicies r x
 abbrev pub foundFor : Book → Rules → QueryText → Request → FoundRows
 foundFor b r q x = record { rows = rowsFor b r q x; width = length (q .returns) }
 
--- the list: what the rules reader refuses, then the query's own, the request's own, 12 or 13, and 14 if rows times Return names exceed the words
-pub data ListTable (work words : ℕ) (book rules query request : Bytes) (f : Refusal) : Type 0 where
-  rules-first : RulesTable work book rules f → ListTable work words book rules query request f
-  in-query : {b : Book} {r : Rules} → RulesRead work book rules b r → readQuery b query ≡ refused f → ListTable work words book rules query request f
+-- the lamp: what the rules reader refuses, then the query's own, the request's own, then 12 or 13
+pub data LampTable (work : ℕ) (book rules query request : Bytes) (f : Refusal) : Type 0 where
+  rules-first : RulesTable work book rules f → LampTable work book rules query request f
+  in-query : {b : Book} {r : Rules} → RulesRead work book rules b r → readQuery b query ≡ refused f → LampTable work book rules query request f
   in-request : {b : Book} {r : Rules} {q : QueryText} → RulesRead work book rules b r → readQuery b query ≡ accepted q → readRequest b r request ≡ refused f
-      → ListTable work words book rules query request f
+      → LampTable work book rules query request f
   in-woven : {b : Book} {r : Rules} {q : QueryText} {x : Request} {n : ℕ} → AllRead work book rules query request b r q x
-      → wovenNumber r q x ≡ just n → f ≡ returned n 5 0 → ListTable work words book rules query request f
+      → wovenNumber r q x ≡ just n → f ≡ returned n 5 0 → LampTable work book rules query request f
+
+-- the list: what the lamp refuses, then 14 if rows times Return names exceed the words
+pub data ListTable (work words : ℕ) (book rules query request : Bytes) (f : Refusal) : Type 0 where
+  lamp-first : LampTable work book rules query request f → ListTable work words book rules query request f
   no-room : {b : Book} {r : Rules} {q : QueryText} {x : Request} → AllRead work book rules query request b r q x → wovenNumber r q x ≡ nothing
       → words < length (rowsFor b r q x) * length (q .returns) → f ≡ returned 14 5 0 → ListTable work words book rules query request f

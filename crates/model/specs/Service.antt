@@ -1,12 +1,12 @@
 -- The services: from the texts and the lent buffers to the answer and to what each buffer then holds.
 use Prim.Native.Nat.{ℕ, _-_, _*_}
 use mathlib.Core.List.{List, _∷_, _++_}
-use mathlib.Core.Bool.{_||_}
+use mathlib.Core.Bool.{Bool, not, _||_}
 use lib.ListN.{length, drop, replicate}
 use lib.Dec.{ltb}
 use Rattle.model.specs.Bytes.{Bytes}
 use Rattle.model.specs.Choice.{pick}
-use Rattle.model.specs.Lists.{joined}
+use Rattle.model.specs.Lists.{isNil, joined}
 use Rattle.model.specs.Limits.{maxQueryBytes, wholeMemory, noNode}
 use Rattle.model.specs.Names.{place}
 use Rattle.model.specs.Refusal.{Outcome, accepted, refused, onAccept, refusal, refusedIf}
@@ -129,18 +129,22 @@ pub record FoundRows : Type 0 where
   pub rows : List (List ℕ)
   pub width : ℕ
 
--- the rows found, if rows times Return names fit the row buffer's words
-unfoldable pub listFound : ℕ → ℕ → Bytes → Bytes → Bytes → Bytes → Outcome FoundRows
-listFound work words book rules query request =
+-- the rows that are asked for, however many: 15 first, then what the four texts give, then the woven pattern's 12 and 13
+unfoldable pub rowsAsked : ℕ → Bytes → Bytes → Bytes → Bytes → Outcome FoundRows
+rowsAsked work book rules query request =
     withWork work (
     onAccept (readBook book) (λ b.
     onAccept (readRules b rules) (λ r.
     onAccept (readQuery b query) (λ q.
     onAccept (readRequest b r request) (λ x.
     let rows = rowsOf b (x .identities) (askedQuery r x q) (askedPolicies r x) in
-    let width = length (q .returns) in
-    let answer = pick (ltb words (length rows * width)) (refusal 14 5 0) (accepted (record { rows = rows; width = width })) in
-    refusedIf (wovenFault (weave (askedQuery r x q ∷ askedPolicies r x)) (x .identities)) 5 0 answer)))))
+    let found = accepted (record { rows = rows; width = length (q .returns) }) in
+    refusedIf (wovenFault (weave (askedQuery r x q ∷ askedPolicies r x)) (x .identities)) 5 0 found)))))
+
+-- the rows asked for, if rows times Return names fit the row buffer's words: 14 last
+unfoldable pub listFound : ℕ → ℕ → Bytes → Bytes → Bytes → Bytes → Outcome FoundRows
+listFound work words book rules query request =
+    onAccept (rowsAsked work book rules query request) (λ f. pick (ltb words (length (f .rows) * f .width)) (refusal 14 5 0) (accepted f))
 
 -- the rows alone
 unfoldable pub listRows : ℕ → ℕ → Bytes → Bytes → Bytes → Bytes → Outcome (List (List ℕ))
@@ -167,3 +171,10 @@ unfoldable pub listService : ℕ → ℕ → Bytes → Bytes → Bytes → Bytes
 listService work words book rules query request =
     let found = listFound work words book rules query request in
     record { answer = onAccept found (λ f. accepted (record { rows = length (f .rows); width = f .width })); rows = rowWords words found; work = ones work }
+
+-- the lamp says yes exactly if there is a row; it needs no row words, so it has no 14
+unfoldable pub lampService : ℕ → Bytes → Bytes → Bytes → Bytes → Read Bool
+lampService work book rules query request = record {
+  answer = onAccept (rowsAsked work book rules query request) (λ f. accepted (not (isNil (f .rows))));
+  work = ones work;
+}

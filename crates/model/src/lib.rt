@@ -134,6 +134,13 @@ pub enum RowsListed {
     Refused(Refusal),
 }
 
+// What the lamp gives: whether the list of the same texts has a row, or a refusal.
+pub enum LampShown {
+    Yes,
+    No,
+    Refused(Refusal),
+}
+
 // A refusal by its three numbers.
 pub fn refused(number: u32, text: u32, line: u32) -> Refusal
     ensures { λ r. ⌜ (r .number ≡ number) × (r .text ≡ text) × (r .line ≡ line) ⌝ }

@@ -1,0 +1,2 @@
+-- What the steps of asking promise one another.
+pub mod Asks
