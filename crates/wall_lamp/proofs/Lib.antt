@@ -1,0 +1,2 @@
+-- The laws of the lamp.
+pub mod LampLaws
