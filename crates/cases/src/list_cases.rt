@@ -5,12 +5,12 @@
 ghost use Rattle.io.specs.Counts.{Counts};
 use libc::STDOUT_FILENO;
 use model::RowsListed;
-use model::limits::MAX_BOOK_BYTES;
-use model::limits::MAX_QUERY_BYTES;
-use model::limits::MAX_REQUEST_BYTES;
-use model::limits::MAX_RULES_BYTES;
 use model::limits::WORK_WORDS;
 use printed::LIST_BYTES;
+use program_io::files::BOOK_ROOM;
+use program_io::files::QUERY_ROOM;
+use program_io::files::REQUEST_ROOM;
+use program_io::files::RULES_ROOM;
 use putting::bytes::put_byte;
 use putting::bytes::put_bytes;
 
@@ -18,14 +18,6 @@ use putting::bytes::put_bytes;
 const CASES: usize = 40;
 
 const NAME_BYTES: usize = 256;
-
-const BOOK_BYTES: usize = MAX_BOOK_BYTES + 1;
-
-const RULES_BYTES: usize = MAX_RULES_BYTES + 1;
-
-const QUERY_BYTES: usize = MAX_QUERY_BYTES + 1;
-
-const REQUEST_BYTES: usize = MAX_REQUEST_BYTES + 1;
 
 // Room for a header, which has at most 13 bytes.
 const HEADER_BYTES: usize = 13;
@@ -45,10 +37,10 @@ pub fn run() {
 // Prints a case.
 fn print_case(i: usize) {
     let mut name = [0u8; NAME_BYTES];
-    let mut book = [0u8; BOOK_BYTES];
-    let mut rules = [0u8; RULES_BYTES];
-    let mut query = [0u8; QUERY_BYTES];
-    let mut request = [0u8; REQUEST_BYTES];
+    let mut book = [0u8; BOOK_ROOM];
+    let mut rules = [0u8; RULES_ROOM];
+    let mut query = [0u8; QUERY_ROOM];
+    let mut request = [0u8; REQUEST_ROOM];
     let name_length = read_case(i, b"name.txt", &mut name);
     let book_length = read_case(i, b"book.txt", &mut book);
     let rules_length = read_case(i, b"rules.txt", &mut rules);

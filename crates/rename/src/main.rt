@@ -2,12 +2,10 @@
 // A file that cannot be read to its end is told on standard error, and no book is printed; so is an output that does not take the whole book.
 use model::limits::MAX_BOOK_BYTES;
 use program_io::files;
-
-// The book has room for one byte more than its limit, so that a file past the limit is seen to be too long.
-const BOOK_BYTES: usize = MAX_BOOK_BYTES + 1;
+use program_io::files::BOOK_ROOM;
 
 fn main() {
-    let mut book = [0u8; BOOK_BYTES];
+    let mut book = [0u8; BOOK_ROOM];
     let book_read = files::read_text(b"book.txt", &mut book);
     if book_read.whole {
         let book_length = book_read.length;
