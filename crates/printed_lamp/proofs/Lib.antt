@@ -1,0 +1,2 @@
+-- The laws of the printed lamp.
+pub mod LampTextLaws
