@@ -6,8 +6,8 @@
  * in any other way.
  *
  * How long a call takes: a text within its limits is read or refused in a few milliseconds on a machine of today, whatever it says, nearly every one in under a
- * tenth of that (measured; see docs/SPEED.md). A list searches besides, and the search has no bound yet: a dense book and a query of many vertices that hardly narrow each
- * other can keep it busy for long. Call it where a slow answer holds up nothing else.
+ * tenth of that (measured; see docs/SPEED.md). List and lamp search besides, and the search has no bound yet: a dense book and a query of many vertices that hardly narrow each
+ * other can keep it busy for long. Call them where a slow answer holds up nothing else.
  *
  * What a caller owes: every pointer is valid, aligned, and not NULL (also where its length is 0); no two of the buffers and numbers
  * that a call writes overlap, and none overlaps a text; no other thread uses them during the call. The deepest search was measured to
@@ -179,6 +179,17 @@ bool hifmuneth_list(const uint8_t *book, size_t book_length,
                     uint32_t *rows, size_t row_words,
                     uint32_t *work, size_t work_words,
                     size_t *count, size_t *width,
+                    uint32_t *number, uint32_t *text, uint32_t *line);
+
+/* Tells whether the list of the same texts has any row, for a lamp on a panel: *yes is 1 if hifmuneth_list, given row words enough, has a row, and 0 if it has
+ * none. It needs no row words, and refuses exactly as hifmuneth_list does, but never with HIFMUNETH_NO_SPACE. The search stops at the first row that it finds;
+ * where there is none it goes as far as the list's. */
+bool hifmuneth_lamp(const uint8_t *book, size_t book_length,
+                    const uint8_t *rules, size_t rules_length,
+                    const uint8_t *query, size_t query_length,
+                    const uint8_t *request, size_t request_length,
+                    uint32_t *work, size_t work_words,
+                    uint32_t *yes,
                     uint32_t *number, uint32_t *text, uint32_t *line);
 
 #ifdef __cplusplus

@@ -1,5 +1,5 @@
-/* The worked example in C: shows the query's pattern, lists the calm stations of ana's hubs by name, asks with too little
- * working memory, and renames a stored book. */
+/* The worked example in C: shows the query's pattern, tells whether there is a calm station at ana's hubs, lists them by name, asks with too
+ * little working memory, and renames a stored book. */
 #include "../hifmuneth.h"
 #include <stdio.h>
 #include <string.h>
@@ -36,6 +36,18 @@ static void pattern(void)
                    c[7 * i + 2], (long long)HIFMUNETH_INT64(c[7 * i + 5]));
 }
 
+/* What a lamp on a panel shows: whether the list has any row. */
+static void lamp(void)
+{
+    uint32_t yes, number, text, line;
+    if (hifmuneth_lamp((const uint8_t *)BOOK, strlen(BOOK), (const uint8_t *)RULES, strlen(RULES),
+                       (const uint8_t *)QUERY, strlen(QUERY), (const uint8_t *)REQUEST, strlen(REQUEST),
+                       work, HIFMUNETH_WORK_WORDS, &yes, &number, &text, &line))
+        printf("lamp %s\n", yes ? "yes" : "no");
+    else
+        printf("refused %u text %u line %u\n", number, text, line);
+}
+
 static void list(size_t work_words)
 {
     uint32_t rows[8], number, text, line;
@@ -69,6 +81,7 @@ int main(void)
     size_t count;
     pattern();
     hifmuneth_node_names((const uint8_t *)BOOK, strlen(BOOK), work, HIFMUNETH_WORK_WORDS, &count, names, &number, &text, &line);
+    lamp();
     list(HIFMUNETH_WORK_WORDS);
     list(HIFMUNETH_WORK_WORDS - 1);
     rename_stored(HIFMUNETH_BOOK_BYTES);

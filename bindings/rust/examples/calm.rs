@@ -32,6 +32,7 @@ fn main() -> Result<(), hifmuneth::Refusal> {
         println!("{condition:?}");
     }
     println!("{}", String::from_utf8_lossy(&hifmuneth::write_query(BOOK, RULES, QUERY)?));
+    println!("any row: {}", hifmuneth::lamp(BOOK, RULES, QUERY, REQUEST)?);
     let names = hifmuneth::node_names(BOOK)?;
     for row in hifmuneth::list(BOOK, RULES, QUERY, REQUEST, 1024)? {
         let shown: Vec<&str> = row.iter().map(|node| names[*node as usize].as_str()).collect();

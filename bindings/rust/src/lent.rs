@@ -147,3 +147,17 @@ pub fn list(
     };
     if accepted { Ok(counts) } else { Err(r) }
 }
+
+/// Whether the list of the same texts has any row. No row words are needed, and 14 is never given.
+pub fn lamp(book: &[u8], rules: &[u8], query: &[u8], request: &[u8], work: &mut [u32]) -> Result<bool, Refusal> {
+    let (mut yes, mut r) = (0, NO_REFUSAL);
+    let accepted = unsafe {
+        hifmuneth_lamp(
+            book.as_ptr(), book.len(), rules.as_ptr(), rules.len(), query.as_ptr(), query.len(), request.as_ptr(), request.len(),
+            work.as_mut_ptr(), work.len(),
+            &mut yes,
+            &mut r.number, &mut r.text, &mut r.line,
+        )
+    };
+    if accepted { Ok(yes == 1) } else { Err(r) }
+}

@@ -131,3 +131,9 @@ pub fn list(book: &[u8], rules: &[u8], query: &[u8], request: &[u8], row_words: 
     let counts = lent::list(book, rules, query, request, &mut rows, &mut work())?;
     Ok(rows.chunks(counts.width).take(counts.rows).map(|row| row.to_vec()).collect())
 }
+
+/// Whether the list of the same texts has any row, for a lamp on a panel. It needs no row words and stops at the first row found; refused as [`list`] is,
+/// but never with 14.
+pub fn lamp(book: &[u8], rules: &[u8], query: &[u8], request: &[u8]) -> Result<bool, Refusal> {
+    lent::lamp(book, rules, query, request, &mut work())
+}

@@ -48,4 +48,10 @@ extern "C" {
         count: &mut usize, width: &mut usize,
         number: &mut u32, text: &mut u32, line: &mut u32,
     ) -> bool;
+    pub fn hifmuneth_lamp(
+        book: *const u8, book_length: usize, rules: *const u8, rules_length: usize, query: *const u8, query_length: usize,
+        request: *const u8, request_length: usize, work: *mut u32, work_words: usize,
+        yes: &mut u32,
+        number: &mut u32, text: &mut u32, line: &mut u32,
+    ) -> bool;
 }

@@ -110,6 +110,27 @@ fn rows_by_their_width() {
 }
 
 #[test]
+fn a_lamp_for_a_row() {
+    let lamp = |query: &[u8]| hifmuneth::lamp(BOOK, RULES, query, REQUEST);
+    assert_eq!(lamp(QUERY), Ok(true));
+    assert_eq!(lamp(b"Match (requestor)-[a:feeds]->(h) Return h"), Ok(false));
+    assert_eq!(lamp(b"Match (requestor) Match (t) Return t"), Err(Refusal { number: refusal::VERTEX_UNTIED, text: 5, line: 0 }));
+    assert_eq!(lamp(b"Match (requestor)-[a:feeds]->(h) Return s"), Err(Refusal { number: refusal::NOT_DECLARED, text: 3, line: 1 }));
+}
+
+#[test]
+fn a_lamp_in_lent_memory() {
+    let mut work = vec![7; hifmuneth::WORK_WORDS];
+    assert_eq!(refused(lent::list(BOOK, RULES, QUERY, REQUEST, &mut [], &mut work)).number, refusal::NO_SPACE);
+    work.fill(7);
+    assert_eq!(lent::lamp(BOOK, RULES, QUERY, REQUEST, &mut work), Ok(true));
+    assert!(work.iter().all(|w| *w == u32::MAX));
+    work.fill(7);
+    assert_eq!(lent::lamp(BOOK, RULES, QUERY, REQUEST, &mut work[1..]), Err(Refusal { number: refusal::MEMORY_MISSING, text: 0, line: 0 }));
+    assert!(work[0] == 7 && work[1..].iter().all(|w| *w == u32::MAX));
+}
+
+#[test]
 fn lent_buffers_end_as_promised() {
     let (mut rows, mut work) = (vec![7; 5], vec![7; hifmuneth::WORK_WORDS]);
     let counts = lent::list(BOOK, RULES, QUERY, REQUEST, &mut rows, &mut work).unwrap();

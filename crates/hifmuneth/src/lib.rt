@@ -1,4 +1,5 @@
 // The services for programs in other languages: numbers pass as themselves, texts and buffers as a pointer and a length.
+pub mod lamp; // lamp.rt: whether there is a row
 pub mod list; // list.rt: listing the rows
 pub mod names; // names.rt: the names of a book's nodes
 pub mod read_book; // read_book.rt: reading a book

@@ -1,8 +1,8 @@
 -- Each answer told, by its case and what is told of the verdict.
 use Prim.Native.Nat.{ℕ}
 use mathlib.Core.Path.{_≡_, sym, ap}
-use mathlib.Core.Bool.{Bool}
-use Rattle.model.specs.Answers.{bookAnswer, rulesAnswer, writerAnswer, listAnswer}
+use mathlib.Core.Bool.{Bool, cond}
+use Rattle.model.specs.Answers.{bookAnswer, rulesAnswer, writerAnswer, listAnswer, lampAnswer}
 use Rattle.model.specs.declared.Refusal.{Refusal as RefusalData}
 use Rattle.model.specs.declared.BookRead.{BookRead}
 use Rattle.model.specs.declared.BookRead.the-variants as book
@@ -13,7 +13,9 @@ use Rattle.model.specs.declared.TextWritten.{TextWritten}
 use Rattle.model.specs.declared.TextWritten.the-variants as written
 use Rattle.model.specs.declared.RowsListed.{RowsListed}
 use Rattle.model.specs.declared.RowsListed.the-variants as listed
-use Rattle.telling.specs.Told.{VerdictTold, BookTold, NamesTold, RulesTold, CountTold, RowsTold}
+use Rattle.model.specs.declared.LampShown.{LampShown}
+use Rattle.model.specs.declared.LampShown.the-variants as lamp
+use Rattle.telling.specs.Told.{VerdictTold, BookTold, NamesTold, RulesTold, CountTold, RowsTold, LampTold}
 use Rattle.telling.proofs.ToldLaws.{accepted-told, accepted-value, refused-told, refused-value}
 
 module _ {b : Bool} {x t l : ℕ} where
@@ -84,3 +86,17 @@ module _ {b : Bool} {x t l : ℕ} where
     listed-refused {q} h w =
         let e = sym (ap listAnswer h) in
         record { told-as = refused-told q e w; count = refused-value q e (λ a. a .rows); width = refused-value q e (λ a. a .width) }
+
+  -- the lamp
+  module _ (r : LampShown) where
+    pub lamp-yes : r ≡ lamp.Yes → VerdictTold verdict.Accepted b x t l → LampTold (lampAnswer r) b 1 x t l
+    unfolding lampAnswer
+    lamp-yes h w = let e = sym (ap lampAnswer h) in record { told-as = accepted-told e w; yes = accepted-value e (λ a. cond a 1 0) }
+
+    pub lamp-no : r ≡ lamp.No → VerdictTold verdict.Accepted b x t l → LampTold (lampAnswer r) b 0 x t l
+    unfolding lampAnswer
+    lamp-no h w = let e = sym (ap lampAnswer h) in record { told-as = accepted-told e w; yes = accepted-value e (λ a. cond a 1 0) }
+
+    pub lamp-refused : {q : RefusalData} → r ≡ lamp.Refused q → VerdictTold (verdict.Refused q) b x t l → LampTold (lampAnswer r) b 0 x t l
+    unfolding lampAnswer
+    lamp-refused {q} h w = let e = sym (ap lampAnswer h) in record { told-as = refused-told q e w; yes = refused-value q e (λ a. cond a 1 0) }

@@ -1,7 +1,7 @@
 -- An outcome told in numbers: whether it is accepted, what it gives, and the three numbers of a refusal; what does not apply is 0.
 use Prim.Native.Nat.{ℕ}
 use mathlib.Core.Path.{_≡_}
-use mathlib.Core.Bool.{Bool, true, false}
+use mathlib.Core.Bool.{Bool, true, false, cond}
 use Rattle.model.specs.Refusal.{Refusal, Outcome, accepted, refused}
 use Rattle.model.specs.Service.{BookAnswer, RulesAnswer, ListAnswer}
 use Rattle.model.specs.declared.Refusal.{Refusal as RefusalData}
@@ -75,3 +75,8 @@ pub record RowsTold (o : Outcome ListAnswer) (r : Bool) (x w n t l : ℕ) : Type
   pub told-as : Told o r n t l
   pub count : x ≡ told (λ a. a .rows) o
   pub width : w ≡ told (λ a. a .width) o
+
+-- the lamp told by 1 for yes and 0 for no
+pub record LampTold (o : Outcome Bool) (r : Bool) (x n t l : ℕ) : Type 0 where
+  pub told-as : Told o r n t l
+  pub yes : x ≡ told (λ a. cond a 1 0) o

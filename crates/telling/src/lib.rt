@@ -3,6 +3,7 @@ ghost use Rattle.telling.specs.Told.{VerdictTold};
 use model::Verdict;
 
 pub mod counts; // counts.rt: answers that are counts
+pub mod lamp; // lamp.rt: what the lamp answers
 
 // Tells a verdict: true, or false and the three numbers of the refusal, which are 0 where there is none.
 pub fn tell(verdict: Verdict, number: &mut u32, text: &mut u32, line: &mut u32) -> bool
