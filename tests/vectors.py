@@ -7,7 +7,7 @@ FOLDER holds one folder for each set of texts: book.txt, rules.txt, query.txt, r
 program prints), readers.out (a line for each reader) and, where the query writer accepts, write.out; or, in folders of a stage of document
 02, in a file for each call, COMMAND.out or COMMAND-NUMBERS.out. Sets whose four texts have more than BYTES bytes together (1500 if not
 given) are left out. A scratch repository is made below the system's temporary folder, with two theorems for each set (readers and writers;
-lists), proved by computation alone. Sets whose theorem is refused are listed; so are lists that have more mappings to try than the checker's
+lists and the lamp), proved by computation alone. Sets whose theorem is refused are listed; so are lists that have more mappings to try than the checker's
 limit of steps allows. No part of the gate.
 """
 import os, re, shutil, subprocess, sys, tempfile
@@ -32,9 +32,9 @@ use Rattle.model.specs.Weave.{isExcluded}
 use Rattle.model.specs.Writing.{digits, relationText, valueText}
 use Rattle.model.specs.Request.{Identity}
 use Rattle.model.specs.Service.{BookAnswer, RulesAnswer, RequestAnswer, bookService, rulesService, queryService, requestService, writerText, bookWritten}
-use Rattle.model.specs.Service.{listRows}
+use Rattle.model.specs.Service.{listRows, lampService}
 use Rattle.model.specs.Renaming.{renamedBook}
-use Rattle.model.specs.Printed.{refusalText, outcomeText, namesOf, bookText}
+use Rattle.model.specs.Printed.{refusalText, outcomeText, namesOf, lampText, bookText}
 
 unfoldable pub number : ℕ → Bytes
 number n = digits 20 n
@@ -133,12 +133,15 @@ renameCall room work book rules query request = bookText (bookWritten work room 
 unfoldable pub listCall : ℕ → ℕ → Bytes → Bytes → Bytes → Bytes → Bytes
 listCall words work book rules query request = outcomeText (namesOf (readBook book)) (listRows work words book rules query request)
 
+unfoldable pub lampCall : ℕ → Bytes → Bytes → Bytes → Bytes → Bytes
+lampCall work book rules query request = lampText (lampService work book rules query request .answer)
+
 -- the answers of calls on four texts
 unfoldable pub called : List (Bytes → Bytes → Bytes → Bytes → Bytes) → Bytes → Bytes → Bytes → Bytes → List Bytes
 called calls book rules query request = map (λ call. call book rules query request) calls
 
 unfoldable pub showing : ℕ
-unfolding shownAlone bookCall rulesCall queryCall requestCall writeCall renameCall listCall called
+unfolding shownAlone bookCall rulesCall queryCall requestCall writeCall renameCall listCall lampCall called
     number spaced listed bracket clauseShown patternShown outcomeShown bookOf bookShown rulesShown requestShown writtenShown writtenText answers
 showing = 0
 '''
@@ -153,7 +156,8 @@ def literal(data):
 
 
 # The numbers of a call, where its file's name gives none.
-NUMBERS = {"book": [16384], "rules": [16384], "query": [16384], "request": [16384], "write": [2048, 16384], "rename": [65536, 16384], "list": [16384, 16384]}
+NUMBERS = {"book": [16384], "rules": [16384], "query": [16384], "request": [16384], "write": [2048, 16384], "rename": [65536, 16384], "list": [16384, 16384],
+           "lamp": [16384]}
 
 HEAD = '''-- Set {name}: every service's answer, by computation.
 use mathlib.Core.Path.{{_≡_, refl}}
@@ -187,11 +191,12 @@ def calls(folder):
 
 
 def stage_case(name, folder, texts):
-    """A set of a stage of document 02: a theorem for the readers and writers, one for the lists."""
+    """A set of a stage of document 02: a theorem for the readers and writers, one for the lists and the lamp."""
     found = calls(folder)
     uses = sorted({f"{command}Call" for command, _, _ in found})
     out = HEAD.format(name=name, uses=", ".join(["called", "showing"] + uses))
-    for part, which in ("readers", lambda c: c != "list"), ("list", lambda c: c == "list"):
+    searched = ["list", "lamp"]
+    for part, which in ("readers", lambda c: c not in searched), ("list", lambda c: c in searched):
         mine = [(term, answer) for command, term, answer in found if which(command)]
         if mine:
             terms, answers = ("(" + "".join(f"{x} ∷ " for x in column) + "[])" for column in zip(*mine))

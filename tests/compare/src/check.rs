@@ -1,5 +1,5 @@
 //! The services of the library on the texts of a case, in buffers full of noise, against plain Rust: answers, numbers, words and bytes. Those that write
-//! a text stand in `writers`.
+//! a text stand in `writers`, the lamp in `lamp`.
 use crate::cases::Texts;
 use crate::random::Random;
 use crate::tally::Tally;

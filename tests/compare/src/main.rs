@@ -1,10 +1,11 @@
 //! Compares the proved library with plain Rust.
 //!
 //! `compare [SEED] [COUNT]`: texts that are made to be slow, then random cases. `compare vectors FOLDER`: the sets of a folder of vectors.
-//! It fails where the two differ, and where a text takes long to read or to refuse (`timed::LIMIT`), the search of a list aside.
+//! It fails where the two differ, and where a text takes long to read or to refuse (`timed::LIMIT`), the search for rows aside.
 mod cases;
 mod check;
 mod damage;
+mod lamp;
 mod limits;
 mod patterns;
 mod random;
@@ -31,6 +32,7 @@ fn run(seed: u64, tally: &mut tally::Tally) -> bool {
         c.readers();
         c.writers();
         c.list(tally);
+        c.lamp(tally);
         tally.case(&texts.book, &expected);
     }));
     if done.is_err() {

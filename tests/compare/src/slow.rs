@@ -1,5 +1,5 @@
-//! Texts that are made to be slow: as long as they may be, and of one kind throughout. Each is read by every reader, and its book renamed, which must
-//! agree with plain Rust and end within the limit of `timed`.
+//! Texts that are made to be slow: as long as they may be, and of one kind throughout. Each is read by every reader, its book renamed and the lamp
+//! asked, which must agree with plain Rust and end within the limit of `timed`.
 use crate::cases::Texts;
 use crate::timed::{timed, LIMIT};
 use hifmuneth::Refusal;
@@ -128,6 +128,28 @@ fn stored_books() -> Vec<String> {
     vec![full, too_long, taken, alike]
 }
 
+/// A full book in which n has one relationship.
+fn full_book() -> String {
+    let name = |i: usize| format!("mast_tiltmet_{:03}", i % 255);
+    let nodes: String = (0..255).map(|i| format!("(node {})\n", name(i))).collect();
+    let rels: String = (0..1023).map(|i| format!("(rel l {} {})\n", name(i), name(i * 7 + i / 255))).collect();
+    BOOK.to_string() + &nodes + &format!("(rel l n {})\n", name(254)) + &rels
+}
+
+/// Rules of seven long policies that are all enforced, and the same query: 48 exclusions in their woven pattern, and what the last policy adds to them.
+fn woven(last: &str) -> Texts {
+    let text = |more: &str| filled("Match (requestor)-[e:l]->(v) Where v <> requestor", &format!("{more} Return v"), 2_048, &|i| match i {
+        0..=4 => " AND v <> requestor".into(),
+        _ => " Match (requestor)".into(),
+    });
+    let category = |i: usize| {
+        let (over, more) = (if i == 0 { String::new() } else { format!(" c{}", i - 1) }, if i == 6 { last } else { "" });
+        format!("(category c{i} (actors requestor) (over{over}))\n(policy c{i} \"{}\")\n", text(more))
+    };
+    let rules: String = (0..7).map(category).collect();
+    Texts { book: full_book().into(), rules: rules.into(), query: text("").into(), request: "(request c6 (id requestor n))\n".into() }
+}
+
 fn requests() -> Vec<String> {
     let fill = |begin: &str, end: &str, piece: &dyn Fn(usize) -> String| filled(begin, end, 2_048, piece);
     vec![
@@ -144,6 +166,8 @@ fn texts() -> Vec<Texts> {
     all.extend(rules().iter().map(|r| set(BOOK, r, QUERY, REQUEST)));
     all.extend(queries(2_048).iter().map(|q| set(BOOK, RULES, q, REQUEST)));
     all.extend(requests().iter().map(|x| set(BOOK, RULES, QUERY, x)));
+    // accepted, with one row; then a vertex that hangs on nothing; then an exclusion too many
+    all.extend(["", " Match (t)", " Match (requestor) Where v <> requestor"].map(woven));
     all
 }
 
@@ -161,12 +185,16 @@ fn read(t: &Texts) -> Vec<(&'static str, Option<Refusal>, Duration)> {
         least("request", &|| hifmuneth::read_request(&t.book, &t.rules, &t.request).err()),
         least("write", &|| hifmuneth::write_query(&t.book, &t.rules, &t.query).err()),
         least("rename", &|| hifmuneth::rename_book(&t.book).err()),
+        least("lamp", &|| hifmuneth::lamp(&t.book, &t.rules, &t.query, &t.request).err()),
     ]
+}
+
+fn refusal(r: plain::text::Refusal) -> Refusal {
+    Refusal { number: r.number, text: r.text, line: r.line }
 }
 
 /// What plain Rust says of the texts that a reader reads, of those that are long, or of a renaming.
 fn expected(t: &Texts, name: &str) -> Option<Option<Refusal>> {
-    let refusal = |r: plain::text::Refusal| Refusal { number: r.number, text: r.text, line: r.line };
     let book = plain::book::read_book(&t.book);
     match name {
         "book" | "names" => Some(book.err().map(refusal)),
@@ -182,6 +210,11 @@ pub fn run() -> bool {
     for (i, t) in all.iter().enumerate() {
         if hifmuneth::rename_book(&t.book).ok() != plain::rename::renamed(&t.book).ok() {
             println!("slow text {i}: the renamed book differs");
+            fine = false;
+        }
+        let lamp = plain::list::lamp(&t.book, &t.rules, &t.query, &t.request, hifmuneth::WORK_WORDS).map_err(refusal);
+        if hifmuneth::lamp(&t.book, &t.rules, &t.query, &t.request) != lamp {
+            println!("slow text {i}: the lamp differs, {lamp:?} wanted");
             fine = false;
         }
         for (name, refusal, time) in read(t) {

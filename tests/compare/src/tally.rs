@@ -11,6 +11,8 @@ pub struct Tally {
     pub cases: usize,
     answers: BTreeMap<&'static str, BTreeMap<u32, usize>>,
     calls: BTreeMap<u32, usize>,
+    lamps: BTreeMap<u32, usize>,
+    yes: usize,
     seen: BTreeMap<&'static str, usize>,
     renamings: BTreeMap<&'static str, usize>,
     rows: usize,
@@ -25,6 +27,11 @@ impl Tally {
 
     pub fn list<T>(&mut self, answer: &Result<T, Refusal>) {
         *self.calls.entry(answer.as_ref().err().map_or(0, |r| r.number)).or_default() += 1;
+    }
+
+    pub fn lamp(&mut self, answer: &Result<bool, Refusal>) {
+        *self.lamps.entry(answer.as_ref().err().map_or(0, |r| r.number)).or_default() += 1;
+        self.yes += (*answer == Ok(true)) as usize;
     }
 
     fn see(&mut self, what: &'static str, there: bool) {
@@ -101,6 +108,7 @@ impl Tally {
             println!("  {n:6} {what}");
         }
         println!("list calls in buffers of all sizes: {}", listed(&self.calls));
+        println!("lamp calls in working memory of all sizes: {}; yes in {}", listed(&self.lamps), self.yes);
         println!("rows of accepted lists: {}, most in one {}; accepted lists with", self.rows, self.most);
         for (what, n) in &self.seen {
             println!("  {n:6} {what}");

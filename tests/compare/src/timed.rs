@@ -35,3 +35,10 @@ pub fn within<T>(name: &str, call: impl FnOnce() -> T) -> T {
     assert!(time <= LIMIT, "{name}: took {time:?}");
     answer
 }
+
+/// Whether a call accepts, which may then have searched for rows; it fails if the call refused and took longer than the limit.
+pub fn refused_within(name: &str, call: impl FnOnce() -> bool) -> bool {
+    let (accepted, time) = timed(call);
+    assert!(accepted || time <= LIMIT, "{name}: took {time:?} to refuse");
+    accepted
+}

@@ -1,7 +1,7 @@
 //! Runs every set of a folder of vectors through plain Rust and through the library, and compares what they answer with the set's files.
 use hifmuneth::pattern::{Condition, Pattern, Relation, Requirement, Value};
 use hifmuneth::{lent, Refusal};
-use plain::answers::{self, number, rows_text};
+use plain::answers::{self, lamp_text, number, rows_text};
 use plain::sets::{self, Set};
 
 fn relation_text(r: Relation) -> &'static str {
@@ -83,6 +83,7 @@ fn library(t: &Set, command: &str, numbers: &[usize]) -> Result<Vec<u8>, Refusal
         "write" => written(at(0, hifmuneth::QUERY_BYTES), |out| lent::write_query(&t.book, &t.rules, &t.query, out, w)),
         "rename" => written(at(0, hifmuneth::BOOK_BYTES), |out| lent::rename_book(&t.book, out, w)),
         "list" => list_text(t, at(0, 16_384), w),
+        "lamp" => lent::lamp(&t.book, &t.rules, &t.query, &t.request, w).map(lamp_text),
         _ => panic!("no such command: {command}"),
     }
 }

@@ -17,6 +17,11 @@ pub fn rows_text(names: &[Vec<u8>], rows: &[Vec<usize>]) -> Vec<u8> {
     out
 }
 
+/// The lamp's answer as its program prints it.
+pub fn lamp_text(yes: bool) -> Vec<u8> {
+    if yes { b"(lamp yes)\n".to_vec() } else { b"(lamp no)\n".to_vec() }
+}
+
 fn request_text(x: &Request) -> Vec<u8> {
     let ids: Vec<u8> = x.identities.iter().flat_map(|(a, n)| [b" (", a.as_slice(), format!(" {n})").as_bytes()].concat()).collect();
     [format!("(request {}", x.category).as_bytes(), &ids, b")\n"].concat()
@@ -49,6 +54,7 @@ pub fn answer(t: &Set, command: &str, numbers: &[usize]) -> Result<Vec<u8>, Refu
             let names: Vec<Vec<u8>> = book().unwrap().nodes.into_iter().map(|n| n.name).collect();
             rows_text(&names, &rows)
         }),
+        "lamp" => list::lamp(&t.book, &t.rules, &t.query, &t.request, work(0)).map(lamp_text),
         _ => panic!("no such command: {command}"),
     }
 }
