@@ -1,6 +1,9 @@
 //! Times whole calls of the library in one process, beside plain Rust, and tells what share reading, weaving and searching have.
 //!
-//! `bench renaming` times the renaming alone. The calls take turns, so that a busy moment of the machine falls on all of them.
+//! `bench renaming` times the renaming alone, `bench lamp` the lamp beside the list. The calls take turns, so that a busy moment of the machine falls on all
+//! of them.
+mod dense;
+mod lamp;
 mod renaming;
 mod texts;
 
@@ -30,6 +33,14 @@ fn times(calls: &mut [Call]) -> Vec<(f64, f64)> {
     runs.iter().map(|r| (r[0], r[r.len() / 2])).collect()
 }
 
+/// A table of the calls with their times.
+fn shown(calls: &[Call], times: &[(f64, f64)]) {
+    println!("  {:42} {:>12} {:>12}", "microseconds", "least", "median");
+    for (call, (least, median)) in calls.iter().zip(times) {
+        println!("  {:42} {least:12.1} {median:12.1}", call.0);
+    }
+}
+
 fn work() -> Vec<u32> {
     vec![0; WORK_WORDS]
 }
@@ -43,7 +54,7 @@ fn measure(t: &Texts) {
     assert_eq!(count, plainly(false).expect("a list").len());
     let (mut rows2, mut ids, mut text) = (rows.clone(), [0; lent::IDENTITY_WORDS], vec![0; 2048]);
     let (mut pattern, mut names) = (lent::PatternWords::default(), [0; lent::NAME_BYTES]);
-    let [mut w1, mut w2, mut w3, mut w4, mut w5, mut w6, mut w7, mut w8] = [0; 8].map(|_| work());
+    let [mut w1, mut w2, mut w3, mut w4, mut w5, mut w6, mut w7, mut w8, mut w9] = [0; 9].map(|_| work());
     let mut calls = vec![
         call("list", move || lent::list(book, rules, query, request, &mut rows, &mut w1)),
         call("list that ends before the search", move || lent::list(book, rules, query, nowhere, &mut rows2, &mut w2)),
@@ -53,6 +64,7 @@ fn measure(t: &Texts) {
         call("read_request", move || lent::read_request(book, rules, request, &mut ids, &mut w6)),
         call("write_query", move || lent::write_query(book, rules, query, &mut text, &mut w7)),
         call("node_names", move || lent::node_names(book, &mut names, &mut w8)),
+        call("lamp", move || lent::lamp(book, rules, query, request, &mut w9)),
         call("plain Rust, search", move || plainly(false)),
     ];
     if t.enumerable {
@@ -60,10 +72,7 @@ fn measure(t: &Texts) {
     }
     let times = times(&mut calls);
     println!("{}: {} bytes, {} nodes, {} relationships, {} entries; {count} rows", t.name, book.len(), counts.nodes, counts.relationships, counts.entries);
-    println!("  {:42} {:>12} {:>12}", "microseconds", "least", "median");
-    for (call, (least, median)) in calls.iter().zip(&times) {
-        println!("  {:42} {least:12.1} {median:12.1}", call.0);
-    }
+    shown(&calls, &times);
     let least = |i: usize| times[i].0;
     let [b, r, q, x] = [least(2), least(3) - least(2), least(4) - least(2), least(5) - least(3)];
     println!("  by differences of the least: book {b:.1}, rules {r:.1}, query {q:.1}, request {x:.1},");
@@ -71,11 +80,14 @@ fn measure(t: &Texts) {
 }
 
 fn main() {
-    if std::env::args().nth(1).as_deref() == Some("renaming") {
-        return renaming::run();
+    match std::env::args().nth(1).as_deref() {
+        Some("renaming") => return renaming::run(),
+        Some("lamp") => return lamp::run(),
+        _ => {}
     }
     for t in [texts::worked(), texts::full(), texts::dense()] {
         measure(&t);
     }
     renaming::run();
+    lamp::run();
 }

@@ -1,5 +1,5 @@
 //! Times the renaming of a full book of 60 KB against reading it: it is to take at most twice as long.
-use crate::{call, times, work};
+use crate::{call, shown, times, work};
 use hifmuneth::{lent, BOOK_BYTES};
 use std::fmt::Write;
 
@@ -32,10 +32,7 @@ fn measure(title: &str, book: &str) {
     ];
     let times = times(&mut calls);
     println!("{title}: {} bytes, renamed {}, {} nodes, {} relationships", book.len(), new.len(), counts.nodes, counts.relationships);
-    println!("  {:42} {:>12} {:>12}", "microseconds", "least", "median");
-    for (call, (least, median)) in calls.iter().zip(&times) {
-        println!("  {:42} {least:12.1} {median:12.1}", call.0);
-    }
+    shown(&calls, &times);
     println!("  renaming takes {:.2} times the reading, by the least; at most 2 is wanted", times[1].0 / times[0].0);
 }
 
