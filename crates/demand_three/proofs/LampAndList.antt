@@ -1,6 +1,6 @@
--- What the lamp says, from the contract of `lamp` alone, the record LampCalled: yes exactly if every premise of a list holds and a row may be had. And, from the
--- contracts of `lamp` and `list` on the same texts: whenever the rows fit, yes exactly if the list answers a number above 0; every refusal of the list but 14 is
--- the lamp's, and the lamp has no other.
+-- What the lamp says, from the contract of `lamp` alone, the record LampCalled: yes exactly if every premise of a list holds and a row may be had. And
+-- from the contracts of `lamp` and `list` on the same texts: whenever the rows fit, yes exactly if the list answers a number above 0; every refusal of the
+-- list but 14 is the lamp's, and the lamp has no other.
 use Prim.Native.Nat.{ℕ, suc, _*_, _<_}
 use mathlib.Core.Path.{_≡_, refl, sym, ap, subst, _∙_}
 use mathlib.Core.Logic.{_≢_, _↔_}

@@ -245,7 +245,7 @@ gives-rows work book rules query request b r q x read clear = rw (
   clear,
 )
 
--- what the list gives-rows is refused by the list's table, and else given
+-- what the list finds is refused by the list's table, and else given
 pub found-table : (work words : ℕ) (book rules query request : Bytes)
     → Exactly (listFound work words book rules query request) (ListTable work words book rules query request)
 unfolding listFound refusal
@@ -258,7 +258,8 @@ found-table work words book rules query request = exactly _ (ListTable work word
     over g = pick (ltb words (length (g .rows) * g .width)) (refused (returned 14 5 0)) (accepted g)
 
     found : (f : Refusal) → (onAccept (rowsAsked work book rules query request) over ≡ refused f) ↔
-        ((rowsAsked work book rules query request ≡ refused f) ⊎ ((g : FoundRows) × (rowsAsked work book rules query request ≡ accepted g) × (over g ≡ refused f)))
+        ((rowsAsked work book rules query request ≡ refused f)
+        ⊎ ((g : FoundRows) × (rowsAsked work book rules query request ≡ accepted g) × (over g ≡ refused f)))
     found f = need-refused (rowsAsked work book rules query request) over f
 
     exceeds : (f : Refusal) (g : FoundRows) → (over g ≡ refused f) ↔ ((words < length (g .rows) * g .width) × (f ≡ returned 14 5 0))

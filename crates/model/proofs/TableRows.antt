@@ -21,7 +21,8 @@ use Rattle.model.specs.Request.{requestFault, requestStep, readRequest}
 use Rattle.model.specs.Graph.{Each}
 use Rattle.model.specs.Service.{bookService, rulesService, queryService, requestService, writerService, renameService, listService}
 use Rattle.model.specs.Service.{lampService}
-use Rattle.model.specs.RefusalTable.{IsText, LineOf, NameOn, FaultRow, TableRow, fault-row, memory-is-short, text-too-long, byte-not-allowed, grammar-broken}
+use Rattle.model.specs.RefusalTable.{IsText, LineOf, NameOn, FaultRow, TableRow, fault-row, memory-is-short, text-too-long, byte-not-allowed}
+use Rattle.model.specs.RefusalTable.{grammar-broken}
 use Rattle.model.specs.RefusalTable.{not-declared, second-time, not-of-the-type, passes-the-limit, excluded-from-itself, lacks-an-actor}
 use Rattle.model.specs.RefusalTable.{has-no-policy, no-requestor, woven-limit-passed, vertex-not-tied, rows-exceed-words, written-too-long}
 use Rattle.model.specs.RefusalTable.{book-exceeds-buffer, InTable, InTableBut14}

@@ -1,5 +1,5 @@
-// Texts from files. No contract can say what a file holds, nor what the system told of it (at_end, and the `whole` of FileRead and of TextsRead); these say that the bytes
-// counted are in the buffer.
+// Texts from files. No contract can say what a file holds, nor what the system told of it (at_end, and the `whole` of FileRead and of TextsRead); these
+// say that the bytes counted are in the buffer.
 ghost use Rattle.io.specs.Counts.{Counts};
 use model::limits::MAX_BOOK_BYTES;
 use model::limits::MAX_QUERY_BYTES;
