@@ -16,9 +16,6 @@ use Rattle.model.specs.Graph.{inRelation}
 use Rattle.model.specs.Answers.{partOf}
 use Rattle.book_tables.specs.View.{kindIn, valueIn}
 use Rattle.book_tables.proofs.NameLaws.{same-equal}
-use Rattle.compare.specs.declared.Order.the-variants.{Less, Equal, Greater}
-use Rattle.compare.specs.Compare.{compareBytes}
-use Rattle.compare.proofs.CompareLaws.{compare-itself}
 use Rattle.book_lookup.specs.Entries.{kindAt, firstAt, secondAt, entryValue}
 
 -- two texts that are not equal are not the same bytes
@@ -28,16 +25,6 @@ not-same a b h = go (same a b) refl
     go : (t : Bool) → same a b ≡ t → t ≡ false
     go true e = absurd (h (same-equal a b e))
     go false e = refl
-
--- a text that is less than another, or greater, is not the same bytes
-unequal-not-same : (a b : Bytes) → (compareBytes a b ≡ Equal → ⊥) → same a b ≡ false
-unequal-not-same a b h = not-same a b (λ e. h (rw e (compare-itself b)))
-
-pub less-not-same : (a b : Bytes) → compareBytes a b ≡ Less → same a b ≡ false
-less-not-same a b h = unequal-not-same a b (λ e. let z : _≡_ {A = ℕ} 0 1 = cc in omega arith)
-
-pub greater-not-same : (a b : Bytes) → compareBytes a b ≡ Greater → same a b ≡ false
-greater-not-same a b h = unequal-not-same a b (λ e. let z : _≡_ {A = ℕ} 0 1 = cc in omega arith)
 
 -- the bytes between two places are the part that starts at the first and has the length between them
 pub part-between : (text : Bytes) (start size : ℕ) → take (start + size - start) (drop start text) ≡ partOf text start size

@@ -1,7 +1,8 @@
 // Whether the value of an attribute meets a requirement: stands in a relation to a value. An absent attribute meets none.
 ghost use mathlib.Core.Path.{_≡_};
-ghost use Rattle.model.specs.Bytes.{Bytes, same};
+ghost use Rattle.model.specs.Bytes.{Bytes};
 ghost use Rattle.model.specs.Values.{int, str, bool};
+ghost use Rattle.model.specs.TextOrder.{byteOrder, byOrder};
 ghost use Rattle.model.specs.Graph.{compares, sameOrNot, inRelation, meets};
 ghost use Rattle.model.specs.Answers.{relationOf, valueOf};
 ghost use Rattle.book_tables.specs.View.{bookAt};
@@ -139,19 +140,18 @@ fn numbers_meet(relation: Relation, x: u64, y: u64) -> bool
     }
 }
 
-// Whether two texts stand in a relation, by their order.
+// Whether two texts stand in a relation: by their byte order, as numbers in that order do.
 fn texts_meet(relation: Relation, x: &[u8], y: &[u8]) -> bool
-    ensures { λ r. ⌜ r ≡ sameOrNot (relationOf relation) (same (now (x .entry)) (now (y .entry))) ⌝ }
+    ensures { λ r. ⌜ r ≡ byOrder (relationOf relation) (byteOrder (now (x .entry)) (now (y .entry))) ⌝ }
 {
-    let order = compare::compare(x, y);
-    match order {
-        Order::Less => same_meets(relation, false),
-        Order::Equal => same_meets(relation, true),
-        Order::Greater => same_meets(relation, false),
+    match compare::compare(x, y) {
+        Order::Less => numbers_meet(relation, 0, 1),
+        Order::Equal => numbers_meet(relation, 0, 0),
+        Order::Greater => numbers_meet(relation, 1, 0),
     }
 }
 
-// Whether values that are the same, or not, stand in a relation: only = and <> are between texts and between truth values.
+// Whether truth values that are the same, or not, stand in a relation: only = and <> are between them.
 fn same_meets(relation: Relation, same: bool) -> bool
     ensures { λ r. ⌜ r ≡ sameOrNot (relationOf relation) same ⌝ }
 {

@@ -5,8 +5,8 @@ use mathlib.Core.List.{[], _∷_}
 use mathlib.Core.Bool.{Bool, true, false, not, _&&_}
 use native.Mathlib.Omega.{arith}
 use lib.ListN.{length, getD, drop}
-use lib.Dec.{ltb, eqb}
-use borrow.Author.Tests.{eq-eqb, ne-eqb, lt-ltb, le-ltb, ltb-false}
+use lib.Dec.{eqb}
+use borrow.Author.Tests.{eq-eqb, ne-eqb, lt-ltb, le-ltb}
 use Rattle.logic.specs.Flags.{neither}
 use Rattle.logic.specs.Lists.{drop-at, drop-end}
 use Rattle.model.specs.Bytes.{Bytes, bytesOf, same}
@@ -14,8 +14,8 @@ use Rattle.model.specs.Choice.{pick, Maybe, nothing, just}
 use Rattle.model.specs.Lists.{any}
 use Rattle.model.specs.Names.{mem}
 use Rattle.model.specs.Forms.{neverNames, nameOf}
-use Rattle.compare.specs.declared.Order.the-variants.{Less, Equal, Greater}
-use Rattle.compare.specs.Compare.{beginsOneOfSix, compareBytes, sameNear}
+use Rattle.model.specs.TextOrder.{less, equal, greater, byteOrder}
+use Rattle.compare.specs.Compare.{beginsOneOfSix, sameNear}
 
 -- texts of different lengths differ
 pub same-lengths : (a b : Bytes) → (length a ≡ length b → ⊥) → same a b ≡ false
@@ -34,16 +34,16 @@ module _ (a b : Bytes) (i : ℕ) where
   unfolding same
   same-end l m = rw (drop-end a i l, drop-end b i m)
 
-  pub compare-end : length a ≤ i → length b ≤ i → compareBytes (drop i a) (drop i b) ≡ Equal
-  unfolding compareBytes
+  pub compare-end : length a ≤ i → length b ≤ i → byteOrder (drop i a) (drop i b) ≡ equal
+  unfolding byteOrder
   compare-end l m = rw (drop-end a i l, drop-end b i m)
 
-  pub compare-shorter : length a ≤ i → i < length b → compareBytes (drop i a) (drop i b) ≡ Less
-  unfolding compareBytes
+  pub compare-shorter : length a ≤ i → i < length b → byteOrder (drop i a) (drop i b) ≡ less
+  unfolding byteOrder
   compare-shorter l m = rw (drop-end a i l, drop-at b i m)
 
-  pub compare-longer : i < length a → length b ≤ i → compareBytes (drop i a) (drop i b) ≡ Greater
-  unfolding compareBytes
+  pub compare-longer : i < length a → length b ≤ i → byteOrder (drop i a) (drop i b) ≡ greater
+  unfolding byteOrder
   compare-longer l m = rw (drop-at a i l, drop-end b i m)
 
   module _ (l : i < length a) (m : i < length b) where
@@ -55,16 +55,16 @@ module _ (a b : Bytes) (i : ℕ) where
     unfolding same
     same-differs e = rw (drop-at a i l, drop-at b i m, ne-eqb (getD a i 0) (getD b i 0) e)
 
-    pub compare-less : getD a i 0 < getD b i 0 → compareBytes (drop i a) (drop i b) ≡ Less
-    unfolding compareBytes
+    pub compare-less : getD a i 0 < getD b i 0 → byteOrder (drop i a) (drop i b) ≡ less
+    unfolding byteOrder
     compare-less h = rw (drop-at a i l, drop-at b i m, lt-ltb (getD a i 0) (getD b i 0) h)
 
-    pub compare-greater : getD b i 0 < getD a i 0 → compareBytes (drop i a) (drop i b) ≡ Greater
-    unfolding compareBytes
+    pub compare-greater : getD b i 0 < getD a i 0 → byteOrder (drop i a) (drop i b) ≡ greater
+    unfolding byteOrder
     compare-greater h = rw (drop-at a i l, drop-at b i m, le-ltb (getD a i 0) (getD b i 0) (omega arith), lt-ltb (getD b i 0) (getD a i 0) h)
 
-    pub compare-step : getD b i 0 ≤ getD a i 0 → getD a i 0 ≤ getD b i 0 → compareBytes (drop i a) (drop i b) ≡ compareBytes (drop (i + 1) a) (drop (i + 1) b)
-    unfolding compareBytes
+    pub compare-step : getD b i 0 ≤ getD a i 0 → getD a i 0 ≤ getD b i 0 → byteOrder (drop i a) (drop i b) ≡ byteOrder (drop (i + 1) a) (drop (i + 1) b)
+    unfolding byteOrder
     compare-step h k = rw (drop-at a i l, drop-at b i m, le-ltb (getD a i 0) (getD b i 0) h, le-ltb (getD b i 0) (getD a i 0) k)
 
 pick-both : (x y z : Bool) → pick x (pick y z false) false ≡ pick (x && y) z false
@@ -89,24 +89,7 @@ module _ (a b : Bytes) (i n : ℕ) (l : i + n < length a) (m : i + n < length b)
   pub row-differs : sameNear a b i n ≡ false → same (drop i a) (drop i b) ≡ false
   row-differs e = same-row a b i n l m ∙ rw e
 
--- equal exactly if the same bytes
-pub compare-itself : (a : Bytes) → compareBytes a a ≡ Equal
-unfolding compareBytes
-compare-itself [] = refl
-compare-itself (x ∷ a) = rw (le-ltb x x (omega arith)) (compare-itself a)
-
-pub compare-equal : (a b : Bytes) → compareBytes a b ≡ Equal → a ≡ b
-unfolding compareBytes
-compare-equal [] [] e = refl
-compare-equal [] (y ∷ b) e = let z : _≡_ {A = ℕ} 0 1 = cc in absurd (omega arith)
-compare-equal (x ∷ a) [] e = let z : _≡_ {A = ℕ} 0 1 = cc in absurd (omega arith)
-compare-equal (x ∷ a) (y ∷ b) e = go (ltb x y) (ltb y x) refl refl e (compare-equal a b)
-  where
-    go : (t u : Bool) → ltb x y ≡ t → ltb y x ≡ u → pick t Less (pick u Greater (compareBytes a b)) ≡ Equal → (compareBytes a b ≡ Equal → a ≡ b) → x ∷ a ≡ y ∷ b
-    go true u p q e r = let z : _≡_ {A = ℕ} 0 1 = cc in absurd (omega arith)
-    go false true p q e r = let z : _≡_ {A = ℕ} 0 1 = cc in absurd (omega arith)
-    go false false p q e r = let w : x ≡ y = omega (arith, ltb-false x y p, ltb-false y x q) in let v : a ≡ b = r e in cc
-
+-- the same exactly if equal
 pub same-itself : (a : Bytes) → same a a ≡ true
 unfolding same
 same-itself [] = refl

@@ -1,20 +1,18 @@
--- The order of texts by bytes, and bytes compared in rows.
+-- What the comparison of two texts answers, and bytes compared in rows.
 use Prim.Native.Nat.{ℕ, zero, suc, _+_}
 use mathlib.Core.Bool.{Bool, _&&_, _||_}
-use mathlib.Core.List.{[], _∷_}
 use lib.ListN.{getD}
-use lib.Dec.{ltb, eqb}
+use lib.Dec.{eqb}
 use Rattle.model.specs.Bytes.{Bytes}
-use Rattle.model.specs.Choice.{pick}
-use Rattle.compare.specs.declared.Order.{Order}
+use Rattle.model.specs.TextOrder.{Order, less, equal, greater}
+use Rattle.compare.specs.declared.Order.{Order as OrderData}
 use Rattle.compare.specs.declared.Order.the-variants.{Less, Equal, Greater}
 
--- the first byte that differs decides; a proper beginning is less
-unfoldable pub compareBytes : Bytes → Bytes → Order
-compareBytes [] [] = Equal
-compareBytes [] (y ∷ b) = Less
-compareBytes (x ∷ a) [] = Greater
-compareBytes (x ∷ a) (y ∷ b) = let rest = compareBytes a b in pick (ltb x y) Less (pick (ltb y x) Greater rest)
+-- the order that each answer of the comparison is
+unfoldable pub orderOf : OrderData → Order
+orderOf Less = less
+orderOf Equal = equal
+orderOf Greater = greater
 
 -- two texts have the same byte at a place and at the n places behind it
 abbrev pub sameNear : Bytes → Bytes → ℕ → ℕ → Bool

@@ -1,2 +1,2 @@
--- The order of texts by bytes.
+-- What comparisons of texts answer.
 pub mod Compare

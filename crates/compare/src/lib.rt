@@ -6,8 +6,9 @@ ghost use lib.ListN.{length, drop};
 ghost use Rattle.model.specs.Bytes.{same};
 ghost use Rattle.model.specs.Names.{mem};
 ghost use Rattle.model.specs.Forms.{neverNames};
+ghost use Rattle.model.specs.TextOrder.{byteOrder};
 ghost use Rattle.model.specs.Answers.{partOf};
-ghost use Rattle.compare.specs.Compare.{beginsOneOfSix, compareBytes, sameNear};
+ghost use Rattle.compare.specs.Compare.{beginsOneOfSix, orderOf, sameNear};
 
 // How one text stands to another, by bytes.
 pub enum Order {
@@ -66,7 +67,7 @@ pub fn equal(s: &[u8], a: usize, n: usize, t: &[u8], b: usize, m: usize) -> bool
 
 // How one text stands to another: by the first byte that differs; a proper beginning is less.
 pub fn compare(a: &[u8], b: &[u8]) -> Order
-    ensures { λ r. ⌜ r ≡ compareBytes (now (a .entry)) (now (b .entry)) ⌝ }
+    ensures { λ r. ⌜ orderOf r ≡ byteOrder (now (a .entry)) (now (b .entry)) ⌝ }
 {
     let mut i = 0;
     while i < a.len() {

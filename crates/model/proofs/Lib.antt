@@ -8,6 +8,8 @@ pub mod ReadingExamples
 pub mod ExactModels
 pub mod EdgesMet
 pub mod AbsentAttributes
+pub mod TextOrder
+pub mod TextRelations
 pub mod RoundTrip
 pub mod Weaving
 pub mod RowsHad
@@ -72,5 +74,7 @@ pub mod RefusalCases
 pub mod WholeCases
 pub mod Traps
 pub mod RequestAnswerCases
+-- texts in byte order, computed
+pub mod TextOrderCases
 -- the renaming, computed
 pub mod RenamingCases

@@ -32,6 +32,7 @@ use Rattle.model.specs.Rules.{categoryNames, actorsOf, stepDown, stepsDo
 use Rattle.model.specs.ReadRules.{namesAfter, categoryLine, policyLine, rulesLine, lacksActor, hasPolicy, rulesFault, addRule, rulesStep}
 use Rattle.model.specs.ReadRules.{covered, readRules}
 use Rattle.model.specs.Request.{claimOf, requestLine, requestFault, requestOf, requestStep, oneLine, readRequest}
+use Rattle.model.specs.TextOrder.{byteOrder, byOrder}
 use Rattle.model.specs.Graph.{nodeEntries, relOf, relEntries, runs, valueIn, compares, sameOrNot, inRelation, meets, isNode, isRel}
 use Rattle.model.specs.Models.{edgeHolds, chainHolds, entriesOf, conditionHolds, models, isOn, metBy, suitsEdge, relFor, mappingOf}
 use Rattle.model.specs.Satisfies.{edgeAt, numberedEdgeHolds, clauseHolds, satisfies}
@@ -75,5 +76,5 @@ unfolding andThen same isNil any all keep each joined sum mem memℕ twice place
     firstParts vertexParts edgeParts valueParts padded firstPart relationData valueData behindValue clauseData behindClause clausesData edgeData edgesData
     queryData queryOutcome queryRead lowered sameButCase readBookBy laterNames beforeWord firstWord behindWord afterWord nodeWords piecesOf linePieces
     textPieces pieceBytes oldBytes renamed cannotHave firstStuck declaresNode declaredAt unlessStuck renamedBook newName newNode withNewNames bookWritten
-    bookWriter renameService bookText printedRenaming rowsAsked lampService lampText printedLamp
+    bookWriter renameService bookText printedRenaming rowsAsked lampService lampText printedLamp byteOrder byOrder
 computing = 0

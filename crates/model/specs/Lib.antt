@@ -23,6 +23,7 @@ pub mod Writing
 pub mod Rules
 pub mod ReadRules
 pub mod Request
+pub mod TextOrder
 pub mod Graph
 pub mod Models
 pub mod Satisfies

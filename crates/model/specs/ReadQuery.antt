@@ -36,10 +36,10 @@ unfoldable pub unknown : Book → Condition → List Name → List Name → Bool
 unknown b (differ v u) vs es = not (mem v vs && mem u vs)
 unknown b (demand x a r v) vs es = not (mem x vs && mem a (attrNames (b .vattrs)) || mem x es && mem a (attrNames (b .eattrs)))
 
--- int has all six relations, str and bool have = and <>
+-- int and str have all six relations, bool has = and <>
 unfoldable pub hasRelation : Kind → Relation → Bool
 hasRelation ints r = true
-hasRelation strs r = elim r [ eq ↦ true | ne ↦ true | lt ↦ false | le ↦ false | gt ↦ false | ge ↦ false ]
+hasRelation strs r = true
 hasRelation bools r = elim r [ eq ↦ true | ne ↦ true | lt ↦ false | le ↦ false | gt ↦ false | ge ↦ false ]
 
 -- an attribute is declared with a type that has this relation and this value

@@ -1,19 +1,21 @@
 -- What the tables of a book declare: names by their places, and the types of attributes.
 use Prim.Native.Nat.{ℕ, _+_, _<_, _≤_}
 use mathlib.Core.Path.{_≡_, refl, sym, ap, _∙_}
+use mathlib.Core.Logic.{⊎-elim}
 use mathlib.Core.List.{List}
 use mathlib.Core.Bool.{Bool, true, false, _&&_}
+use native.Mathlib.Omega.{arith}
 use lib.ListN.{length}
-use lib.Dec.{ltb, eqb}
-use borrow.Author.Tests.{eq-eqb, ne-eqb, lt-ltb, le-ltb}
+use lib.Dec.{ltb, eqb, eqb→eq}
+use borrow.Author.Tests.{eqb-false, ne-eqb, lt-ltb, le-ltb}
 use Rattle.model.specs.Bytes.{Bytes, same}
-use Rattle.model.specs.Choice.{pick}
 use Rattle.model.specs.Lists.{any}
 use Rattle.model.specs.Names.{mem, place}
 use Rattle.model.specs.Book.{Attr, attrNames}
-use Rattle.model.specs.Values.{Value, Kind, strs, bools, ofKind}
-use Rattle.model.specs.QueryText.{Relation, eq, ne, lt, le, gt, ge}
+use Rattle.model.specs.Values.{Value, Kind, ints, strs, bools, ofKind}
+use Rattle.model.specs.QueryText.{Relation}
 use Rattle.model.specs.ReadQuery.{hasRelation, typed}
+use Rattle.model.proofs.Members.{test, is-false}
 use Rattle.book_tables.specs.declared.BookCounts.{BookCounts}
 use Rattle.book_tables.specs.declared.Owner.{Owner}
 use Rattle.book_tables.specs.declared.OwnerTables.{OwnerTables}
@@ -106,34 +108,22 @@ module _ (text : Bytes) (words : List ℕ) (c : BookCounts) (h : Fits text words
   pub attr-out : t .declared ≤ k → (false ≡ mem w (attrNames attrs)) × (false ≡ typed attrs w r v)
   attr-out l = (sym (le-ltb k _ l) ∙ known, rw owner-attrs (sym (typed-out text words _ _ (attr-table text words c h o .names) w r v k place-of l)))
 
--- bool has the relations of str
-pub same-relations : (r : Relation) → hasRelation strs r ≡ hasRelation bools r
+-- the relations of a type that a word says: = and <> are had by every type, the other four by int and str
+every-type : (k : Kind) (r : Relation) → hasRelation bools r ≡ true → hasRelation k r ≡ true
 unfolding hasRelation
-same-relations eq = refl
-same-relations ne = refl
-same-relations lt = refl
-same-relations le = refl
-same-relations gt = refl
-same-relations ge = refl
+every-type ints r e = refl
+every-type strs r e = refl
+every-type bools r e = e
 
 module _ (t : ℕ) (r : Relation) (v : Value) where
-  pub suits-int : t ≡ 0 → ofKind (kindIn t) v ≡ suits (kindIn t) r v
+  pub suits-ordered : t ≤ 1 → ofKind (kindIn t) v ≡ suits (kindIn t) r v
   unfolding suits kindIn hasRelation
-  suits-int e = rw (eq-eqb t 0 e)
+  suits-ordered l = ⊎-elim (λ h. rw (eqb→eq t 0 h)) (λ h. let o : t ≡ 1 = omega (arith, eqb-false t 0 (is-false (eqb t 0) h)) in rw o) (test (eqb t 0))
 
-  -- the relations of a type that is not int are those of str
-  not-int : (t ≡ 0 → ⊥) → hasRelation (kindIn t) r ≡ hasRelation strs r
-  unfolding kindIn
-  not-int n = rw (ne-eqb t 0 n) (go (eqb t 1))
-    where
-      go : (x : Bool) → hasRelation (pick x strs bools) r ≡ hasRelation strs r
-      go true = refl
-      go false = sym (same-relations r)
-
-  pub suits-same : (t ≡ 0 → ⊥) → hasRelation strs r ≡ true → ofKind (kindIn t) v ≡ suits (kindIn t) r v
+  pub suits-same : hasRelation bools r ≡ true → ofKind (kindIn t) v ≡ suits (kindIn t) r v
   unfolding suits
-  suits-same n e = rw (not-int n, e)
+  suits-same e = rw (every-type (kindIn t) r e)
 
-  pub suits-none : (t ≡ 0 → ⊥) → hasRelation strs r ≡ false → false ≡ suits (kindIn t) r v
-  unfolding suits
-  suits-none n e = rw (not-int n, e)
+  pub suits-none : 1 < t → hasRelation bools r ≡ false → false ≡ suits (kindIn t) r v
+  unfolding suits kindIn
+  suits-none l e = rw (ne-eqb t 0 (λ p. omega arith), ne-eqb t 1 (λ p. omega arith), e)

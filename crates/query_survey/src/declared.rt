@@ -3,7 +3,7 @@ ghost use mathlib.Core.Path.{_≡_};
 ghost use Rattle.model.specs.Bytes.{Bytes};
 ghost use Rattle.model.specs.Names.{mem};
 ghost use Rattle.model.specs.Book.{attrNames};
-ghost use Rattle.model.specs.Values.{strs};
+ghost use Rattle.model.specs.Values.{bools};
 ghost use Rattle.model.specs.ReadQuery.{hasRelation, typed};
 ghost use Rattle.model.specs.Answers.{nameAt, relationOf, valueOf};
 ghost use Rattle.text.specs.Parts.{HasPart};
@@ -32,9 +32,9 @@ pub fn label_known(book: &[u8], words: &[u32], counts: BookCounts, s: &[u8], nam
     k < counts.labels
 }
 
-// Whether a relation is = or <>, which every type has.
+// Whether a relation is = or <>, which truth values have; numbers and texts have all six.
 fn is_equality(r: Relation) -> bool
-    ensures { λ x. ⌜ x ≡ hasRelation strs (relationOf r) ⌝ }
+    ensures { λ x. ⌜ x ≡ hasRelation bools (relationOf r) ⌝ }
 {
     match r {
         Relation::Equal => true,
@@ -50,7 +50,7 @@ fn is_equality(r: Relation) -> bool
 fn is_suited(kind: u32, relation: Relation, value: Value) -> bool
     ensures { λ r. ⌜ ((s : Bytes) → r ≡ suits (kindIn kind) (relationOf relation) (valueOf s value)) ⌝ }
 {
-    if kind == values::INT {
+    if kind <= values::STR {
         return values::of_kind(kind, value);
     }
     if is_equality(relation) {

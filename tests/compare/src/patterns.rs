@@ -75,7 +75,7 @@ impl Growing<'_> {
         let a = if likely { r.one(entries).0 } else { r.below(attrs.len()) };
         let (attr, kind) = &attrs[a];
         let (mistyped, any_sign) = (r.percent(1), r.percent(2));
-        let sign = *r.one(&SIGNS[..if *kind == INT || any_sign { 6 } else { 2 }]);
+        let sign = *r.one(&SIGNS[..if *kind != BOOL || any_sign { 6 } else { 2 }]);
         let mut value = value(r, if mistyped { (kind + 1) % 3 } else { *kind });
         if let (Some((_, here)), true) = (entries.iter().find(|e| e.0 == a), !mistyped && r.percent(60)) {
             if sign.contains('=') {

@@ -150,6 +150,24 @@ fn woven(last: &str) -> Texts {
     Texts { book: full_book().into(), rules: rules.into(), query: text("").into(), request: "(request c6 (id requestor n))\n".into() }
 }
 
+/// Texts that differ in the last of forty bytes, on nodes and on relationships, and as many conditions on their order as a woven pattern may have.
+fn in_order() -> Texts {
+    let value = |last: u8| format!("'{}{}'", "x".repeat(39), last as char);
+    let named = |i: usize| format!("mast_tiltmet_{i:03}");
+    let nodes: String = (0..255).map(|i| format!("(node {} (k {}))\n", named(i), value(b'b' + i as u8 % 24))).collect();
+    let rels: String = (0..255).map(|i| format!("(rel l n {} (w {}))\n", named(i), value(b'b' + i as u8 % 24))).collect();
+    let conditions = |owner: &str| format!("{owner} >= {} AND {owner} <= {}", value(b'b'), value(b'y'));
+    let all = [conditions("v.k"), conditions("e.w"), conditions("v.k"), conditions("e.w")].join(" AND ");
+    let text = format!("Match (requestor)-[e:l]->(v) Where {all} AND {all} Return v");
+    let category = |i: usize| {
+        let over = if i == 0 { String::new() } else { format!(" c{}", i - 1) };
+        format!("(category c{i} (actors requestor v) (over{over}))\n(policy c{i} \"{text}\")\n")
+    };
+    let rules: String = (0..2).map(category).collect();
+    let book = "(vattr k str)\n(eattr w str)\n(label l)\n(node n)\n".to_string() + &nodes + &rels;
+    Texts { book: book.into(), rules: rules.into(), query: text.into(), request: "(request c1 (id requestor n))\n".into() }
+}
+
 fn requests() -> Vec<String> {
     let fill = |begin: &str, end: &str, piece: &dyn Fn(usize) -> String| filled(begin, end, 2_048, piece);
     vec![
@@ -168,6 +186,7 @@ fn texts() -> Vec<Texts> {
     all.extend(requests().iter().map(|x| set(BOOK, RULES, QUERY, x)));
     // accepted, with one row; then a vertex that hangs on nothing; then an exclusion too many
     all.extend(["", " Match (t)", " Match (requestor) Where v <> requestor"].map(woven));
+    all.push(in_order());
     all
 }
 

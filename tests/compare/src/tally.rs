@@ -2,7 +2,7 @@
 use crate::check::Expected;
 use plain::book::{read_book_by, same, same_but_case};
 use plain::list::asked;
-use plain::query::Clause;
+use plain::query::{Clause, Relation};
 use plain::text::{Refusal, Value};
 use std::collections::BTreeMap;
 
@@ -64,6 +64,9 @@ impl Tally {
         self.see("a name in two patterns that is not joined", q.vertices.iter().any(|v| (1..asked.len()).any(|i| asked[i].pattern.vertices.contains(v) && !(actor(0, v) && actor(i, v)))));
         self.see("number conditions", value(|v| matches!(v, Value::Int(_))));
         self.see("text conditions", value(|v| matches!(v, Value::Str(_))));
+        self.see("texts in order", clauses.iter().any(|c| in_order(c)));
+        self.see("texts in order, of an edge", clauses.iter().any(|c| matches!(c, Clause::Edge(..)) && in_order(c)));
+        self.see("texts in order, of an edge of a policy", asked[1..].iter().any(|a| a.pattern.clauses.iter().any(|c| matches!(c, Clause::Edge(..)) && in_order(c))));
         self.see("truth conditions", value(|v| matches!(v, Value::Bool(_))));
         self.see("edge conditions", clauses.iter().any(|c| matches!(c, Clause::Edge(..))));
         self.see("exclusions", clauses.iter().any(|c| matches!(c, Clause::Excluded(..))));
@@ -114,6 +117,11 @@ impl Tally {
             println!("  {n:6} {what}");
         }
     }
+}
+
+/// A condition with one of < <= > >= on a text.
+fn in_order(c: &Clause) -> bool {
+    matches!(c, Clause::Vertex(_, _, r, Value::Str(_)) | Clause::Edge(_, _, r, Value::Str(_)) if !matches!(r, Relation::Eq | Relation::Ne))
 }
 
 fn listed(numbers: &BTreeMap<u32, usize>) -> String {

@@ -4,13 +4,18 @@ use crate::twins::with_twins;
 
 pub const INT: usize = 0;
 pub const STR: usize = 1;
+pub const BOOL: usize = 2;
 pub const KINDS: [&str; 3] = ["int", "str", "bool"];
 
 const NAMES: [&str; 24] = [
     "a", "b", "rate", "kind", "open", "hub", "S5", "S6", "ana", "node", "over", "int", "label", "rel", "x_1", "requestor", "Zed", "match", "where", "k9",
     "request", "id", "actors", "a_name_of_24_bytes_long",
 ];
-const TEXTS: [&str; 7] = ["''", "'a'", "'b'", "'ab'", "'hub'", "' (x) '", "'0123456789012345678901234567890123456789'"];
+/// Beginnings of each other, both cases, weeks, the least and the greatest byte, and two of forty bytes that differ in the last.
+const TEXTS: [&str; 18] = [
+    "''", "'a'", "'b'", "'ab'", "'A'", "'B'", "'hub'", "'Hub'", "'hub2'", "' (x) '", "' '", "'~'", "'2024w06'", "'2024w07'", "'2024w0'", "'2024w7'",
+    "'0123456789012345678901234567890123456789'", "'012345678901234567890123456789012345678A'",
+];
 const NUMBERS: [&str; 9] = ["0", "1", "-1", "2", "40", "50", "-7", "9223372036854775807", "-9223372036854775808"];
 pub const ACTORS: [&str; 7] = ["dut", "boss", "mate", "aide", "h", "s", "v1"];
 

@@ -252,7 +252,7 @@ pub fn tree(s: &[u8]) -> Option<Tree> {
 }
 
 fn has_relation(kind: Kind, r: Relation) -> bool {
-    kind == Kind::Int || r == Relation::Eq || r == Relation::Ne
+    kind != Kind::Bool || r == Relation::Eq || r == Relation::Ne
 }
 
 impl Tree {

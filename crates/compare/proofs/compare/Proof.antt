@@ -1,15 +1,17 @@
 -- `compare::compare` meets its contract. The loop's invariant: what is left of the two texts stands as the whole texts do.
 use Rattle.compare.proofs.CompareLaws.{compare-end, compare-shorter, compare-longer, compare-less, compare-greater, compare-step}
-use Rattle.compare.specs.Compare.{compareBytes}
+use Rattle.model.specs.TextOrder.{byteOrder}
+use Rattle.compare.specs.Compare.{orderOf}
 use lib.ListN.{length, drop}
 use Prim.Native.Nat.{_-_}
 use mathlib.Core.Path.{_≡_, refl, sym, _∙_}
+use native.Mathlib.Omega.{arith}
 use borrow.Author.Needs.{needs}
 use Rattle.compare.proofs.compare.Statement.{statement}
 use Rattle.compare.proofs.compare.Tie as tie
 
 abbrev Inv-loop : tie.InvT-loop
-Inv-loop a b i₀ i = compareBytes (drop i a) (drop i b) ≡ compareBytes a b
+Inv-loop a b i₀ i = byteOrder (drop i a) (drop i b) ≡ byteOrder a b
 
 abbrev μ-loop : tie.MeasureT-loop
 μ-loop a b i₀ i = length a - i
@@ -18,18 +20,21 @@ loop-holds : tie.Need-loop-holds Inv-loop μ-loop
 loop-holds c = refl
 
 returns : tie.Need-returns Inv-loop μ-loop
+unfolding orderOf
 returns c = sym (compare-longer (c .before .before .before .args .a .now) (c .before .before .before .args .b .now) (c .before .before .loop .i)
     (c .before .loop-test .taken) (c .if1 .taken)) ∙ c .before .before .loop .inv
 
 returns-2 : tie.Need-returns-2 Inv-loop μ-loop
+unfolding orderOf
 returns-2 c =
     let at-loop-test = c .before .before .before .before in
     let at-loop = at-loop-test .before in
     let at-args = at-loop .before in
     sym (compare-less (at-args .args .a .now) (at-args .args .b .now) (at-loop .loop .i) (at-loop-test .loop-test .taken)
-    (c .before .before .before .if1 .left) (c .if2 .taken)) ∙ at-loop .loop .inv
+    (c .before .before .before .if1 .left) (omega arith)) ∙ at-loop .loop .inv
 
 returns-3 : tie.Need-returns-3 Inv-loop μ-loop
+unfolding orderOf
 returns-3 c =
     let at-if1 = c .before .before .before .before .before .before in
     let at-loop-test = at-if1 .before in
@@ -48,10 +53,12 @@ loop-again c =
     (c .before .before .before .if2 .left) (c .if3 .left)) ∙ at-loop .loop .inv
 
 returns-4 : tie.Need-returns-4 Inv-loop μ-loop
+unfolding orderOf
 returns-4 c = sym (compare-shorter (c .before .before .before .args .a .now) (c .before .before .before .args .b .now) (c .before .before .loop .i)
     (c .before .loop-test .left) (c .if4 .taken)) ∙ c .before .before .loop .inv
 
 returns-5 : tie.Need-returns-5 Inv-loop μ-loop
+unfolding orderOf
 returns-5 c = sym (compare-end (c .before .before .before .args .a .now) (c .before .before .before .args .b .now) (c .before .before .loop .i)
     (c .before .loop-test .left) (c .if4 .left)) ∙ c .before .before .loop .inv
 
