@@ -5,8 +5,9 @@ use mathlib.Core.List.{[], _∷_}
 use mathlib.Core.Bool.{Bool, true, false, not, _&&_}
 use native.Mathlib.Omega.{arith}
 use lib.ListN.{length, getD, drop}
-use lib.Dec.{eqb}
+use lib.Dec.{T, eqb, eqb→eq}
 use borrow.Author.Tests.{eq-eqb, ne-eqb, lt-ltb, le-ltb}
+use Rattle.logic.specs.Tests.{and-left, and-right}
 use Rattle.logic.specs.Flags.{neither}
 use Rattle.logic.specs.Lists.{drop-at, drop-end}
 use Rattle.model.specs.Bytes.{Bytes, bytesOf, same}
@@ -81,6 +82,18 @@ same-row a b i (suc n) l m =
     same-row a b i n (omega arith) (omega arith)
     ∙ rw (drop-at a (i + suc n) l, drop-at b (i + suc n) m, e)
     (pick-both (sameNear a b i n) (eqb (getD a (i + suc n) 0) (getD b (i + suc n) 0)) (same (drop (i + suc (suc n)) a) (drop (i + suc (suc n)) b)))
+
+-- two texts stand as what is left of them behind a row of the same bytes
+pub compare-row : (a b : Bytes) (i n : ℕ) → i + n < length a → i + n < length b → T (sameNear a b i n)
+    → byteOrder (drop i a) (drop i b) ≡ byteOrder (drop (i + suc n) a) (drop (i + suc n) b)
+compare-row a b i zero l m t =
+    let e = eqb→eq (getD a i 0) (getD b i 0) t in
+    compare-step a b i (omega arith) (omega arith) (omega (arith, e)) (omega (arith, e))
+compare-row a b i (suc n) l m t =
+    let e = eqb→eq (getD a (i + suc n) 0) (getD b (i + suc n) 0) (and-right (sameNear a b i n) _ t) in
+    let k : i + suc n + 1 ≡ i + suc (suc n) = omega arith in
+    compare-row a b i n (omega arith) (omega arith) (and-left (sameNear a b i n) _ t)
+    ∙ rw k at (compare-step a b (i + suc n) l m (omega (arith, e)) (omega (arith, e)))
 
 module _ (a b : Bytes) (i n : ℕ) (l : i + n < length a) (m : i + n < length b) where
   pub row-same : sameNear a b i n ≡ true → same (drop i a) (drop i b) ≡ same (drop (i + suc n) a) (drop (i + suc n) b)
