@@ -1,7 +1,8 @@
 //! Times whole calls of the library in one process, beside plain Rust, and tells what share reading, weaving and searching have.
 //!
-//! `bench renaming` times the renaming alone, `bench lamp` the lamp beside the list. The calls take turns, so that a busy moment of the machine falls on all
-//! of them.
+//! `bench renaming` times the renaming alone, `bench lamp` the lamp beside the list, `bench conditions` lists with conditions on texts. The calls take turns, so
+//! that a busy moment of the machine falls on all of them.
+mod conditions;
 mod dense;
 mod lamp;
 mod renaming;
@@ -83,6 +84,7 @@ fn main() {
     match std::env::args().nth(1).as_deref() {
         Some("renaming") => return renaming::run(),
         Some("lamp") => return lamp::run(),
+        Some("conditions") => return conditions::run(),
         _ => {}
     }
     for t in [texts::worked(), texts::full(), texts::dense()] {
@@ -90,4 +92,5 @@ fn main() {
     }
     renaming::run();
     lamp::run();
+    conditions::run();
 }
