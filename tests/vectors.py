@@ -34,6 +34,7 @@ use Rattle.model.specs.Request.{Identity}
 use Rattle.model.specs.Service.{BookAnswer, RulesAnswer, RequestAnswer, bookService, rulesService, queryService, requestService, writerText, bookWritten}
 use Rattle.model.specs.Service.{listRows, lampService}
 use Rattle.model.specs.Renaming.{renamedBook}
+use Rattle.model.specs.Tidy.{tidyBook}
 use Rattle.model.specs.Printed.{refusalText, outcomeText, namesOf, lampText, bookText}
 
 unfoldable pub number : ℕ → Bytes
@@ -130,6 +131,9 @@ writeCall room work book rules query request = bookText (writerText work room bo
 unfoldable pub renameCall : ℕ → ℕ → Bytes → Bytes → Bytes → Bytes → Bytes
 renameCall room work book rules query request = bookText (bookWritten work room (renamedBook book))
 
+unfoldable pub tidyCall : ℕ → ℕ → Bytes → Bytes → Bytes → Bytes → Bytes
+tidyCall room work book rules query request = bookText (bookWritten work room (tidyBook book))
+
 unfoldable pub listCall : ℕ → ℕ → Bytes → Bytes → Bytes → Bytes → Bytes
 listCall words work book rules query request = outcomeText (namesOf (readBook book)) (listRows work words book rules query request)
 
@@ -141,7 +145,7 @@ unfoldable pub called : List (Bytes → Bytes → Bytes → Bytes → Bytes) →
 called calls book rules query request = map (λ call. call book rules query request) calls
 
 unfoldable pub showing : ℕ
-unfolding shownAlone bookCall rulesCall queryCall requestCall writeCall renameCall listCall lampCall called
+unfolding shownAlone bookCall rulesCall queryCall requestCall writeCall renameCall tidyCall listCall lampCall called
     number spaced listed bracket clauseShown patternShown outcomeShown bookOf bookShown rulesShown requestShown writtenShown writtenText answers
 showing = 0
 '''
@@ -156,8 +160,8 @@ def literal(data):
 
 
 # The numbers of a call, where its file's name gives none.
-NUMBERS = {"book": [16384], "rules": [16384], "query": [16384], "request": [16384], "write": [2048, 16384], "rename": [65536, 16384], "list": [16384, 16384],
-           "lamp": [16384]}
+NUMBERS = {"book": [16384], "rules": [16384], "query": [16384], "request": [16384], "write": [2048, 16384], "rename": [65536, 16384],
+           "tidy": [65536, 16384], "list": [16384, 16384], "lamp": [16384]}
 
 HEAD = '''-- Set {name}: every service's answer, by computation.
 use mathlib.Core.Path.{{_≡_, refl}}

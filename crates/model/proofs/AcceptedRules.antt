@@ -2,7 +2,7 @@
 use Prim.Native.Nat.{ℕ, _≤_}
 use mathlib.Core.Path.{_≡_, refl, sym, subst, _∙_}
 use mathlib.Core.Logic.{⊎-elim}
-use mathlib.Core.List.{List, [], _∷_, List·Memᴰ·append-cases as append-cases, List·Memᴰ·eq-of-singleton as eq-of-singleton}
+use mathlib.Core.List.{List, [], List·Memᴰ·append-cases as append-cases, List·Memᴰ·eq-of-singleton as eq-of-singleton}
 use mathlib.Core.Bool.{not, _&&_}
 use lib.ListN.{length}
 use lib.Dec.{ltb, nltb→le, not-T}
@@ -28,18 +28,13 @@ use Rattle.model.proofs.Members.{_∈_, keep-e, map-e, joined-e}
 use Rattle.model.proofs.ByNodes.{Named}
 use Rattle.model.proofs.Outcomes.{no-just, then-e, pick-e, else-e, bytes-accepted, accept-e, no-fault, form-e, fault-e, lines-keep}
 use Rattle.model.proofs.AllowedBytes.{Allowed, allowed-line, line-allowed, lines-allowed}
-use Rattle.model.proofs.LineItems.{FitAll, policy-text-allowed, form-fits, first-e}
+use Rattle.model.proofs.LineItems.{FitAll, at-end-e, policy-text-allowed, form-fits, first-e}
 use Rattle.model.proofs.AcceptedQuery.{ClearNames, query-clear, accept-query}
 
 -- a line of the rules as it was read: its policy is the text of so many allowed bytes
 abbrev RuleFits : RulesLine → Type 0
 RuleFits (category n actors over) = Unit {0}
 RuleFits (policy c k q) = (t : Bytes) × Allowed t × (length t ≡ k) × (queryText t ≡ just q)
-
-at-end-e : {A : Type 0} (is : List Item) (a y : A) → atEnd is a ≡ just y → a ≡ y
-unfolding atEnd
-at-end-e [] a y e = cc
-at-end-e (i ∷ is) a y e = no-just y e
 
 category-fits : (is : List Item) (x : RulesLine) → FitAll is → categoryLine is ≡ just x → RuleFits x
 unfolding categoryLine

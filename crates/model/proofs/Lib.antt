@@ -67,6 +67,7 @@ pub mod LowestFaults
 pub mod TextRefusals
 pub mod Refusals
 pub mod RenamingRefusals
+pub mod TidyRefusals
 pub mod ListRefusals
 pub mod TableRows
 -- computed: two faults at once, the limits of a full book, whole answers of queries, the traps, whole answers of the request reader
@@ -76,5 +77,6 @@ pub mod Traps
 pub mod RequestAnswerCases
 -- texts in byte order, computed
 pub mod TextOrderCases
--- the renaming, computed
+-- the renaming and the tidy book, computed
 pub mod RenamingCases
+pub mod TidyCases

@@ -1,30 +1,35 @@
--- What the items of a line of allowed bytes hold: policy texts of allowed bytes.
-use Prim.Native.Nat.{ℕ, zero, suc, _+_, _-_}
+-- What the items of a line of allowed bytes hold: words, numbers and text values that can be written, policy texts of allowed bytes.
+use Prim.Native.Nat.{ℕ, zero, suc, _+_, _-_, _^_, _<_}
 use mathlib.Core.Path.{_≡_, refl, sym, ap, subst}
 use mathlib.Core.Logic.{⊎-elim}
 use mathlib.Core.List.{List, [], _∷_}
-use mathlib.Core.Bool.{Bool, true, _||_}
+use mathlib.Core.Bool.{Bool, true, false, _||_}
 use lib.ListN.{length, drop}
 use lib.Dec.{eqb}
-use Rattle.model.specs.Bytes.{Bytes}
+use Rattle.model.specs.Bytes.{Bytes, bytesOf, same}
 use Rattle.model.specs.Choice.{pick, Maybe, nothing, just, andThen}
 use Rattle.model.specs.Lists.{all}
+use Rattle.model.specs.Names.{Name, mem}
 use Rattle.model.specs.Items.{Item, word, whole, text, quoted, list, Items, none, more, plainAt, isList, onward, onwardWith, listAt, asList}
 use Rattle.model.specs.Items.{opens, itemAt, itemList, itemsOf, lineItems}
 use Rattle.model.specs.Words.{Got, isLetter, isDigit, run, wordAt, wholeAt, textAt, quotedAt, readAs, before}
 use Rattle.model.specs.Lines.{Line, isAllowed}
-use Rattle.model.specs.Forms.{asQuoted, first, formOf}
+use Rattle.model.specs.Values.{Value, int, str}
+use Rattle.model.specs.Forms.{asWord, asQuoted, neverNames, nameOf, asName, truthOf, asValue, first, atEnd, formOf}
 use Rattle.model.specs.Graph.{Each}
 use Rattle.model.proofs.Decides.{pick-iff}
 use Rattle.model.proofs.Outcomes.{no-just, then-e, pick-e}
 use Rattle.model.proofs.AllowedBytes.{Allowed, all-before, all-drop}
+use Rattle.model.proofs.WrittenSigns.{Word}
+use Rattle.model.proofs.WrittenConditions.{IsName, WritableValue}
+use Rattle.model.proofs.WritableSigns.{IfThere, there-e, pick-case, then-case, word-writable, whole-writable, text-writable}
 
--- every policy text of an item is of allowed bytes
+-- the words, numbers and text values of an item can be written, and its policy texts are of allowed bytes
 mutual
   pub FitItem : Item → Type 0
-  FitItem (word w) = Unit {0}
-  FitItem (whole n) = Unit {0}
-  FitItem (text t) = Unit {0}
+  FitItem (word w) = Word w
+  FitItem (whole n) = n < 2 ^ 64
+  FitItem (text t) = WritableValue (str t)
   FitItem (quoted t) = Allowed t
   FitItem (list is) = FitItems is
 
@@ -32,37 +37,39 @@ mutual
   FitItems none = Unit {0}
   FitItems (more i is) = FitItem i × FitItems is
 
+-- of what was read
 abbrev FitGot : Got Item → Type 0
 FitGot g = FitItem (g .got)
 
-read-e : {A B : Type 0} (f : A → B) (m : Maybe (Got A)) (g : Got B) → readAs f m ≡ just g → (a : Got A) × (m ≡ just a) × (g .got ≡ f (a .got))
+-- what fits, read as an item
+read-there : {A : Type 0} (f : A → Item) (m : Maybe (Got A)) → IfThere (λ g. FitItem (f (g .got))) m → IfThere FitGot (readAs f m)
 unfolding readAs
-read-e f nothing g e = no-just g e
-read-e f (just a) g e = let d : record { got = f (a .got); size = a .size } ≡ g = cc in (a, refl, sym (ap (λ z. z .got) d))
+read-there f nothing h = tt
+read-there f (just a) h = h
 
-quoted-allowed : (s : Bytes) (g : Got Bytes) → Allowed s → quotedAt s ≡ just g → Allowed (g .got)
+-- a policy text of a text of allowed bytes
+quoted-there : (s : Bytes) → Allowed s → IfThere (λ (g : Got Bytes). Allowed (g .got)) (quotedAt s)
 unfolding quotedAt
-quoted-allowed s g h e =
-    let r = then-e (before 34 s) (λ t. just (record { got = t; size = length t + 2 })) g e in
-    let f : _≡_ {A = Maybe (Got Bytes)} (just (record { got = r .0; size = length (r .0) + 2 })) (just g) = r .2 in
-    let d : _≡_ {A = Got Bytes} (record { got = r .0; size = length (r .0) + 2 }) g = cc in
-    subst (λ (z : Got Bytes). Allowed (z .got)) d (all-before isAllowed 34 s (r .0) h (r .1))
+quoted-there s h = then-case Allowed (λ (g : Got Bytes). Allowed (g .got)) (before 34 s) (λ t. just (record { got = t; size = length t + 2 }))
+    (inside (before 34 s) (λ t e. all-before isAllowed 34 s t h e)) (λ t a. a)
+  where
+    inside : (m : Maybe Bytes) → ((t : Bytes) → m ≡ just t → Allowed t) → IfThere Allowed m
+    inside nothing f = tt
+    inside (just t) f = f t refl
+
+-- an item that is no list
+plain-there : (s : Bytes) → Allowed s → IfThere FitGot (plainAt s)
+unfolding plainAt FitItem all
+plain-there [] a = tt
+plain-there (b ∷ s) a =
+    let rest = pick-iff (isAllowed b) (all isAllowed s) .1 a .1 in
+    pick-case (IfThere FitGot) (isLetter b) _ _ (λ t. read-there word (wordAt (b ∷ s)) (word-writable b s t))
+    (pick-case (IfThere FitGot) (isDigit b || eqb b 45) _ _ (λ t. read-there whole (wholeAt (b ∷ s)) (whole-writable b s))
+    (pick-case (IfThere FitGot) (eqb b 39) _ _ (λ t. read-there text (textAt s) (text-writable s rest))
+    (pick-case (IfThere FitGot) (eqb b 34) _ _ (λ t. read-there quoted (quotedAt s) (quoted-there s rest)) tt)))
 
 plain-fits : (s : Bytes) (g : Got Item) → Allowed s → plainAt s ≡ just g → FitGot g
-unfolding plainAt FitItem all
-plain-fits [] g a e = no-just g e
-plain-fits (b ∷ s) g a e =
-    let q = pick (eqb b 34) (readAs quoted (quotedAt s)) nothing in
-    let t = pick (eqb b 39) (readAs text (textAt s)) q in
-    let n = pick (isDigit b || eqb b 45) (readAs whole (wholeAt (b ∷ s))) t in
-    ⊎-elim (λ h. let r = read-e word (wordAt (b ∷ s)) g h in subst FitItem (sym (r .2)) tt)
-    (λ h. ⊎-elim (λ k. let r = read-e whole (wholeAt (b ∷ s)) g k in subst FitItem (sym (r .2)) tt)
-    (λ k. ⊎-elim (λ u. let r = read-e text (textAt s) g u in subst FitItem (sym (r .2)) tt)
-    (λ u. ⊎-elim (λ v. let r = read-e quoted (quotedAt s) g v in
-    subst FitItem (sym (r .2)) (quoted-allowed s (r .0) (pick-iff (isAllowed b) (all isAllowed s) .1 a .1) (r .1))) (λ v. no-just g v)
-    (pick-e (eqb b 34) (readAs quoted (quotedAt s)) nothing g u)) (pick-e (eqb b 39) (readAs text (textAt s)) q g k))
-    (pick-e (isDigit b || eqb b 45) (readAs whole (wholeAt (b ∷ s))) t g h))
-    (pick-e (isLetter b) (readAs word (wordAt (b ∷ s))) n g e)
+plain-fits s g a e = there-e FitGot (plainAt s) g (plain-there s a) e
 
 onward-e : (m : Maybe (Got Items)) (g : Got Items) → onward m ≡ just g → (a : Got Items) × (m ≡ just a) × (g .got ≡ a .got)
 unfolding onward
@@ -120,7 +127,8 @@ unfolding itemList FitItems
 itemList-fits none h = tt
 itemList-fits (more i is) h = (h .0, itemList-fits is (h .1))
 
-itemsOf-fits : (i : Item) (is : List Item) → FitItem i → itemsOf i ≡ just is → FitAll is
+-- what stands in an item that is a list
+pub itemsOf-fits : (i : Item) (is : List Item) → FitItem i → itemsOf i ≡ just is → FitAll is
 unfolding itemsOf FitItem
 itemsOf-fits (word w) is h e = no-just is e
 itemsOf-fits (whole n) is h e = no-just is e
@@ -148,6 +156,36 @@ pub first-e : {A B : Type 0} (read : Item → Maybe A) (is : List Item) (f : A �
 unfolding first
 first-e read [] f y h e = no-just y e
 first-e read (i ∷ is) f y h e = let r = then-e (read i) (λ a. f a is) y e in (i, is, r .0, h .0, h .1, r .1, r .2)
+
+-- what was read where nothing is left
+pub at-end-e : {A : Type 0} (is : List Item) (a y : A) → atEnd is a ≡ just y → a ≡ y
+unfolding atEnd
+at-end-e [] a y e = cc
+at-end-e (i ∷ is) a y e = no-just y e
+
+-- an item that was read as a name is one
+pub item-name : (i : Item) (n : Name) → FitItem i → asName i ≡ just n → IsName n
+unfolding asName asWord nameOf FitItem andThen
+item-name (word w) n h e = go (mem w neverNames) refl e
+  where
+    go : (t : Bool) → mem w neverNames ≡ t → pick t nothing (just w) ≡ just n → IsName n
+    go true d f = no-just n f
+    go false d f = let c : w ≡ n = cc in subst IsName c (h, d)
+item-name (whole m) n h e = no-just n e
+item-name (text t) n h e = no-just n e
+item-name (quoted t) n h e = no-just n e
+item-name (list is) n h e = no-just n e
+
+-- an item that was read as a value: the value can be written
+pub item-value : (i : Item) (v : Value) → FitItem i → asValue i ≡ just v → WritableValue v
+unfolding asValue truthOf FitItem
+item-value (word w) v h e = there-e WritableValue (asValue (word w)) v
+    (pick-case (IfThere WritableValue) (same w (bytesOf "true")) _ _ (λ t. tt)
+    (pick-case (IfThere WritableValue) (same w (bytesOf "false")) _ _ (λ t. tt) tt)) e
+item-value (whole n) v h e = let d : int n ≡ v = cc in subst WritableValue d h
+item-value (text t) v h e = let d : str t ≡ v = cc in subst WritableValue d h
+item-value (quoted t) v h e = no-just v e
+item-value (list is) v h e = no-just v e
 
 -- the bytes of a policy text are allowed
 pub policy-text-allowed : (i : Item) (t : Bytes) → FitItem i → asQuoted i ≡ just t → Allowed t

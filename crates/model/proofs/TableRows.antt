@@ -20,7 +20,7 @@ use Rattle.model.specs.ReadRules.{RulesLine, category, policy, rulesFaul
 use Rattle.model.specs.Request.{requestFault, requestStep, readRequest}
 use Rattle.model.specs.Graph.{Each}
 use Rattle.model.specs.Service.{bookService, rulesService, queryService, requestService, writerService, renameService, listService}
-use Rattle.model.specs.Service.{lampService}
+use Rattle.model.specs.Service.{tidyService, lampService}
 use Rattle.model.specs.RefusalTable.{IsText, LineOf, NameOn, FaultRow, TableRow, fault-row, memory-is-short, text-too-long, byte-not-allowed}
 use Rattle.model.specs.RefusalTable.{grammar-broken}
 use Rattle.model.specs.RefusalTable.{not-declared, second-time, not-of-the-type, passes-the-limit, excluded-from-itself, lacks-an-actor}
@@ -28,7 +28,7 @@ use Rattle.model.specs.RefusalTable.{has-no-policy, no-requestor, woven-
 use Rattle.model.specs.RefusalTable.{book-exceeds-buffer, InTable, InTableBut14}
 use Rattle.model.specs.Refused.{returned, BookTable, memory-short, in-book, RulesTable, book-first, in-rules, QueryTable, in-query}
 use Rattle.model.specs.Refused.{RequestTable, rules-first, in-request, WriterTable, no-room, LampTable, in-woven, ListTable, lamp-first, woven}
-use Rattle.model.specs.Refused.{RenameTable, stuck}
+use Rattle.model.specs.Refused.{RenameTable, stuck, TidyTable}
 use Rattle.model.proofs.Members.{test, is-true, is-false}
 use Rattle.model.proofs.Faults.{AtLine}
 use Rattle.model.proofs.TextRefusals.{first-bad-byte, OfText, too-long, bad-byte, own, book-refused-by, book-line-fault, OfRules, at-line}
@@ -37,6 +37,7 @@ use Rattle.model.proofs.TextRefusals.{no-line, second-line, request-ref
 use Rattle.model.proofs.Refusals.{book-table, rules-table, query-table, request-table, writer-service-table, list-service-table}
 use Rattle.model.proofs.Refusals.{lamp-service-table}
 use Rattle.model.proofs.RenamingRefusals.{rename-service-table}
+use Rattle.model.proofs.TidyRefusals.{tidy-service-table}
 use Rattle.model.proofs.ListRefusals.{woven-number}
 
 -- a refusal by its three numbers
@@ -279,6 +280,14 @@ rename-refuses-by-the-table work buffer book f e = go (rename-service-table work
     go (stuck {n = n} l r k d) =
         fault-row (in-table d (row-5 1 (declaredAt n (linesOf book)) (omega arith) (omega arith) (declared-from-one n (linesOf book))))
     go (no-room l r o d) = no-room-row d book-exceeds-buffer
+
+-- so does the tidy book
+pub tidy-refuses-by-the-table : (work : ℕ) (buffer book : Bytes) (f : Refusal) → tidyService work buffer book .answer ≡ refused f → InTable f
+tidy-refuses-by-the-table work buffer book f e = go (tidy-service-table work buffer book .refused-if f .0 e)
+  where
+    go : TidyTable work (length buffer) book f → InTable f
+    go (book-first t) = fault-row (book-rows work book f t)
+    go (no-room u o d) = no-room-row d book-exceeds-buffer
 
 lamp-rows : (work : ℕ) (book rules query request : Bytes) (f : Refusal) → LampTable work book rules query request f → InTableBut14 f
 lamp-rows work book rules query request f (rules-first t) = rules-rows work book rules f t

@@ -18,6 +18,7 @@ use Rattle.model.specs.Signs.{Sign, word, whole, text, mark, broken, mar
 use Rattle.model.specs.Graph.{Each}
 use Rattle.model.proofs.Decides.{and-iff, pick-iff, or-l}
 use Rattle.model.proofs.Members.{test, is-true, is-false}
+use Rattle.model.proofs.Outcomes.{no-just}
 use Rattle.model.proofs.WrittenSigns.{Word}
 use Rattle.model.proofs.WrittenConditions.{WritableValue}
 
@@ -25,6 +26,11 @@ use Rattle.model.proofs.WrittenConditions.{WritableValue}
 abbrev pub IfThere : {A : Type 0} → (A → Type 0) → Maybe A → Type 0
 IfThere P nothing = T true
 IfThere P (just a) = P a
+
+-- it holds of what is found there
+pub there-e : {A : Type 0} (P : A → Type 0) (m : Maybe A) (a : A) → IfThere P m → m ≡ just a → P a
+there-e P nothing a h e = no-just a e
+there-e P (just x) a h e = let d : x ≡ a = cc in subst P d h
 
 -- what holds of both sides of a choice holds of the choice
 pub pick-case : {A : Type 0} (P : A → Type 0) (t : Bool) (x y : A) → (T t → P x) → P y → P (pick t x y)
@@ -68,7 +74,8 @@ letter-run : (b : ℕ) (s : Bytes) → T (isLetter b) → run isWordByte (b ∷ 
 unfolding run
 letter-run b s t = rw (is-true (isWordByte b) (letter-word b t)) refl
 
-word-writable : (b : ℕ) (s : Bytes) → T (isLetter b) → IfThere (λ (g : Got Bytes). WritableSign (word (g .got))) (wordAt (b ∷ s))
+-- a word that was read can be written
+pub word-writable : (b : ℕ) (s : Bytes) → T (isLetter b) → IfThere (λ (g : Got Bytes). WritableSign (word (g .got))) (wordAt (b ∷ s))
 unfolding wordAt
 word-writable b s t = pick-case (IfThere (λ (g : Got Bytes). WritableSign (word (g .got)))) (leb (length (run isWordByte (b ∷ s))) 24) _ nothing
     (λ u. letters (run isWordByte (b ∷ s)) (letter-run b s t) (leb→le (length (run isWordByte (b ∷ s))) 24 u)) tt
@@ -92,7 +99,8 @@ digits-writable minus s =
     (λ u. biased-small minus (decimal 0 ds) (leb→le (decimal 0 ds) (pick minus (2 ^ 63) (2 ^ 63 - 1))
     (and-iff (plainDigits minus ds) (leb (decimal 0 ds) (pick minus (2 ^ 63) (2 ^ 63 - 1))) .1 u .1))) tt
 
-whole-writable : (b : ℕ) (s : Bytes) → IfThere (λ (g : Got ℕ). WritableSign (whole (g .got))) (wholeAt (b ∷ s))
+-- so can a whole number
+pub whole-writable : (b : ℕ) (s : Bytes) → IfThere (λ (g : Got ℕ). WritableSign (whole (g .got))) (wholeAt (b ∷ s))
 unfolding wholeAt
 whole-writable b s = pick-case (IfThere (λ (g : Got ℕ). WritableSign (whole (g .got)))) (eqb b 45) _ _ (λ t. digits-writable true s)
     (digits-writable false (b ∷ s))
@@ -113,7 +121,8 @@ before-apostrophe (b ∷ s) h = ⊎-elim (λ t. rw (is-true (eqb b 39) t) (tt, t
           (u .0, k .1),
     )))) (test (eqb b 39))
 
-text-writable : (s : Bytes) → T (all isAllowed s) → IfThere (λ (g : Got Bytes). WritableSign (text (g .got))) (textAt s)
+-- and a text value, of allowed bytes
+pub text-writable : (s : Bytes) → T (all isAllowed s) → IfThere (λ (g : Got Bytes). WritableSign (text (g .got))) (textAt s)
 unfolding textAt
 text-writable s h = then-case NoApostrophe (λ (g : Got Bytes). WritableSign (text (g .got))) (before 39 s)
     (λ t. pick (isText t) (just (record { got = t; size = length t + 2 })) nothing) (before-apostrophe s h)

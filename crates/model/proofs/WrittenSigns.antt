@@ -91,15 +91,15 @@ tenTo zero = 1
 tenTo (suc k) = 10 * tenTo k
 
 -- the first digit is no zero
-abbrev noZeroFirst : Bytes → Bool
+abbrev pub noZeroFirst : Bytes → Bool
 noZeroFirst [] = false
 noZeroFirst (d ∷ ds) = not (eqb d 48)
 
 -- digits that write n
-record Digits (n : ℕ) (ds : Bytes) : Type 0 where
-  every : T (all isDigit ds)
-  reads : decimal 0 ds ≡ n
-  first : 0 < n → T (noZeroFirst ds)
+pub record Digits (n : ℕ) (ds : Bytes) : Type 0 where
+  pub every : T (all isDigit ds)
+  pub reads : decimal 0 ds ≡ n
+  pub first : 0 < n → T (noZeroFirst ds)
 
 decimal-end : (n : ℕ) (ds : Bytes) (d : ℕ) → decimal n (ds ++ (d ∷ [])) ≡ decimal n ds * 10 + (d - 48)
 unfolding decimal
@@ -141,29 +141,38 @@ digits-of (suc k) n h p = ⊎-elim
           first = λ p. noZeroFirst-append ds _ (r .first (omega (arith, div-add-mod' n 10, mod-lt n {m = 10} (omega arith))));
         }
 
+-- 20 digits are enough for a whole number, with a minus or without
+pub whole-digits : (n : ℕ) → n ≤ 2 ^ 63 → Digits n (digits 20 n)
+unfolding tenTo
+whole-digits n h = digits-of 20 n (omega arith) (omega arith)
+
 -- the digits of a number below 2^64, with what follows them no digit
-digits-at : (minus : Bool) (n : ℕ) (ds s : Bytes) → Digits n ds → T (plainDigits minus ds) → n ≤ pick minus (2 ^ 63) (2 ^ 63 - 1) → run isDigit s ≡ []
+pub digits-at : (minus : Bool) (n : ℕ) (ds s : Bytes) → Digits n ds → T (plainDigits minus ds) → n ≤ pick minus (2 ^ 63) (2 ^ 63 - 1) → run isDigit s ≡ []
     → digitsAt minus (ds ++ s) ≡ just (record { got = biased minus n; size = length ds + pick minus 1 0 })
 unfolding digitsAt isWhole
 digits-at minus n ds s r p h e =
     let a = and-iff (plainDigits minus ds) (leb n (pick minus (2 ^ 63) (2 ^ 63 - 1))) .0 (p, le→leb n (pick minus (2 ^ 63) (2 ^ 63 - 1)) h) in
     rw (run-all isDigit ds s (r .every) e, r .reads, is-true (plainDigits minus ds && leb n (pick minus (2 ^ 63) (2 ^ 63 - 1))) a) refl
 
-noZeroFirst-plain : (minus : Bool) (ds : Bytes) → T (noZeroFirst ds) → T (plainDigits minus ds)
+-- digits whose first is no zero, behind a minus or not
+pub noZeroFirst-plain : (minus : Bool) (ds : Bytes) → T (noZeroFirst ds) → T (plainDigits minus ds)
 unfolding plainDigits
 noZeroFirst-plain minus [] t = absurd t
 noZeroFirst-plain minus (d ∷ ds) t = rw (is-false (eqb d 48) (T-not (eqb d 48) t)) tt
 
-plain-digits : (n : ℕ) (ds : Bytes) → Digits n ds → (n ≡ 0 → ds ≡ 48 ∷ []) → T (plainDigits false ds)
+-- the digits of a number without a minus
+pub plain-digits : (n : ℕ) (ds : Bytes) → Digits n ds → (n ≡ 0 → ds ≡ 48 ∷ []) → T (plainDigits false ds)
 unfolding plainDigits isNil
 plain-digits zero ds r z = rw (z refl) tt
 plain-digits (suc n) ds r z = noZeroFirst-plain false ds (r .first (omega arith))
 
-zero-digits : (n : ℕ) → n ≡ 0 → digits 20 n ≡ 48 ∷ []
+-- 0 is one digit
+pub zero-digits : (n : ℕ) → n ≡ 0 → digits 20 n ≡ 48 ∷ []
 unfolding digits
 zero-digits n e = rw e
 
-digit-no-letter : (b : ℕ) → T (isDigit b) → isLetter b ≡ false
+-- a digit is no letter
+pub digit-no-letter : (b : ℕ) → T (isDigit b) → isLetter b ≡ false
 digit-no-letter b t = is-false (isLetter b) (λ u. let p = letter-e b u in let q = digit-e b t in omega arith)
 
 -- a sign where a digit stands
@@ -209,24 +218,24 @@ lex-minus n (d ∷ ds) s r z h e =
 
 -- a number is read as it is written
 pub lex-whole : (n : ℕ) (s : Bytes) → n < 2 ^ 64 → run isDigit s ≡ [] → signs false false 0 (wholeText n ++ s) ≡ whole n ∷ signs false true 0 s
-unfolding wholeText tenTo
+unfolding wholeText
 lex-whole n s h e = ⊎-elim
     (λ t. let l = leb→le (2 ^ 63) n t in
     let z : 2 ^ 63 + (n - 2 ^ 63) ≡ n = omega arith in
-    rw (is-true (leb (2 ^ 63) n) t) (lex-plus (n - 2 ^ 63) (digits 20 (n - 2 ^ 63)) s (digits-of 20 (n - 2 ^ 63) (omega arith) (omega arith))
+    rw (is-true (leb (2 ^ 63) n) t) (lex-plus (n - 2 ^ 63) (digits 20 (n - 2 ^ 63)) s (whole-digits (n - 2 ^ 63) (omega arith))
     (zero-digits (n - 2 ^ 63)) (omega arith) e ∙ ap (λ x. whole x ∷ signs false true 0 s) z))
     (λ t. let l : n < 2 ^ 63 = nleb→lt (2 ^ 63) n (not-T (leb (2 ^ 63) n) t) in
     let z : 2 ^ 63 - (2 ^ 63 - n) ≡ n = omega arith in
-    rw (is-false (leb (2 ^ 63) n) t) (lex-minus (2 ^ 63 - n) (digits 20 (2 ^ 63 - n)) s (digits-of 20 (2 ^ 63 - n) (omega arith) (omega arith))
+    rw (is-false (leb (2 ^ 63) n) t) (lex-minus (2 ^ 63 - n) (digits 20 (2 ^ 63 - n)) s (whole-digits (2 ^ 63 - n) (omega arith))
     (omega arith) (omega arith) e ∙ ap (λ x. whole x ∷ signs false true 0 s) z))
     (test (leb (2 ^ 63) n))
 
 -- the bytes of a written number
 pub whole-bytes : (p : ℕ → Bool) → ((b : ℕ) → T (isDigit b) → T (p b)) → T (p 45) → (n : ℕ) → n < 2 ^ 64 → T (all p (wholeText n))
-unfolding wholeText tenTo all
+unfolding wholeText all
 whole-bytes p h m n k = ⊎-elim
-    (λ t. rw (is-true (leb (2 ^ 63) n) t) (all-more isDigit p h (digits 20 (n - 2 ^ 63)) (digits-of 20 (n - 2 ^ 63) (omega arith) (omega arith) .every)))
+    (λ t. rw (is-true (leb (2 ^ 63) n) t) (all-more isDigit p h (digits 20 (n - 2 ^ 63)) (whole-digits (n - 2 ^ 63) (omega arith) .every)))
     (λ t. let l : n < 2 ^ 63 = nleb→lt (2 ^ 63) n (not-T (leb (2 ^ 63) n) t) in
     rw (is-false (leb (2 ^ 63) n) t) (pick-iff (p 45) (all p (digits 20 (2 ^ 63 - n))) .0
-    (m, all-more isDigit p h (digits 20 (2 ^ 63 - n)) (digits-of 20 (2 ^ 63 - n) (omega arith) (omega arith) .every))))
+    (m, all-more isDigit p h (digits 20 (2 ^ 63 - n)) (whole-digits (2 ^ 63 - n) (omega arith) .every))))
     (test (leb (2 ^ 63) n))

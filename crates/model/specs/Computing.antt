@@ -19,6 +19,8 @@ use Rattle.model.specs.ReadBook.{readBookBy, readBook}
 use Rattle.model.specs.Renaming.{laterNames, beforeWord, firstWord, behindWord, afterWord, nodeWords, piecesOf, linePieces, textPieces, pieceBytes}
 use Rattle.model.specs.Renaming.{oldBytes, renamed, cannotHave, firstStuck, declaresNode, declaredAt, unlessStuck, renamedBook, newName, newNode}
 use Rattle.model.specs.Renaming.{withNewNames}
+use Rattle.model.specs.Tidy.{kindText, listText, entryText, itemTexts, lineText, entryIf, inOrder, tidyNode, tidyRel, tidied, attrLineOf, nodeLineOf}
+use Rattle.model.specs.Tidy.{relLineOf, linesByKind, tidyText, tidyBook}
 use Rattle.model.specs.Signs.{marks, begins, markAt, orBroken, digitNext, signAt, isWord, isMark, wordy, chainBehind, signs, signsOf, signName}
 use Rattle.model.specs.Signs.{signValue, next, expect}
 use Rattle.model.specs.Grammar.{spotAfter, signRelation, vertexAt, startAt, linkAt, conditionAt, returnAt, pieceAt, endsAt, pieces, tailOf, queryText}
@@ -41,7 +43,7 @@ use Rattle.model.specs.Weave.{wovenTooMany, withIdentity, stepAlong, ste
 use Rattle.model.specs.Weave.{identifiedBy}
 use Rattle.model.specs.Rows.{nodesFor, someChoice, actorNodes, allHave, rowGiven, mayHave, tuples, rowsOf}
 use Rattle.model.specs.Service.{ones, withWork, bookService, rulesService, queryService, requestService, writerText, onto, writerService, bookWritten}
-use Rattle.model.specs.Service.{bookWriter, renameService}
+use Rattle.model.specs.Service.{bookWriter, renameService, tidyService}
 use Rattle.model.specs.Service.{rowsAsked, listFound, listRows, rowWords, listService, lampService}
 use Rattle.model.specs.Printed.{rowText, refusalText, rowsText, outcomeText, namesOf, printed, lampText, printedLamp, bookText}
 use Rattle.model.specs.Printed.{printedRenaming}
@@ -77,4 +79,6 @@ unfolding andThen same isNil any all keep each joined sum mem memℕ twice place
     queryData queryOutcome queryRead lowered sameButCase readBookBy laterNames beforeWord firstWord behindWord afterWord nodeWords piecesOf linePieces
     textPieces pieceBytes oldBytes renamed cannotHave firstStuck declaresNode declaredAt unlessStuck renamedBook newName newNode withNewNames bookWritten
     bookWriter renameService bookText printedRenaming rowsAsked lampService lampText printedLamp byteOrder byOrder
+    kindText listText entryText itemTexts lineText entryIf inOrder tidyNode tidyRel tidied attrLineOf nodeLineOf relLineOf linesByKind tidyText tidyBook
+    tidyService
 computing = 0

@@ -25,6 +25,8 @@ pub mod ReadRules
 pub mod Request
 pub mod TextOrder
 pub mod Graph
+pub mod SameBook
+pub mod Tidy
 pub mod Models
 pub mod Satisfies
 pub mod Weave

@@ -57,7 +57,7 @@ pub data TableRow : ℕ → ℕ → ℕ → Type 0 where
   rows-exceed-words : TableRow 14 5 0
   -- 14: written query longer than its buffer or than 2,048 bytes
   written-too-long : TableRow 14 3 1
-  -- 14: a book that is written is longer than its buffer
+  -- 14: a book that is written is longer than its buffer, a tidy book than 65,536 bytes
   book-exceeds-buffer : TableRow 14 1 0
 
 -- a refusal is one of these rows

@@ -1,4 +1,4 @@
--- The refusals of the eight services, each a table in the paper's order: which refusal is given, and exactly if what holds.
+-- The refusals of the nine services, each a table in the paper's order: which refusal is given, and exactly if what holds.
 use Prim.Native.Nat.{ℕ, _<_, _≤_, _*_}
 use mathlib.Core.Path.{_≡_}
 use mathlib.Core.Logic.{_⊎_, _↔_}
@@ -12,6 +12,7 @@ use Rattle.model.specs.Lines.{linesOf}
 use Rattle.model.specs.Book.{Book, nodeNames}
 use Rattle.model.specs.ReadBook.{readBookBy, readBook}
 use Rattle.model.specs.Renaming.{laterNames, firstStuck, declaredAt, renamedBook}
+use Rattle.model.specs.Tidy.{tidyText}
 use Rattle.model.specs.QueryText.{QueryText}
 use Rattle.model.specs.ReadQuery.{readQuery}
 use Rattle.model.specs.Pattern.{patternOf}
@@ -51,6 +52,11 @@ pub data RenameTable (work room : ℕ) (book : Bytes) (f : Refusal) : Type 0 whe
 pub record BookRead (work : ℕ) (book : Bytes) (b : Book) : Type 0 where
   pub memory-whole : 16384 ≤ work
   pub book-read : readBook book ≡ accepted b
+
+-- the tidy book: what the book reader refuses, then 14 for a tidy book over its buffer or 65,536 bytes
+pub data TidyTable (work room : ℕ) (book : Bytes) (f : Refusal) : Type 0 where
+  book-first : BookTable work book f → TidyTable work room book f
+  no-room : {b : Book} → BookRead work book b → (room < length (tidyText b)) ⊎ (65536 < length (tidyText b)) → f ≡ returned 14 1 0 → TidyTable work room book f
 
 -- the rules reader: what the book reader refuses, then the rules' own
 pub data RulesTable (work : ℕ) (book rules : Bytes) (f : Refusal) : Type 0 where

@@ -13,6 +13,7 @@ use Rattle.model.specs.Refusal.{Outcome, accepted, refused, onAccept, re
 use Rattle.model.specs.Book.{entryCount}
 use Rattle.model.specs.ReadBook.{readBook}
 use Rattle.model.specs.Renaming.{renamedBook}
+use Rattle.model.specs.Tidy.{tidyBook}
 use Rattle.model.specs.ReadQuery.{readQuery}
 use Rattle.model.specs.Pattern.{Pattern, patternOf}
 use Rattle.model.specs.Writing.{writtenQuery}
@@ -123,6 +124,10 @@ bookWriter work buffer o =
 -- the renaming
 unfoldable pub renameService : ℕ → Bytes → Bytes → Written
 renameService work buffer book = bookWriter work buffer (renamedBook book)
+
+-- the tidy book
+unfoldable pub tidyService : ℕ → Bytes → Bytes → Written
+tidyService work buffer book = bookWriter work buffer (tidyBook book)
 
 -- the rows that a list finds, and how many Return names each row answers
 pub record FoundRows : Type 0 where

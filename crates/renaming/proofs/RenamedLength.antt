@@ -29,7 +29,7 @@ placesIn later b =
     + sum (map (λ r. marked later (getD (nodeNames b) (r .from) []) + marked later (getD (nodeNames b) (r .to) [])) (b .rels))
 
 -- the sum of a list with a number more
-sum-more : {A : Type 0} (f : A → ℕ) (l : List A) (x : A) → sum (map f (l ++ (x ∷ []))) ≡ sum (map f l) + f x
+pub sum-more : {A : Type 0} (f : A → ℕ) (l : List A) (x : A) → sum (map f (l ++ (x ∷ []))) ≡ sum (map f l) + f x
 unfolding sum
 sum-more f [] x = omega arith
 sum-more f (y ∷ l) x = let r = sum-more f l x in omega arith

@@ -108,7 +108,7 @@ length-anew later s =
     ∙ ap sum (map-map (λ l. length (l .bytes) + pick (l .ended) 1 0) (lineAnew later) (linesOf s))
 
 -- a byte that ends no line
-abbrev noFeed : ℕ → Bool
+abbrev pub noFeed : ℕ → Bool
 noFeed b = not (eqb b 10)
 
 -- a line has no line feed in it
@@ -124,7 +124,7 @@ lines-free (b ∷ s) = ⊎-elim (λ c. rw (is-true (eqb b 10) c) (tt, lines-free
     longer (l ∷ ls) c k = (pick-iff (noFeed b) (all noFeed (l .bytes)) .0 (not-T (eqb b 10) c, k .0), k .1)
 
 -- a line before a text
-line-before : (bs s : Bytes) → T (all noFeed bs) → linesOf (bs ++ (10 ∷ []) ++ s) ≡ record { bytes = bs; ended = true } ∷ linesOf s
+pub line-before : (bs s : Bytes) → T (all noFeed bs) → linesOf (bs ++ (10 ∷ []) ++ s) ≡ record { bytes = bs; ended = true } ∷ linesOf s
 unfolding linesOf addByte all
 line-before [] s h = refl
 line-before (b ∷ bs) s h =

@@ -63,7 +63,7 @@ pub record WordFirst (free : Bool) (s w t : Bytes) : Type 0 where
   pub whole : s ≡ spaces ++ (w ++ t)
 
 -- what was read, with its size
-abbrev sized : {A : Type 0} → A → ℕ → Maybe (Got A)
+abbrev pub sized : {A : Type 0} → A → ℕ → Maybe (Got A)
 sized a n = just (record { got = a; size = n })
 
 -- what was read with a byte more before it was read without it; so too with an item before it, and with k bytes more
@@ -244,7 +244,7 @@ word-first d free (b ∷ s) w is behind h =
     (test (eqb b 32))
 
 -- a word at the front is read
-plain-of-word : (b : ℕ) (w t : Bytes) → Word (b ∷ w) → run isWordByte t ≡ [] → plainAt (b ∷ w ++ t) ≡ sized (word (b ∷ w)) (suc (length w))
+pub plain-of-word : (b : ℕ) (w t : Bytes) → Word (b ∷ w) → run isWordByte t ≡ [] → plainAt (b ∷ w ++ t) ≡ sized (word (b ∷ w)) (suc (length w))
 unfolding plainAt wordAt readAs
 plain-of-word b w t h e =
     let s : T (leb (suc (length w)) 24) = le→leb (suc (length w)) 24 (omega arith) in
