@@ -4,7 +4,8 @@ use native.Mathlib.Omega.{arith}
 use Rattle.model.specs.Bytes.{Bytes}
 use Rattle.model.specs.Lines.{linesOf}
 use Rattle.model.specs.Renaming.{declaredAt}
-use Rattle.rename_book.proofs.RenameLaws.{declared-in-book, answered-stuck, answered-free, marks-right, name-stuck, no-room, book-written}
+use Rattle.written_book.proofs.LeavesLaws.{texts-refused, no-room, book-written}
+use Rattle.rename_book.proofs.RenameLaws.{declared-in-book, answered-stuck, answered-free, marks-right, name-stuck, names-free}
 use borrow.Author.Needs.{needs}
 use Rattle.rename_book.proofs.write_renamed.Statement.{statement}
 use Rattle.rename_book.proofs.write_renamed.Tie as tie
@@ -29,7 +30,8 @@ returns c =
     let a = s .args in
     let h = answered-stuck (a .book .now) _ _ (at-answer .new-names .result) _ (c .before .before .before .node .given .1) (at-answer .new-names .ensures) in
     let is = at-name .node-name .ensures (a .counts) (h .0) in
-    name-stuck (a .book .now) (a .text .now) _ (s .pre .is) _ _ (h .1) (c .declared-at .ensures ∙ ap (λ (n : Bytes). declaredAt n (linesOf (a .book .now))) is)
+    let line = c .declared-at .ensures ∙ ap (λ (n : Bytes). declaredAt n (linesOf (a .book .now))) is in
+    texts-refused _ (a .text .now) _ (name-stuck (a .book .now) _ (s .pre .is) _ _ (h .1) line)
 
 returns-2 : tie.Need-returns-2
 returns-2 c =
@@ -37,7 +39,7 @@ returns-2 c =
     let s = at-answer .before .before .before .before in
     let a = s .args in
     let h = answered-free (a .book .now) _ _ (at-answer .new-names .result) _ (c .before .before .size .given .1) (at-answer .new-names .ensures) in
-    no-room (a .book .now) (a .text .now) _ (s .pre .is) (h .0) _ (h .1) (c .if1 .taken)
+    no-room _ (a .text .now) _ (names-free (a .book .now) _ (s .pre .is) (h .0)) _ (h .1) (c .if1 .taken)
 
 returns-3 : tie.Need-returns-3
 returns-3 c =
@@ -49,7 +51,7 @@ returns-3 c =
     let a = s .args in
     let h = answered-free (a .book .now) _ _ (at-answer .new-names .result) _ (at-room .before .before .size .given .1) (at-answer .new-names .ensures) in
     let marks = marks-right (a .book .now) (a .words .now) (a .counts) (s .pre .fits) _ (at-marks .later-marks .ensures) in
-    book-written (a .book .now) (a .text .now) _ (s .pre .is) (h .0) _ (h .1) _ _ (search needs) (at-room .if1 .left)
+    book-written _ (a .text .now) _ (names-free (a .book .now) _ (s .pre .is) (h .0)) _ (h .1) _ _ (search needs) (at-room .if1 .left)
     (at-put .put-renamed .ensures _ marks)
 
 pub write-renamed-spec : {M : Type 1} → statement M

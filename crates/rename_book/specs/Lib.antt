@@ -1,2 +1,0 @@
--- What the contracts of the renaming speak of.
-pub mod Leaves

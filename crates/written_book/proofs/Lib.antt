@@ -1,0 +1,2 @@
+-- The laws of services that write a book.
+pub mod LeavesLaws
