@@ -71,7 +71,7 @@ module _ (text : Bytes) (words : List ℕ) (offset declared : ℕ) (names : Name
 
   module _ (attribute : ℕ) (counted : attribute < declared) where
     -- what is sought by number among entries is the value of the name
-    seek-value : (n start : ℕ) → ((i : ℕ) → i < n → entryHead words (start + i) / 4 < declared)
+    pub seek-value : (n start : ℕ) → ((i : ℕ) → i < n → entryHead words (start + i) / 4 < declared)
         → maybeValue text words (seek words attribute start n) ≡ valueIn (entriesFrom text words offset start n) (nameOf text words offset attribute)
     seek-value zero start h = unfold maybeValue seek valueIn entriesFrom listed in refl
     seek-value (suc n) start h =

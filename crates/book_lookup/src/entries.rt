@@ -18,7 +18,7 @@ use book_tables::stores;
 use book_tables::stores::ENTRY_WORDS;
 
 // The units of an owner's entries and of an entry's first word, as wide as a word.
-const ENTRY_COUNTS: u32 = stores::ENTRY_COUNTS as u32;
+pub const ENTRY_COUNTS: u32 = stores::ENTRY_COUNTS as u32;
 
 pub const ENTRY_TYPES: u32 = stores::ENTRY_TYPES as u32;
 

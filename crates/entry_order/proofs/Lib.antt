@@ -1,0 +1,2 @@
+-- The laws behind the slots.
+pub mod SlotLaws

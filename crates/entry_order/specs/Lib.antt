@@ -1,0 +1,2 @@
+-- What the contract of the slots speaks of.
+pub mod Slots

@@ -1,0 +1,2 @@
+-- The laws behind the tidy book.
+pub mod TidyLaws

@@ -1,0 +1,2 @@
+-- What the contracts of the tidy book speak of.
+pub mod Asked

@@ -1,0 +1,3 @@
+-- What the contracts of putting a tidy book speak of.
+pub mod Pieces
+pub mod Inside
