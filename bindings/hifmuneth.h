@@ -6,8 +6,8 @@
  * in any other way.
  *
  * How long a call takes: a text within its limits is read or refused in a few milliseconds on a machine of today, whatever it says, nearly every one in under a
- * tenth of that (measured; see docs/SPEED.md). List and lamp search besides, and the search has no bound yet: a dense book and a query of many vertices that hardly narrow each
- * other can keep it busy for long. Call them where a slow answer holds up nothing else.
+ * tenth of that (measured; see docs/SPEED.md). List and lamp search besides, and the search has no bound yet: a dense book and a query of many vertices that
+ * hardly narrow each other can keep it busy for long. Call them where a slow answer holds up nothing else.
  *
  * What a caller owes: every pointer is valid, aligned, and not NULL (also where its length is 0); no two of the buffers and numbers
  * that a call writes overlap, and none overlaps a text; no other thread uses them during the call. The deepest search was measured to
@@ -168,6 +168,21 @@ bool hifmuneth_rename_book(const uint8_t *book, size_t book_length,
                            uint32_t *work, size_t work_words,
                            size_t *length,
                            uint32_t *number, uint32_t *text, uint32_t *line);
+
+/* Writes a book tidily into the text buffer, and tells its length in bytes: the lines by kind (vattr, eattr, label, node, rel), each kind in its old order;
+ * the attributes of a node in the order of the vattr lines, those of a relationship in the order of the eattr lines; one space between the items of a list,
+ * and so before an inner bracket, and no other; a line feed behind each line. Two accepted books with the same declarations, nodes and relationships in those
+ * orders give equal bytes; a tidy book is written unchanged; every list from the tidy book is that from the book it came from. Bytes past the tidy book are
+ * unchanged; a refusal changes none.
+ *
+ * The book gets its own refusal first. Last HIFMUNETH_NO_SPACE, text HIFMUNETH_BOOK, line 0, if the tidy book does not fit the buffer or has more than
+ * HIFMUNETH_BOOK_BYTES: it can be longer than the book, which may leave out the space before an inner bracket. A full book is made tidy in at most twice the
+ * time in which it is read (measured by tests/bench). */
+bool hifmuneth_tidy_book(const uint8_t *book, size_t book_length,
+                         uint8_t *out, size_t out_length,
+                         uint32_t *work, size_t work_words,
+                         size_t *length,
+                         uint32_t *number, uint32_t *text, uint32_t *line);
 
 /* Lists every row that may be had, each once, ascending, and tells how many, and how wide a row is: the number of Return names. Row i stands
  * in the row words from rows[i * *width] on, a word for each Return name: the number of its node. Row words past the rows are all ones; after

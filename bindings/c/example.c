@@ -1,5 +1,5 @@
 /* The worked example in C: shows the query's pattern, tells whether there is a calm station at ana's hubs, lists them by name, asks with too
- * little working memory, and renames a stored book. */
+ * little working memory, renames a stored book, and makes a partner's book tidy. */
 #include "../hifmuneth.h"
 #include <stdio.h>
 #include <string.h>
@@ -15,6 +15,7 @@ static const char QUERY[] =
     "Match (requestor)-[a:runs]->(h)<-[b:feeds]-(s) Where s.rate < 50 Return s";
 static const char REQUEST[] = "(request view (id requestor ana))\n";
 static const char STORED[] = "(node S6)\n(node s6)\n";
+static const char UNTIDY[] = "(vattr kind str)\n(vattr rate int)\n( node  S6(rate 3)(kind 'mast') )\n(label feeds)\n";
 
 static uint32_t work[HIFMUNETH_WORK_WORDS];
 
@@ -63,13 +64,26 @@ static void list(size_t work_words)
         printf("node %u %s\n", rows[i], (const char *)names + HIFMUNETH_NAME_BYTES * rows[i]);
 }
 
+/* Room for a book that is written. */
+static uint8_t out[HIFMUNETH_BOOK_BYTES];
+
 /* A book that was stored before names that differ only by case were refused, in a buffer of so many bytes. */
 static void rename_stored(size_t bytes)
 {
-    static uint8_t out[HIFMUNETH_BOOK_BYTES];
     uint32_t number, text, line;
     size_t length;
     if (hifmuneth_rename_book((const uint8_t *)STORED, strlen(STORED), out, bytes, work, HIFMUNETH_WORK_WORDS, &length, &number, &text, &line))
+        printf("%.*s", (int)length, (const char *)out);
+    else
+        printf("refused %u text %u line %u\n", number, text, line);
+}
+
+/* A book as a partner sent it, in a buffer of so many bytes. */
+static void tidy_partners(size_t bytes)
+{
+    uint32_t number, text, line;
+    size_t length;
+    if (hifmuneth_tidy_book((const uint8_t *)UNTIDY, strlen(UNTIDY), out, bytes, work, HIFMUNETH_WORK_WORDS, &length, &number, &text, &line))
         printf("%.*s", (int)length, (const char *)out);
     else
         printf("refused %u text %u line %u\n", number, text, line);
@@ -86,5 +100,7 @@ int main(void)
     list(HIFMUNETH_WORK_WORDS - 1);
     rename_stored(HIFMUNETH_BOOK_BYTES);
     rename_stored(strlen(STORED));
+    tidy_partners(HIFMUNETH_BOOK_BYTES);
+    tidy_partners(10);
     return 0;
 }

@@ -1,4 +1,4 @@
-//! The worked example: which of ana's stations tilt by less than 50? At its end a stored book is renamed.
+//! The worked example: which of ana's stations tilt by less than 50? At its end a stored book is renamed, and a partner's book made tidy.
 const BOOK: &[u8] = b"(vattr kind str)
 (vattr rate int)
 (label runs)
@@ -19,6 +19,13 @@ const REQUEST: &[u8] = b"(request view (id requestor ana))\n";
 
 /// Two lines of a book that was stored before names that differ only by case were refused.
 const STORED: &[u8] = b"(node S6)\n(node s6)\n";
+
+/// Lines of a book as a partner sent it.
+const UNTIDY: &[u8] = b"(vattr kind str)
+(vattr rate int)
+( node  S6(rate 3)(kind 'mast') )
+(label feeds)
+";
 
 fn main() -> Result<(), hifmuneth::Refusal> {
     println!("{:?}", hifmuneth::read_book(BOOK)?);
@@ -42,5 +49,6 @@ fn main() -> Result<(), hifmuneth::Refusal> {
         println!("{refusal}");
     }
     print!("{}", String::from_utf8_lossy(&hifmuneth::rename_book(STORED)?));
+    print!("{}", String::from_utf8_lossy(&hifmuneth::tidy_book(UNTIDY)?));
     Ok(())
 }

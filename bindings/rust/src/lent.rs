@@ -131,6 +131,19 @@ pub fn rename_book(book: &[u8], out: &mut [u8], work: &mut [u32]) -> Result<usiz
     if accepted { Ok(length) } else { Err(r) }
 }
 
+/// Writes a book tidily in front of the text buffer; its length in bytes. A refusal leaves the buffer as it is.
+pub fn tidy_book(book: &[u8], out: &mut [u8], work: &mut [u32]) -> Result<usize, Refusal> {
+    let (mut length, mut r) = (0, NO_REFUSAL);
+    let accepted = unsafe {
+        hifmuneth_tidy_book(
+            book.as_ptr(), book.len(), out.as_mut_ptr(), out.len(), work.as_mut_ptr(), work.len(),
+            &mut length,
+            &mut r.number, &mut r.text, &mut r.line,
+        )
+    };
+    if accepted { Ok(length) } else { Err(r) }
+}
+
 /// Lists the rows that may be had into the row words: how many there are, and how wide each is. Row words past the rows end all ones, after a
 /// refusal all of them.
 pub fn list(

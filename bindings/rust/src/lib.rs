@@ -124,6 +124,16 @@ pub fn rename_book(book: &[u8]) -> Result<Vec<u8>, Refusal> {
     Ok(text)
 }
 
+/// Writes a book tidily: its lines by kind (vattr, eattr, label, node, rel), each kind in its old order, attributes in the order in which they are declared,
+/// one space between the items of a list and no other. Every list from the tidy book is the one from the book it came from. Refused with 14 if the tidy book
+/// has more than [`BOOK_BYTES`], which can be if the book leaves out spaces that a tidy one has.
+pub fn tidy_book(book: &[u8]) -> Result<Vec<u8>, Refusal> {
+    let mut text = vec![0; BOOK_BYTES];
+    let length = lent::tidy_book(book, &mut text, &mut work())?;
+    text.truncate(length);
+    Ok(text)
+}
+
 /// Lists every row that may be had, each once, ascending; a row has the node's number for each Return name. Refused with 14 if the rows do
 /// not fit so many words, a word for each node.
 pub fn list(book: &[u8], rules: &[u8], query: &[u8], request: &[u8], row_words: usize) -> Result<Vec<Vec<u32>>, Refusal> {

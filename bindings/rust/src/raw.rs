@@ -42,6 +42,11 @@ extern "C" {
         length: &mut usize,
         number: &mut u32, text: &mut u32, line: &mut u32,
     ) -> bool;
+    pub fn hifmuneth_tidy_book(
+        book: *const u8, book_length: usize, out: *mut u8, out_length: usize, work: *mut u32, work_words: usize,
+        length: &mut usize,
+        number: &mut u32, text: &mut u32, line: &mut u32,
+    ) -> bool;
     pub fn hifmuneth_list(
         book: *const u8, book_length: usize, rules: *const u8, rules_length: usize, query: *const u8, query_length: usize,
         request: *const u8, request_length: usize, rows: *mut u32, row_words: usize, work: *mut u32, work_words: usize,

@@ -27,7 +27,7 @@ pub const NO_REQUESTOR: u32 = 11;
 pub const WOVEN_TOO_LARGE: u32 = 12;
 /// A vertex hangs on nothing.
 pub const VERTEX_UNTIED: u32 = 13;
-/// What is to be given does not fit the buffer.
+/// What is to be given does not fit the buffer; of a tidy book also that it is longer than a book may be.
 pub const NO_SPACE: u32 = 14;
 /// Working memory is missing.
 pub const MEMORY_MISSING: u32 = 15;

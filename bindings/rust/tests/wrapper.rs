@@ -98,6 +98,62 @@ fn a_renamed_book_in_lent_buffers() {
     assert_eq!(refused(lent::rename_book(stored, &mut long, &mut work[1..])).number, refusal::MEMORY_MISSING);
 }
 
+/// A book as a partner may send it: kinds of lines mixed, attributes in any order, any spacing; and the same book tidy.
+const UNTIDY: &[u8] = b"(vattr kind str)\n  ( node hub(kind 'hub') )\n(label feeds)\n(eattr since int)\n(vattr rate int)\n( eattr  open  bool )\n\
+(node S5 (rate -9223372036854775808)   (kind ''))\n(rel feeds S5 hub(open true)( since 9223372036854775807 ))\n(node S6)\n";
+const TIDY: &[u8] = b"(vattr kind str)\n(vattr rate int)\n(eattr since int)\n(eattr open bool)\n(label feeds)\n(node hub (kind 'hub'))\n\
+(node S5 (kind '') (rate -9223372036854775808))\n(node S6)\n(rel feeds S5 hub (since 9223372036854775807) (open true))\n";
+
+#[test]
+fn a_tidy_book() {
+    assert_eq!(String::from_utf8_lossy(&hifmuneth::tidy_book(UNTIDY).unwrap()), String::from_utf8_lossy(TIDY));
+    assert_eq!(hifmuneth::tidy_book(TIDY).unwrap(), TIDY);
+    assert_eq!(hifmuneth::tidy_book(BOOK).unwrap(), BOOK);
+    assert_eq!(hifmuneth::tidy_book(b"").unwrap(), b"");
+    assert_eq!(hifmuneth::read_book(TIDY), hifmuneth::read_book(UNTIDY));
+    assert_eq!(hifmuneth::node_names(TIDY), hifmuneth::node_names(UNTIDY));
+}
+
+/// A book without a space before an inner bracket, whose tidy form has so many bytes.
+fn dense(bytes: usize) -> Vec<u8> {
+    let text = |length: usize| "x".repeat(length);
+    let declared: String = (0..8).map(|a| format!("(vattr a{a} str)\n")).collect();
+    let entries: String = (0..8).map(|a| format!("(a{a} '{}')", text(40))).collect();
+    let nodes: String = (0..165).map(|i| format!("(node n{i:03}{entries})\n")).collect();
+    let tidy = declared.len() + nodes.len() + 165 * 8 + "(node last (a0 '') (a1 ''))\n".len();
+    format!("{declared}{nodes}(node last(a0 '{}')(a1 '{}'))\n", text(40), text(bytes - tidy - 40)).into_bytes()
+}
+
+#[test]
+fn a_tidy_book_that_is_refused() {
+    let at = |book: &[u8]| refused(hifmuneth::tidy_book(book));
+    assert_eq!(at(b"(node S6)\n(node s6)\n"), Refusal { number: refusal::SECOND_TIME, text: 1, line: 2 });
+    assert_eq!(at(b"(node S6 (rate 3))\n(vattr rate int)\n"), Refusal { number: refusal::NOT_DECLARED, text: 1, line: 1 });
+    assert_eq!(at(&[b' '; 65_537]), Refusal { number: refusal::TOO_LONG, text: 1, line: 0 });
+    assert_eq!(hifmuneth::tidy_book(&dense(65_536)).unwrap().len(), 65_536);
+    assert_eq!(at(&dense(65_537)), Refusal { number: refusal::NO_SPACE, text: 1, line: 0 });
+    let (mut long, mut work) = (vec![b'.'; 70_000], vec![7; hifmuneth::WORK_WORDS]);
+    assert_eq!(refused(lent::tidy_book(&dense(65_537), &mut long, &mut work)), Refusal { number: refusal::NO_SPACE, text: 1, line: 0 });
+    assert!(long.iter().all(|b| *b == b'.'));
+}
+
+#[test]
+fn a_tidy_book_in_lent_buffers() {
+    let (book, mut work) = (b"( node a )\n(label l)\n", vec![7; hifmuneth::WORK_WORDS]);
+    let mut short = [b'.'; 18];
+    let r = refused(lent::tidy_book(book, &mut short, &mut work));
+    assert_eq!(r, Refusal { number: refusal::NO_SPACE, text: 1, line: 0 });
+    assert_eq!(r.to_string(), "book: what is to be given does not fit the buffer (refused 14 text 1 line 0)");
+    assert_eq!(short, [b'.'; 18]);
+    let mut long = [b'.'; 21];
+    assert_eq!(lent::tidy_book(book, &mut long, &mut work), Ok(19));
+    assert_eq!(&long, b"(label l)\n(node a)\n..");
+    assert!(work.iter().all(|w| *w == u32::MAX));
+    let mut left = [b'.'; 21];
+    assert_eq!(refused(lent::tidy_book(b"(node a", &mut left, &mut work[1..])), Refusal { number: refusal::MEMORY_MISSING, text: 0, line: 0 });
+    assert_eq!(left, [b'.'; 21]);
+}
+
 #[test]
 fn rows_by_their_width() {
     let rows = hifmuneth::list(BOOK, RULES, QUERY, REQUEST, 1024).unwrap();

@@ -7,4 +7,5 @@ pub mod read_query; // read_query.rt: reading a query
 pub mod read_request; // read_request.rt: reading a request
 pub mod read_rules; // read_rules.rt: reading rules
 pub mod renaming; // renaming.rt: renaming a stored book
+pub mod tidying; // tidying.rt: the tidy book
 pub mod write_query; // write_query.rt: writing a query

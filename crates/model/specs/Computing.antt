@@ -46,7 +46,7 @@ use Rattle.model.specs.Service.{ones, withWork, bookService, rulesServic
 use Rattle.model.specs.Service.{bookWriter, renameService, tidyService}
 use Rattle.model.specs.Service.{rowsAsked, listFound, listRows, rowWords, listService, lampService}
 use Rattle.model.specs.Printed.{rowText, refusalText, rowsText, outcomeText, namesOf, printed, lampText, printedLamp, bookText}
-use Rattle.model.specs.Printed.{printedRenaming}
+use Rattle.model.specs.Printed.{bookPrinted, printedRenaming, printedTidy}
 use Rattle.model.specs.MayHave.{isActor}
 use Rattle.model.specs.RequestPlaces.{wordsFrom, placedBy, identityPlaces, slots}
 use Rattle.model.specs.RequestAnswer.{toldRequest, requestRead}
@@ -80,5 +80,5 @@ unfolding andThen same isNil any all keep each joined sum mem memℕ twice place
     textPieces pieceBytes oldBytes renamed cannotHave firstStuck declaresNode declaredAt unlessStuck renamedBook newName newNode withNewNames bookWritten
     bookWriter renameService bookText printedRenaming rowsAsked lampService lampText printedLamp byteOrder byOrder
     kindText listText entryText itemTexts lineText entryIf inOrder tidyNode tidyRel tidied attrLineOf nodeLineOf relLineOf linesByKind tidyText tidyBook
-    tidyService
+    tidyService bookPrinted printedTidy
 computing = 0

@@ -1,4 +1,4 @@
--- What the programs print: the list, the lamp and the renaming.
+-- What the programs print: the list, the lamp, the renaming and the tidy book.
 use Prim.Native.Nat.{ℕ}
 use mathlib.Core.Bool.{Bool, true, false}
 use mathlib.Core.List.{List, [], _++_, map}
@@ -12,6 +12,7 @@ use Rattle.model.specs.Book.{Book, nodeNames}
 use Rattle.model.specs.ReadBook.{readBook}
 use Rattle.model.specs.Writing.{digits, eachBehind}
 use Rattle.model.specs.Renaming.{renamedBook}
+use Rattle.model.specs.Tidy.{tidyBook}
 use Rattle.model.specs.Service.{bookWritten, listRows, lampService}
 
 -- a row as the list program prints it: its node names
@@ -55,6 +56,14 @@ unfoldable pub bookText : Outcome Bytes → Bytes
 bookText (accepted t) = t
 bookText (refused r) = refusalText r
 
--- what the renaming program prints; it lends 65,536 bytes, as many as a book may have
+-- what a program prints that writes a book; it lends 65,536 bytes, as many as a book may have
+unfoldable pub bookPrinted : Outcome Bytes → Bytes
+bookPrinted o = bookText (bookWritten wholeMemory maxBookBytes o)
+
+-- what the renaming prints
 unfoldable pub printedRenaming : Bytes → Bytes
-printedRenaming book = bookText (bookWritten wholeMemory maxBookBytes (renamedBook book))
+printedRenaming book = bookPrinted (renamedBook book)
+
+-- what the program of the tidy book prints
+unfoldable pub printedTidy : Bytes → Bytes
+printedTidy book = bookPrinted (tidyBook book)

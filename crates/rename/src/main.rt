@@ -16,6 +16,6 @@ fn main() {
 // Prints the new book, or the refusal. No contract can say what reached the output.
 fn print_renaming(book: &[u8]) {
     let mut text = [0u8; MAX_BOOK_BYTES];
-    let length = printed_renaming::renaming_text(book, &mut text);
+    let length = printed_books::renaming_text(book, &mut text);
     program_io::print_front(&text, length);
 }

@@ -1,12 +1,13 @@
 //! Times whole calls of the library in one process, beside plain Rust, and tells what share reading, weaving and searching have.
 //!
-//! `bench renaming` times the renaming alone, `bench lamp` the lamp beside the list, `bench conditions` lists with conditions on texts. The calls take turns, so
-//! that a busy moment of the machine falls on all of them.
+//! `bench renaming` times the renaming alone, `bench tidying` the tidying, `bench lamp` the lamp beside the list, `bench conditions` lists with conditions on
+//! texts. The calls take turns, so that a busy moment of the machine falls on all of them.
 mod conditions;
 mod dense;
 mod lamp;
 mod renaming;
 mod texts;
+mod tidying;
 
 use hifmuneth::{lent, WORK_WORDS};
 use std::hint::black_box;
@@ -83,6 +84,7 @@ fn measure(t: &Texts) {
 fn main() {
     match std::env::args().nth(1).as_deref() {
         Some("renaming") => return renaming::run(),
+        Some("tidying") => return tidying::run(),
         Some("lamp") => return lamp::run(),
         Some("conditions") => return conditions::run(),
         _ => {}
@@ -91,6 +93,7 @@ fn main() {
         measure(&t);
     }
     renaming::run();
+    tidying::run();
     lamp::run();
     conditions::run();
 }

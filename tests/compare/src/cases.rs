@@ -4,6 +4,7 @@ use crate::limits::at_limit;
 use crate::patterns::pattern;
 use crate::random::Random;
 use crate::twins::grown;
+use crate::untidy::reformed;
 use crate::world::*;
 
 #[derive(Clone, Debug, Default)]
@@ -84,7 +85,7 @@ fn stored(r: &mut Random, texts: &mut Texts) {
     }
 }
 
-/// The next case: mostly in order; with node names that differ by case in some, damaged in some; at a limit now and then.
+/// The next case: mostly in order; with node names that differ by case in some, tidy or untidy in some, damaged in some; at a limit now and then.
 pub fn case(r: &mut Random) -> Texts {
     let twins = r.percent(20);
     let mut texts = sound(r, twins);
@@ -94,6 +95,7 @@ pub fn case(r: &mut Random) -> Texts {
     if r.percent(6) {
         at_limit(r, &mut texts);
     }
+    reformed(r, &mut texts.book);
     if r.percent(30) {
         for _ in 0..r.from_to(1, 2) {
             match r.below(8) {

@@ -1,5 +1,5 @@
 //! The services of the library on the texts of a case, in buffers full of noise, against plain Rust: answers, numbers, words and bytes. Those that write
-//! a text stand in `writers`, the lamp in `lamp`.
+//! a text stand in `writers`, the lamp in `lamp`, what else a tidy book promises in `tidy`.
 use crate::cases::Texts;
 use crate::random::Random;
 use crate::tally::Tally;
@@ -20,6 +20,7 @@ pub struct Expected {
     pub request: Result<Request, Refusal>,
     pub written: Result<Vec<u8>, Refusal>,
     pub renamed: Result<Vec<u8>, Refusal>,
+    pub tidied: Result<Vec<u8>, Refusal>,
     pub rows: Result<Vec<Vec<usize>>, Refusal>,
     pub enumerated: bool,
 }
@@ -50,7 +51,8 @@ pub fn expect(t: &Texts) -> Expected {
         assert!(!enumerated || rows == rows_by_enumeration(b, &x, &asked), "plain Rust's search and enumeration differ");
         Ok(rows)
     });
-    Expected { book, rules, query, request, written, renamed: plain::rename::renamed(&t.book), rows, enumerated }
+    let (renamed, tidied) = (plain::rename::renamed(&t.book), plain::tidy::tidied(&t.book));
+    Expected { book, rules, query, request, written, renamed, tidied, rows, enumerated }
 }
 
 /// The numbers that a call leaves: noise before it.
@@ -107,7 +109,9 @@ impl Check<'_> {
             let (mut work, mut l) = (self.random.words(words), noise(self.random));
             let [x, y, z, _] = &mut l.counts;
             let Refusal { number, text, line } = &mut l.refusal;
-            let ok = within("book", || unsafe { raw::hifmuneth_read_book(t.book.as_ptr(), t.book.len(), work.as_mut_ptr(), words, x, y, z, number, text, line) });
+            let ok = within("book", || unsafe {
+                raw::hifmuneth_read_book(t.book.as_ptr(), t.book.len(), work.as_mut_ptr(), words, x, y, z, number, text, line)
+            });
             told("book", ok, &l, 3, given(words, e.book.as_ref().map(|b| vec![b.nodes.len(), b.rels.len(), b.entries()]).map_err(|r| *r)));
             all_ones("book", &work);
 

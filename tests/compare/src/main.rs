@@ -4,6 +4,7 @@
 //! It fails where the two differ, and where a text takes long to read or to refuse (`timed::LIMIT`), the search for rows aside.
 mod cases;
 mod check;
+mod crowded;
 mod damage;
 mod lamp;
 mod limits;
@@ -11,8 +12,10 @@ mod patterns;
 mod random;
 mod slow;
 mod tally;
+mod tidy;
 mod timed;
 mod twins;
+mod untidy;
 mod vectors;
 mod words;
 mod world;
@@ -33,6 +36,7 @@ fn run(seed: u64, tally: &mut tally::Tally) -> bool {
         c.writers();
         c.list(tally);
         c.lamp(tally);
+        c.tidy();
         tally.case(&texts.book, &expected);
     }));
     if done.is_err() {

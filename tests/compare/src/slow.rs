@@ -1,6 +1,7 @@
-//! Texts that are made to be slow: as long as they may be, and of one kind throughout. Each is read by every reader, its book renamed and the lamp
-//! asked, which must agree with plain Rust and end within the limit of `timed`.
+//! Texts that are made to be slow: as long as they may be, and of one kind throughout. Each is read by every reader, its book renamed and made tidy and the
+//! lamp asked, which must agree with plain Rust and end within the limit of `timed`.
 use crate::cases::Texts;
+use crate::crowded;
 use crate::timed::{timed, LIMIT};
 use hifmuneth::Refusal;
 use std::time::Duration;
@@ -11,7 +12,7 @@ const QUERY: &str = "Match (requestor)-[a:l]->(h) Return h";
 const REQUEST: &str = "(request view (id requestor n))\n";
 
 /// A beginning, a piece again and again while the whole has at most so many bytes, an end.
-fn filled(begin: &str, end: &str, bytes: usize, piece: impl Fn(usize) -> String) -> String {
+pub fn filled(begin: &str, end: &str, bytes: usize, piece: impl Fn(usize) -> String) -> String {
     let mut out = begin.to_string();
     for i in 0.. {
         let p = piece(i);
@@ -180,7 +181,7 @@ fn requests() -> Vec<String> {
 
 fn texts() -> Vec<Texts> {
     let set = |b: &str, r: &str, q: &str, x: &str| Texts { book: b.into(), rules: r.into(), query: q.into(), request: x.into() };
-    let mut all: Vec<Texts> = books().iter().chain(&stored_books()).map(|b| set(b, RULES, QUERY, REQUEST)).collect();
+    let mut all: Vec<Texts> = books().iter().chain(&stored_books()).chain(&crowded::books()).map(|b| set(b, RULES, QUERY, REQUEST)).collect();
     all.extend(rules().iter().map(|r| set(BOOK, r, QUERY, REQUEST)));
     all.extend(queries(2_048).iter().map(|q| set(BOOK, RULES, q, REQUEST)));
     all.extend(requests().iter().map(|x| set(BOOK, RULES, QUERY, x)));
@@ -204,6 +205,7 @@ fn read(t: &Texts) -> Vec<(&'static str, Option<Refusal>, Duration)> {
         least("request", &|| hifmuneth::read_request(&t.book, &t.rules, &t.request).err()),
         least("write", &|| hifmuneth::write_query(&t.book, &t.rules, &t.query).err()),
         least("rename", &|| hifmuneth::rename_book(&t.book).err()),
+        least("tidy", &|| hifmuneth::tidy_book(&t.book).err()),
         least("lamp", &|| hifmuneth::lamp(&t.book, &t.rules, &t.query, &t.request).err()),
     ]
 }
@@ -212,7 +214,7 @@ fn refusal(r: plain::text::Refusal) -> Refusal {
     Refusal { number: r.number, text: r.text, line: r.line }
 }
 
-/// What plain Rust says of the texts that a reader reads, of those that are long, or of a renaming.
+/// What plain Rust says of the texts that a reader reads, of those that are long, or of a book that is written.
 fn expected(t: &Texts, name: &str) -> Option<Option<Refusal>> {
     let book = plain::book::read_book(&t.book);
     match name {
@@ -220,6 +222,7 @@ fn expected(t: &Texts, name: &str) -> Option<Option<Refusal>> {
         "rules" => Some(book.and_then(|b| plain::rules::read_rules(&b, &t.rules)).err().map(refusal)),
         "query" => Some(book.and_then(|b| plain::query::read_query(&b, &t.query)).err().map(refusal)),
         "rename" => Some(plain::rename::renamed(&t.book).err().map(refusal)),
+        "tidy" => Some(plain::tidy::tidied(&t.book).err().map(refusal)),
         _ => None,
     }
 }
@@ -229,6 +232,10 @@ pub fn run() -> bool {
     for (i, t) in all.iter().enumerate() {
         if hifmuneth::rename_book(&t.book).ok() != plain::rename::renamed(&t.book).ok() {
             println!("slow text {i}: the renamed book differs");
+            fine = false;
+        }
+        if hifmuneth::tidy_book(&t.book).ok() != plain::tidy::tidied(&t.book).ok() {
+            println!("slow text {i}: the tidy book differs");
             fine = false;
         }
         let lamp = plain::list::lamp(&t.book, &t.rules, &t.query, &t.request, hifmuneth::WORK_WORDS).map_err(refusal);

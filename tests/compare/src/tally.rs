@@ -1,9 +1,10 @@
 //! What the cases covered, so that it can be seen.
 use crate::check::Expected;
-use plain::book::{read_book_by, same, same_but_case};
+use plain::book::{read_book_by, same, same_but_case, Book, MOST_BOOK_BYTES};
 use plain::list::asked;
 use plain::query::{Clause, Relation};
 use plain::text::{Refusal, Value};
+use plain::tidy::tidy_text;
 use std::collections::BTreeMap;
 
 #[derive(Default)]
@@ -15,6 +16,7 @@ pub struct Tally {
     yes: usize,
     seen: BTreeMap<&'static str, usize>,
     renamings: BTreeMap<&'static str, usize>,
+    tidyings: BTreeMap<&'static str, usize>,
     rows: usize,
     most: usize,
 }
@@ -41,12 +43,14 @@ impl Tally {
     pub fn case(&mut self, book: &[u8], e: &Expected) {
         self.cases += 1;
         self.renaming(book, &e.renamed);
+        self.tidying(book, e);
         self.answer("book", &e.book);
         self.answer("rules", &e.rules);
         self.answer("query", &e.query);
         self.answer("request", &e.request);
         self.answer("write", &e.written);
         self.answer("rename", &e.renamed);
+        self.answer("tidy", &e.tidied);
         self.answer("list", &e.rows);
         let (Ok(b), Ok(r), Ok(q), Ok(x), Ok(rows)) = (&e.book, &e.rules, &e.query, &e.request, &e.rows) else { return };
         self.rows += rows.len();
@@ -101,6 +105,30 @@ impl Tally {
         *self.renamings.entry(what).or_default() += 1;
     }
 
+    /// What tidying an accepted book changes, and what it holds.
+    fn tidying(&mut self, book: &[u8], e: &Expected) {
+        let Ok(b) = &e.book else { return };
+        let length = tidy_text(b).len();
+        let values: Vec<&Value> = b.nodes.iter().flat_map(|n| &n.entries).chain(b.rels.iter().flat_map(|x| &x.entries)).map(|e| &e.1).collect();
+        let (lines, attributes) = (lines_move(book), attributes_move(b));
+        for (what, there) in [
+            ("tidy already", e.tidied.as_deref() == Ok(book)),
+            ("other spaces alone", !lines && !attributes && e.tidied.as_deref() != Ok(book)),
+            ("lines that move", lines),
+            ("attributes that move", attributes),
+            ("longer once tidy", length > book.len()),
+            ("exactly 65,536 bytes once tidy", length == MOST_BOOK_BYTES),
+            ("65,537 bytes once tidy, refused", length == MOST_BOOK_BYTES + 1),
+            ("more bytes once tidy, refused", length > MOST_BOOK_BYTES + 1),
+            ("the least number", values.contains(&&Value::Int(i64::MIN))),
+            ("the greatest number", values.contains(&&Value::Int(i64::MAX))),
+            ("an empty text", values.iter().any(|v| matches!(v, Value::Str(t) if t.is_empty()))),
+            ("a text of 40 bytes", values.iter().any(|v| matches!(v, Value::Str(t) if t.len() == 40))),
+        ] {
+            *self.tidyings.entry(what).or_default() += there as usize;
+        }
+    }
+
     pub fn print(&self) {
         println!("{} cases; answers by refusal number, 0 being accepted:", self.cases);
         for (service, numbers) in &self.answers {
@@ -108,6 +136,10 @@ impl Tally {
         }
         println!("renamings of books that are right by the very names:");
         for (what, n) in &self.renamings {
+            println!("  {n:6} {what}");
+        }
+        println!("accepted books to be made tidy, with");
+        for (what, n) in &self.tidyings {
             println!("  {n:6} {what}");
         }
         println!("list calls in buffers of all sizes: {}", listed(&self.calls));
@@ -122,6 +154,20 @@ impl Tally {
 /// A condition with one of < <= > >= on a text.
 fn in_order(c: &Clause) -> bool {
     matches!(c, Clause::Vertex(_, _, r, Value::Str(_)) | Clause::Edge(_, _, r, Value::Str(_)) if !matches!(r, Relation::Eq | Relation::Ne))
+}
+
+/// Whether lines of an accepted book are not by kind.
+fn lines_move(book: &[u8]) -> bool {
+    let kinds = ["vattr", "eattr", "label", "node", "rel"];
+    let text = String::from_utf8_lossy(book);
+    let kind = |line: &str| kinds.iter().position(|k| line.trim_start_matches([' ', '(']).starts_with(k));
+    !text.lines().map(kind).is_sorted()
+}
+
+/// Whether attributes of an accepted book are not in the order of their declarations.
+fn attributes_move(b: &Book) -> bool {
+    let moves = |entries: &[(usize, Value)]| !entries.iter().map(|e| e.0).is_sorted();
+    b.nodes.iter().any(|n| moves(&n.entries)) || b.rels.iter().any(|x| moves(&x.entries))
 }
 
 fn listed(numbers: &BTreeMap<u32, usize>) -> String {

@@ -72,7 +72,7 @@ fn written(room: usize, call: impl FnOnce(&mut [u8]) -> Result<usize, Refusal>) 
 /// The answer of the library to a command of the vectors, with the numbers that its file's name gives.
 fn library(t: &Set, command: &str, numbers: &[usize]) -> Result<Vec<u8>, Refusal> {
     let at = |i: usize, otherwise: usize| number(numbers, i, otherwise);
-    let writes = matches!(command, "write" | "rename" | "list");
+    let writes = matches!(command, "write" | "rename" | "tidy" | "list");
     let mut work = vec![0; at(writes as usize, hifmuneth::WORK_WORDS)];
     let w = &mut work;
     match command {
@@ -82,6 +82,7 @@ fn library(t: &Set, command: &str, numbers: &[usize]) -> Result<Vec<u8>, Refusal
         "request" => request_text(t, w).map(String::into_bytes),
         "write" => written(at(0, hifmuneth::QUERY_BYTES), |out| lent::write_query(&t.book, &t.rules, &t.query, out, w)),
         "rename" => written(at(0, hifmuneth::BOOK_BYTES), |out| lent::rename_book(&t.book, out, w)),
+        "tidy" => written(at(0, hifmuneth::BOOK_BYTES), |out| lent::tidy_book(&t.book, out, w)),
         "list" => list_text(t, at(0, 16_384), w),
         "lamp" => lent::lamp(&t.book, &t.rules, &t.query, &t.request, w).map(lamp_text),
         _ => panic!("no such command: {command}"),

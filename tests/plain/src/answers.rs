@@ -1,6 +1,6 @@
 //! What the programs print and what files of vectors say: the answer of each service as a text.
 use crate::sets::Set;
-use crate::{book::*, list, query::*, rename::rename_book, rules::*, text::*};
+use crate::{book::*, list, query::*, rename::rename_book, rules::*, text::*, tidy::tidy_book};
 
 /// A number of a call, or what it is where it was not given.
 pub fn number(numbers: &[usize], at: usize, otherwise: usize) -> usize {
@@ -49,7 +49,8 @@ pub fn answer(t: &Set, command: &str, numbers: &[usize]) -> Result<Vec<u8>, Refu
             let text = written(&book()?, &query()?);
             if text.len() > at(0, 2048).min(2048) { refuse(14, 3, 1) } else { Ok(text) }
         }),
-        "rename" => rename_book(&t.book, at(0, 65_536), work(1)),
+        "rename" => rename_book(&t.book, at(0, MOST_BOOK_BYTES), work(1)),
+        "tidy" => tidy_book(&t.book, at(0, MOST_BOOK_BYTES), work(1)),
         "list" => list::list(&t.book, &t.rules, &t.query, &t.request, at(0, 16_384), work(1), false).map(|rows| {
             let names: Vec<Vec<u8>> = book().unwrap().nodes.into_iter().map(|n| n.name).collect();
             rows_text(&names, &rows)

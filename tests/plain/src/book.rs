@@ -1,6 +1,8 @@
 //! The book, read plainly.
 use crate::text::*;
 
+pub const MOST_BOOK_BYTES: usize = 65_536;
+
 #[derive(Clone, Debug)]
 pub struct Node {
     pub name: Vec<u8>,
@@ -153,7 +155,7 @@ pub fn read_book(bytes: &[u8]) -> Result<Book, Refusal> {
 }
 
 pub fn read_book_by(bytes: &[u8], alike: Alike) -> Result<Book, Refusal> {
-    check_bytes(bytes, 65_536, 1, false)?;
+    check_bytes(bytes, MOST_BOOK_BYTES, 1, false)?;
     let mut book = Book::default();
     for (i, (line, ended)) in lines(bytes).into_iter().enumerate() {
         let done = form(line, ended).ok_or(3).and_then(|items| add_line(&mut book, &items, alike));

@@ -8,3 +8,4 @@ pub mod rename;
 pub mod rules;
 pub mod sets;
 pub mod text;
+pub mod tidy;

@@ -3,7 +3,6 @@ use crate::book::*;
 use crate::text::*;
 
 const MOST_NAME_BYTES: usize = 24;
-const MOST_BOOK_BYTES: usize = 65_536;
 
 /// The new book: 15, the book's own refusals by the old rules, 5, then 14 if it passes so many bytes.
 pub fn rename_book(book: &[u8], room: usize, work: usize) -> Result<Vec<u8>, Refusal> {

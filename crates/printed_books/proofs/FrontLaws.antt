@@ -1,4 +1,4 @@
--- What the renaming answers and leaves is what is printed: a book that stands in the buffer, or a refusal that is put there.
+-- What a writer of a book answers and leaves is what is printed: a book that stands in the buffer, or a refusal that is put there.
 use Prim.Native.Nat.{ℕ, _≤_, min}
 use mathlib.Core.Path.{_≡_, refl, sym, ap, subst, _∙_}
 use mathlib.Core.Bool.{Bool, true, false}
@@ -10,17 +10,16 @@ use borrow.Author.Tests.{ltb-false}
 use Rattle.model.specs.Bytes.{Bytes}
 use Rattle.model.specs.Choice.{pick}
 use Rattle.model.specs.Refusal.{Refusal, Outcome, accepted, refused, onAccept, refusal}
-use Rattle.model.specs.Renaming.{renamedBook}
-use Rattle.model.specs.Service.{withWork, onto, bookWritten, bookWriter, renameService}
+use Rattle.model.specs.Service.{withWork, onto, bookWritten, bookWriter}
 use Rattle.model.specs.Answers.{refusalOf, writerAnswer}
-use Rattle.model.specs.Printed.{refusalText, bookText, printedRenaming}
+use Rattle.model.specs.Printed.{refusalText, bookText, bookPrinted}
 use Rattle.model.specs.declared.Refusal.{Refusal as RefusalData}
 use Rattle.model.specs.declared.TextWritten.{TextWritten}
 use Rattle.model.specs.declared.TextWritten.the-variants.{Length, Refused}
 use Rattle.putting.specs.Putting.{lastPlace, Puts}
 use Rattle.putting.proofs.PuttingLaws.{puts-same, counts-length, fits-in-front}
 use Rattle.list_lines.proofs.LengthLaws.{refusal-short}
-use Rattle.printed_renaming.specs.Front.{InFront}
+use Rattle.printed_books.specs.Front.{InFront}
 
 -- an accepted book fits its buffer
 fits : (o : Outcome Bytes) (t : Bytes) → bookWritten 16384 65536 o ≡ accepted t → length t ≤ 65536
@@ -41,37 +40,37 @@ in-front t out out′ n room a l e = record {
   long = ap length e ∙ simp (length-append, length-drop) (omega (arith, room, l));
 }
 
-module _ (book out out′ : Bytes) (room : length out ≡ 65536) (r : TextWritten) (answer : writerAnswer r ≡ renameService 16384 out book .answer)
-    (text : out′ ≡ renameService 16384 out book .text) where
+module _ (o : Outcome Bytes) (out out′ : Bytes) (room : length out ≡ 65536) (r : TextWritten) (answer : writerAnswer r ≡ bookWriter 16384 out o .answer)
+    (text : out′ ≡ bookWriter 16384 out o .text) where
   abbrev given : Outcome Bytes
-  given = bookWritten 16384 65536 (renamedBook book)
+  given = bookWritten 16384 65536 o
 
   answered : writerAnswer r ≡ onAccept given (λ t. accepted (length t))
-  unfolding renameService bookWriter
+  unfolding bookWriter
   answered = rw (← room) answer
 
   left : out′ ≡ onto given out
-  unfolding renameService bookWriter
+  unfolding bookWriter
   left = rw (← room) text
 
-  -- the new book
-  pub book-printed : (n : ℕ) → r ≡ Length n → InFront (printedRenaming book) out out′ n
-  unfolding printedRenaming bookText onAccept onto writerAnswer
+  -- the book
+  pub book-printed : (n : ℕ) → r ≡ Length n → InFront (bookPrinted o) out out′ n
+  unfolding bookPrinted bookText onAccept onto writerAnswer
   book-printed n e = go given refl
     where
       go : (o : Outcome Bytes) → given ≡ o → InFront (bookText o) out out′ n
       go (accepted t) q =
           let a = ap writerAnswer (sym e) ∙ answered ∙ ap (λ (x : Outcome Bytes). onAccept x (λ t. accepted (length t))) q in
           let same : n ≡ length t = cc in
-          in-front t out out′ n room same (fits (renamedBook book) t q) (left ∙ ap (λ (x : Outcome Bytes). onto x out) q)
+          in-front t out out′ n room same (fits o t q) (left ∙ ap (λ (x : Outcome Bytes). onto x out) q)
       go (refused f) q =
           let a = ap writerAnswer (sym e) ∙ answered ∙ ap (λ (x : Outcome Bytes). onAccept x (λ t. accepted (length t))) q in
           let z : _≡_ {A = ℕ} 0 1 = cc in absurd (omega arith)
 
   -- the refusal
   pub refusal-printed : (x : RefusalData) (out″ : Bytes) (n : ℕ) → r ≡ Refused x → Puts out′ 0 (refusalText (refusalOf x)) out″ n
-      → InFront (printedRenaming book) out out″ n
-  unfolding printedRenaming bookText onAccept onto writerAnswer
+      → InFront (bookPrinted o) out out″ n
+  unfolding bookPrinted bookText onAccept onto writerAnswer
   refusal-printed x out″ n e p = go given refl
     where
       go : (o : Outcome Bytes) → given ≡ o → InFront (bookText o) out out″ n

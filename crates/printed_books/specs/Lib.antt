@@ -1,0 +1,2 @@
+-- What the contracts of the printed books speak of.
+pub mod Front

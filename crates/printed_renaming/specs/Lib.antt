@@ -1,2 +1,0 @@
--- What the contract of the printed renaming speaks of.
-pub mod Front
