@@ -18,6 +18,7 @@ pub mod Together
 pub mod SameReading
 pub mod SameRows
 pub mod SameTidied
--- the theorems
+-- the theorems; computed, books that say the same or not, and long books
 pub mod Tidying
+pub mod TidyExamples
 pub mod LongTidyBooks

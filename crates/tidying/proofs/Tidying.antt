@@ -75,14 +75,17 @@ unfolding tidyService
 same-books-same-bytes s t b c r u h work buffer =
     ap (bookWriter work buffer) (same-books-one-tidy-book s t b c r u h)
 
--- the other way: two books with one tidy book say the same
-pub one-tidy-book-same-books : (s t u : Bytes) → (e : tidyBook s ≡ accepted u) (d : tidyBook t ≡ accepted u)
-    → SameBook (tidying s u e .book) (tidying t u d .book)
-one-tidy-book-same-books s t u e d =
+-- the other way: two accepted books that have one tidy book say the same
+pub one-tidy-book-same-books : (s t u : Bytes) (b c : Book) → readBook s ≡ accepted b → readBook t ≡ accepted c
+    → tidyBook s ≡ accepted u → tidyBook t ≡ accepted u → SameBook b c
+one-tidy-book-same-books s t u b c r q e d =
     let x = tidying s u e in
     let y = tidying t u d in
+    let of-s : x .book ≡ b = cc (x .read, r) in
+    let of-t : y .book ≡ c = cc (y .read, q) in
     let one : tidied (x .book) ≡ tidied (y .book) = cc (x .read-anew, y .read-anew) in
-    same-on (x .says-the-same) (subst (λ (z : Book). SameBook z (y .book)) (sym one) (same-turned (y .says-the-same)))
+    let same = same-on (x .says-the-same) (subst (λ (z : Book). SameBook z (y .book)) (sym one) (same-turned (y .says-the-same))) in
+    subst (SameBook b) of-t (subst (λ (z : Book). SameBook z (y .book)) of-s same)
 
 -- a tidy book is written unchanged
 pub tidy-stays : (s t : Bytes) → tidyBook s ≡ accepted t → tidyBook t ≡ accepted t
