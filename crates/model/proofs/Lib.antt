@@ -8,6 +8,7 @@ pub mod ReadingExamples
 pub mod ExactModels
 pub mod EdgesMet
 pub mod AbsentAttributes
+pub mod LookedAt
 pub mod TextOrder
 pub mod TextRelations
 pub mod RoundTrip
@@ -75,8 +76,9 @@ pub mod RefusalCases
 pub mod WholeCases
 pub mod Traps
 pub mod RequestAnswerCases
--- texts in byte order, computed
+-- texts in byte order, computed; how many entries are looked at
 pub mod TextOrderCases
+pub mod LookedAtCases
 -- the renaming and the tidy book, computed
 pub mod RenamingCases
 pub mod TidyCases

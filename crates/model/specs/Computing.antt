@@ -35,7 +35,7 @@ use Rattle.model.specs.ReadRules.{namesAfter, categoryLine, policyLine, 
 use Rattle.model.specs.ReadRules.{covered, readRules}
 use Rattle.model.specs.Request.{claimOf, requestLine, requestFault, requestOf, requestStep, oneLine, readRequest}
 use Rattle.model.specs.TextOrder.{byteOrder, byOrder}
-use Rattle.model.specs.Graph.{nodeEntries, relOf, relEntries, runs, valueIn, compares, sameOrNot, inRelation, meets, isNode, isRel}
+use Rattle.model.specs.Graph.{nodeEntries, relOf, relEntries, runs, valueIn, compares, sameOrNot, inRelation, meets, lookedAt, isNode, isRel}
 use Rattle.model.specs.Models.{edgeHolds, chainHolds, entriesOf, conditionHolds, models, isOn, metBy, suitsEdge, relFor, mappingOf}
 use Rattle.model.specs.Satisfies.{edgeAt, numberedEdgeHolds, clauseHolds, satisfies}
 use Rattle.model.specs.Weave.{askedQuery, askedPolicies, named, moved, movedEdge, movedClause, movedClauses, returnsOf, weave, isExcluded}
@@ -80,5 +80,5 @@ unfolding andThen same isNil any all keep each joined sum mem memℕ twice place
     textPieces pieceBytes oldBytes renamed cannotHave firstStuck declaresNode declaredAt unlessStuck renamedBook newName newNode withNewNames bookWritten
     bookWriter renameService bookText printedRenaming rowsAsked lampService lampText printedLamp byteOrder byOrder
     kindText listText entryText itemTexts lineText entryIf inOrder tidyNode tidyRel tidied attrLineOf nodeLineOf relLineOf linesByKind tidyText tidyBook
-    tidyService bookPrinted printedTidy
+    tidyService bookPrinted printedTidy lookedAt
 computing = 0
