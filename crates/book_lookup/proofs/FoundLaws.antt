@@ -4,16 +4,17 @@ use mathlib.Core.Path.{_≡_, refl, sym, ap, _∙_}
 use mathlib.Core.Bool.{Bool, true, false}
 use mathlib.Core.List.{List, [], _∷_, _++_}
 use native.Mathlib.Omega.{arith}
-use lib.ListN.{length, getD}
+use lib.ListN.{getD}
 use lib.Dec.{eqb}
 use borrow.Author.Tests.{eq-eqb, ne-eqb}
 use Rattle.logic.specs.Tests.{either, equal-or-not}
 use Rattle.model.specs.Bytes.{Bytes, same}
-use Rattle.model.specs.Choice.{pick, Maybe, just}
-use Rattle.model.specs.Values.{Entry}
+use Rattle.model.specs.Choice.{pick, Maybe, nothing, just}
+use Rattle.model.specs.Values.{Value, Entry}
+use Rattle.model.specs.QueryText.{Relation}
 use Rattle.model.specs.Book.{attrNames, nodeNames}
 use Rattle.model.specs.Graph as graph
-use Rattle.model.specs.Graph.{valueIn, relEntries}
+use Rattle.model.specs.Graph.{valueIn, inRelation, meets, lookedAt, relEntries}
 use Rattle.book_tables.specs.declared.BookCounts.{BookCounts}
 use Rattle.book_tables.specs.declared.Owner.{Owner}
 use Rattle.book_tables.specs.declared.Owner.the-variants.{Node, Relationship}
@@ -25,10 +26,8 @@ use Rattle.book_tables.specs.View.{wordAt, nameOf, namesAt, attrsAt, entryHead,
 use Rattle.book_tables.specs.Fits.{NamesFit, EntriesFit, Fits}
 use Rattle.book_tables.proofs.ListedLaws.{listed-same, map-listed, getD-listed}
 use Rattle.book_tables.proofs.NameLaws.{equal-same, attr-names, node-names}
-use Rattle.book_lookup.specs.declared.AttributeFound.{AttributeFound}
-use Rattle.book_lookup.specs.declared.AttributeFound.the-variants.{At, Nothing}
-use Rattle.book_lookup.specs.Entries.{seek, found, entryValue, maybeValue, valueAt, entriesOf, ownerValue}
-use Rattle.book_lookup.specs.Ready.{FoundReady, Entered}
+use Rattle.book_lookup.specs.Entries.{seek, lookedFor, entryValue, maybeValue, entriesOf, ownerValue, ownerLooked}
+use Rattle.book_lookup.specs.Ready.{EntriesReady}
 use Rattle.book_lookup.proofs.SeekLaws.{seek-step, seek-within}
 use Rattle.book_lookup.proofs.ValueLaws.{not-same}
 
@@ -62,6 +61,35 @@ value-first : (text : Bytes) (words : List ℕ) (offset k : ℕ) (es : List Entr
 unfolding valueIn entryOf entryValue
 value-first text words offset k es name = refl
 
+-- of entries, the first apart, one is looked at if it is what is sought, or else one more than of the others
+looked-picked : (k n : ℕ) (m : Maybe ℕ) → ((at : ℕ) → m ≡ just at → k + 1 ≤ at) → (t : Bool)
+    → lookedFor k (suc n) (pick t (just k) m) ≡ pick t 1 (1 + lookedFor (k + 1) n m)
+unfolding lookedFor
+looked-picked k n m h true = omega arith
+looked-picked k n nothing h false = omega arith
+looked-picked k n (just at) h false = let below = h at refl in omega arith
+
+-- what is sought from a place on stands there or behind it
+behind : (words : List ℕ) (attribute n start at : ℕ) → seek words attribute start n ≡ just at → start ≤ at
+behind words attribute n start at e = let within = seek-within words attribute n start at e in let place : start + within .0 ≡ at = within .2 in omega arith
+
+-- how many are looked at is one where the first entry is of the attribute, or else one more than among the others
+looked-first : (text : Bytes) (words : List ℕ) (offset k : ℕ) (es : List Entry) (name : Bytes)
+    → lookedAt (entryOf text words offset k ∷ es) name ≡ pick (same (nameOf text words offset (entryHead words k / 4)) name) 1 (1 + lookedAt es name)
+unfolding lookedAt entryOf
+looked-first text words offset k es name = refl
+
+-- the answer of a test by what is sought: at the place where it is found, so many being looked at; or, where it is absent, after all
+module _ (text : Bytes) (words : List ℕ) (r : Relation) (v : Value) (start count : ℕ) (m : Maybe ℕ) (met : Bool) (looked : ℕ) where
+  pub found-answer : (at : ℕ) → m ≡ just at → at + 1 ≡ start + looked → met ≡ inRelation r (entryValue text words at) v
+      → (met ≡ meets (maybeValue text words m) r v) × (looked ≡ lookedFor start count m)
+  unfolding meets maybeValue lookedFor
+  found-answer at e place h = rw e (h, omega arith)
+
+  pub absent-answer : m ≡ nothing → met ≡ false → looked ≡ count → (met ≡ meets (maybeValue text words m) r v) × (looked ≡ lookedFor start count m)
+  unfolding meets maybeValue lookedFor
+  absent-answer e h all = rw e (h, all)
+
 module _ (text : Bytes) (words : List ℕ) (offset declared : ℕ) (names : NamesFit text words offset declared) where
   -- two declared names are the same bytes exactly if their numbers are equal
   same-name : (i j : ℕ) → i < declared → j < declared → same (nameOf text words offset i) (nameOf text words offset j) ≡ eqb i j
@@ -88,26 +116,22 @@ module _ (text : Bytes) (words : List ℕ) (offset declared : ℕ) (names : Name
         (valueIn (entriesFrom text words offset (start + 1) n) (nameOf text words offset attribute)))
         (same-name (entryHead words start / 4) attribute first counted))
 
-    -- what is found among an owner's entries may be read, and is the value of the name
-    owner-entered : (all w : ℕ) → EntriesFit text words declared all w → all ≤ 2048 → layout.bookWords ≤ length words
-        → (r : AttributeFound) → found r ≡ seek words attribute (startPart w) (countPart w)
-        → Entered text words r (valueIn (entriesIn text words offset w) (nameOf text words offset attribute))
-    unfolding entriesIn valueAt found
-    owner-entered all w fit limit room r e = record {
-      ready = ready r e;
-      value = ap (maybeValue text words) e ∙ seek-value (countPart w) (startPart w) (λ i l. fit .each i l .attribute);
-    }
-      where
-        ready : (r : AttributeFound) → found r ≡ seek words attribute (startPart w) (countPart w) → FoundReady text words r
-        ready Nothing e = tt
-        ready (At k) e =
-            let within = seek-within words attribute (countPart w) (startPart w) k (sym e) in
-            let place : startPart w + within .0 ≡ k = within .2 in
-            let counted = fit .counted in
-            record {
-              room = omega arith;
-              inside = rw place at (fit .each (within .0) (within .1) .inside);
-            }
+    -- so many entries are looked at by number as are by name
+    pub seek-looked : (n start : ℕ) → ((i : ℕ) → i < n → entryHead words (start + i) / 4 < declared)
+        → lookedFor start n (seek words attribute start n) ≡ lookedAt (entriesFrom text words offset start n) (nameOf text words offset attribute)
+    seek-looked zero start h = unfold lookedFor seek lookedAt entriesFrom listed in refl
+    seek-looked (suc n) start h =
+        let front : start + 0 ≡ start = omega arith in
+        let first : entryHead words start / 4 < declared = rw front at (h 0 (omega arith)) in
+        let rest = seek-looked n (start + 1) (λ i l. let next : start + suc i ≡ start + 1 + i = omega arith in rw next at (h (suc i) (omega arith))) in
+        ap (lookedFor start (suc n)) (seek-step words attribute start n)
+        ∙ looked-picked start n (seek words attribute (start + 1) n) (behind words attribute n (start + 1)) (eqb (entryHead words start / 4) attribute)
+        ∙ ap (λ m. pick (eqb (entryHead words start / 4) attribute) 1 (1 + m)) rest
+        ∙ sym (
+        ap (λ es. lookedAt es (nameOf text words offset attribute)) (entries-front text words offset start n)
+        ∙ looked-first text words offset start (entriesFrom text words offset (start + 1) n) (nameOf text words offset attribute)
+        ∙ ap (λ t. pick t 1 (1 + lookedAt (entriesFrom text words offset (start + 1) n) (nameOf text words offset attribute)))
+        (same-name (entryHead words start / 4) attribute first counted))
 
 -- the entries of a node and of a relationship, and the names of attributes and nodes, by their numbers
 module _ (text : Bytes) (words : List ℕ) (c : BookCounts) where
@@ -126,11 +150,39 @@ module _ (text : Bytes) (words : List ℕ) (c : BookCounts) where
   unfolding namesAt
   node-named i l = ap (λ ns. getD ns i []) (node-names text words c) ∙ getD-listed (nameOf text words layout.nodeNames) (c .nodes) i [] l
 
-  pub entered : (fits : Fits text words c) (attribute : ℕ) (r : AttributeFound) (o : Owner) (i : ℕ) → i < tablesOf o c .count
-      → attribute < tablesOf o c .declared
-      → found r ≡ seek words attribute (startPart (wordAt words (tablesOf o c .entries + i))) (countPart (wordAt words (tablesOf o c .entries + i)))
-      → Entered text words r (ownerValue o (bookAt text words c) i attribute)
-  entered fits attribute r o i l m e =
-      rw (owner-entries o i l, owner-attrs text words c o, attribute-name (tablesOf o c .attributes) (tablesOf o c .declared) attribute m)
-      (owner-entered text words _ _ (attr-table text words c fits o .names) attribute m (c .entries) _ (owner-fits text words c fits o i l)
-      (fits .within .entries) (fits .room) r e)
+  -- what the pass over an owner's entries comes to, by its word: the value of its attribute, and how many are looked at for it
+  module _ (fits : Fits text words c) (attribute : ℕ) (o : Owner) (i : ℕ) (owned : i < tablesOf o c .count)
+      (declared : attribute < tablesOf o c .declared) where
+    own-fits : EntriesFit text words (tablesOf o c .declared) (c .entries) (wordAt words (tablesOf o c .entries + i))
+    own-fits = owner-fits text words c fits o i owned
+
+    pub owner-sought : maybeValue text words (seek words attribute (startPart (wordAt words (tablesOf o c .entries + i)))
+        (countPart (wordAt words (tablesOf o c .entries + i)))) ≡ ownerValue o (bookAt text words c) i attribute
+    unfolding entriesIn
+    owner-sought = rw (
+      owner-entries o i owned,
+      owner-attrs text words c o,
+      attribute-name (tablesOf o c .attributes) (tablesOf o c .declared) attribute declared,
+    )
+        (seek-value text words _ _ (attr-table text words c fits o .names) attribute declared _ _ (λ k l. own-fits .each k l .attribute))
+
+    pub owner-looked : lookedFor (startPart (wordAt words (tablesOf o c .entries + i))) (countPart (wordAt words (tablesOf o c .entries + i)))
+        (seek words attribute (startPart (wordAt words (tablesOf o c .entries + i))) (countPart (wordAt words (tablesOf o c .entries + i))))
+        ≡ ownerLooked o (bookAt text words c) i attribute
+    unfolding entriesIn
+    owner-looked = rw (
+      owner-entries o i owned,
+      owner-attrs text words c o,
+      attribute-name (tablesOf o c .attributes) (tablesOf o c .declared) attribute declared,
+    )
+        (seek-looked text words _ _ (attr-table text words c fits o .names) attribute declared _ _ (λ k l. own-fits .each k l .attribute))
+
+  -- an owner's entries may be read
+  pub entries-ready : Fits text words c → (o : Owner) (i : ℕ) → i < tablesOf o c .count
+      → EntriesReady text words (wordAt words (tablesOf o c .entries + i))
+  entries-ready fits o i l =
+      let own = owner-fits text words c fits o i l in
+      let counted = own .counted in
+      let few = fits .within .entries in
+      let room = fits .room in
+      λ k m. record { room = omega arith; inside = own .each k m .inside }

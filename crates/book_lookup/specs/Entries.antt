@@ -1,5 +1,5 @@
--- Entries of a loaded book by their numbers, their values, and the values of attributes by number.
-use Prim.Native.Nat.{ℕ, zero, suc, _+_, _*_, _/_, _%_}
+-- Entries of a loaded book by their numbers, their values, the values of attributes by number, and how many entries are looked at for one.
+use Prim.Native.Nat.{ℕ, zero, suc, _+_, _-_, _*_, _/_, _%_}
 use mathlib.Core.List.{List, []}
 use lib.Dec.{eqb}
 use lib.ListN.{getD}
@@ -7,24 +7,22 @@ use Rattle.model.specs.Bytes.{Bytes}
 use Rattle.model.specs.Choice.{pick, Maybe, nothing, just}
 use Rattle.model.specs.Values.{Value, Entry}
 use Rattle.model.specs.Book.{Book, attrNames}
-use Rattle.model.specs.Graph.{valueIn, nodeEntries, relEntries}
+use Rattle.model.specs.Graph.{valueIn, lookedAt, nodeEntries, relEntries}
 use Rattle.book_tables.specs.declared.Owner.{Owner}
 use Rattle.book_tables.specs.declared.Owner.the-variants.{Node, Relationship}
 use Rattle.book_tables.specs.Owners.{attrsOf}
 use Rattle.book_tables.specs.Layout.{entries}
 use Rattle.book_tables.specs.View.{wordAt, entryHead, valueIn as valueOfWords}
-use Rattle.book_lookup.specs.declared.AttributeFound.{AttributeFound}
-use Rattle.book_lookup.specs.declared.AttributeFound.the-variants.{At, Nothing}
 
 -- the first of n entries, from the kth on, that is of an attribute
 unfoldable pub seek : List ℕ → ℕ → ℕ → ℕ → Maybe ℕ
 seek words attribute k zero = nothing
 seek words attribute k (suc n) = let rest = seek words attribute (k + 1) n in pick (eqb (entryHead words k / 4) attribute) (just k) rest
 
--- where a look-up found it
-unfoldable pub found : AttributeFound → Maybe ℕ
-found (At k) = just k
-found Nothing = nothing
+-- how many of n entries, from the kth on, are looked at for what is sought among them: those up to it, or all
+unfoldable pub lookedFor : ℕ → ℕ → Maybe ℕ → ℕ
+lookedFor k n nothing = n
+lookedFor k n (just at) = at + 1 - k
 
 -- the type of an entry, and its two further words
 abbrev pub kindAt : List ℕ → ℕ → ℕ
@@ -45,10 +43,6 @@ unfoldable pub maybeValue : Bytes → List ℕ → Maybe ℕ → Maybe Value
 maybeValue text words nothing = nothing
 maybeValue text words (just k) = just (entryValue text words k)
 
--- the value of what a look-up found
-unfoldable pub valueAt : Bytes → List ℕ → AttributeFound → Maybe Value
-valueAt text words r = maybeValue text words (found r)
-
 -- the entries of an owner by its number
 abbrev pub entriesOf : Owner → Book → ℕ → List Entry
 entriesOf Node b i = nodeEntries b i
@@ -57,3 +51,7 @@ entriesOf Relationship b i = relEntries b i
 -- the value of an owner's attribute, both by their numbers
 abbrev pub ownerValue : Owner → Book → ℕ → ℕ → Maybe Value
 ownerValue o b i attribute = valueIn (entriesOf o b i) (getD (attrNames (attrsOf o b)) attribute [])
+
+-- how many of an owner's entries are looked at for an attribute, both by their numbers
+abbrev pub ownerLooked : Owner → Book → ℕ → ℕ → ℕ
+ownerLooked o b i attribute = lookedAt (entriesOf o b i) (getD (attrNames (attrsOf o b)) attribute [])

@@ -1,20 +1,19 @@
--- What a look-up may take for granted of the words, the texts and the numbers it is given, and what it promises of an entry.
+-- What a look-up may take for granted of the words, the texts and the numbers it is given.
 use Prim.Native.Nat.{ℕ, _+_, _*_, _≤_, _<_}
 use mathlib.Core.Path.{_≡_}
 use mathlib.Core.List.{List}
 use lib.ListN.{length}
 use Rattle.model.specs.Bytes.{Bytes}
-use Rattle.model.specs.Choice.{Maybe}
-use Rattle.model.specs.Values.{Value, Kind}
+use Rattle.model.specs.Values.{Kind}
 use Rattle.model.specs.declared.Value.{Value as ValueData}
 use Rattle.book_tables.specs.declared.BookCounts.{BookCounts}
-use Rattle.book_tables.specs.Layout.{entries}
-use Rattle.book_tables.specs.View.{kindIn}
+use Rattle.book_tables.specs.declared.Owner.{Owner}
+use Rattle.book_tables.specs.Owners.{tablesOf}
+use Rattle.book_tables.specs.Layout.{entries, bookWords}
+use Rattle.book_tables.specs.View.{kindIn, startPart, countPart}
 use Rattle.book_tables.specs.Fits.{Inside, Fits}
 use Rattle.book_tables.specs.ValueWords.{EndsBefore}
-use Rattle.book_lookup.specs.declared.AttributeFound.{AttributeFound}
-use Rattle.book_lookup.specs.declared.AttributeFound.the-variants.{At, Nothing}
-use Rattle.book_lookup.specs.Entries.{kindAt, firstAt, secondAt, valueAt}
+use Rattle.book_lookup.specs.Entries.{kindAt, firstAt, secondAt}
 
 -- an entry's three words are among the words
 abbrev pub Room : List ℕ → ℕ → Type 0
@@ -30,10 +29,9 @@ pub record EntryReady (book : Bytes) (words : List ℕ) (k : ℕ) : Type 0 where
   pub room : Room words k
   pub inside : kindAt words k ≡ 1 → Inside book (firstAt words k) (secondAt words k)
 
--- the same of an entry that was found
-abbrev pub FoundReady : Bytes → List ℕ → AttributeFound → Type 0
-FoundReady book words (At k) = EntryReady book words k
-FoundReady book words Nothing = Unit {0}
+-- the entries that an owner's word says are there, and their text values stand in the book's text
+abbrev pub EntriesReady : Bytes → List ℕ → ℕ → Type 0
+EntriesReady book words w = (i : ℕ) → i < countPart w → EntryReady book words (startPart w + i)
 
 -- a text value stands inside the text it is part of
 abbrev pub ValueInside : Bytes → ValueData → Type 0
@@ -45,18 +43,14 @@ pub record Asked (book : Bytes) (words : List ℕ) (c : BookCounts) (owner owner
   pub owned : owner < owners
   pub declared : attribute < attributes
 
--- the same of a text that is not at hand
-pub record SomeText (words : List ℕ) (c : BookCounts) (owner owners attribute attributes : ℕ) : Type 0 where
-  pub book : Bytes
-  pub asked : Asked book words c owner owners attribute attributes
+-- the words have the table of an owner's entries, and the owner is counted
+pub record OwnerReady (words : List ℕ) (c : BookCounts) (owner : Owner) (number : ℕ) : Type 0 where
+  pub room : bookWords ≤ length words
+  pub owned : number < tablesOf owner c .count
+  pub few : tablesOf owner c .count ≤ 1024
 
 -- the words hold a book of the text that has a node
 pub record HasNode (book : Bytes) (words : List ℕ) (node : ℕ) : Type 0 where
   pub counts : BookCounts
   pub fits : Fits book words counts
   pub counted : node < counts .nodes
-
--- what was found may be read, and is the entry of a value
-pub record Entered (book : Bytes) (words : List ℕ) (r : AttributeFound) (v : Maybe Value) : Type 0 where
-  pub ready : FoundReady book words r
-  pub value : valueAt book words r ≡ v

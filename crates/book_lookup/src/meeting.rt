@@ -1,48 +1,21 @@
-// Whether the value of an attribute meets a requirement: stands in a relation to a value. An absent attribute meets none.
+// Whether the value of an entry meets a requirement: stands in a relation to a value.
 ghost use mathlib.Core.Path.{_≡_};
 ghost use Rattle.model.specs.Bytes.{Bytes};
 ghost use Rattle.model.specs.Values.{int, str, bool};
 ghost use Rattle.model.specs.TextOrder.{byteOrder, byOrder};
-ghost use Rattle.model.specs.Graph.{compares, sameOrNot, inRelation, meets};
+ghost use Rattle.model.specs.Graph.{compares, sameOrNot, inRelation};
 ghost use Rattle.model.specs.Answers.{relationOf, valueOf};
-ghost use Rattle.book_tables.specs.View.{bookAt};
-ghost use Rattle.book_tables.specs.Owners.{tablesOf};
-ghost use Rattle.book_lookup.specs.Entries.{entryValue, valueAt, ownerValue};
-ghost use Rattle.book_lookup.specs.Ready.{Room, EntryReady, FoundReady, ValueInside, Asked};
-use crate::AttributeFound;
-use crate::entries::owner_entry;
+ghost use Rattle.book_lookup.specs.Entries.{entryValue};
+ghost use Rattle.book_lookup.specs.Ready.{Room, EntryReady, ValueInside};
 use crate::values::kind_of;
 use crate::values::number_of;
 use crate::values::text_of;
 use crate::values::truth_of;
-use book_tables::BookCounts;
-use book_tables::Owner;
 use book_tables::values::INT;
 use book_tables::values::STR;
 use compare::Order;
 use model::Relation;
 use model::Value;
-
-// Whether an owner's attribute meets a requirement whose text value is part of `text`.
-pub fn owner_meets(
-    book: &[u8],
-    words: &[u32],
-    counts: BookCounts,
-    owner: Owner,
-    number: usize,
-    attribute: usize,
-    relation: Relation,
-    value: Value,
-    text: &[u8],
-) -> bool
-    requires { ⌜ Asked (now book) (now words) counts number (tablesOf owner counts .count) attribute (tablesOf owner counts .declared)
-        × ValueInside (now text) value ⌝ }
-    ensures { λ r. ⌜ r ≡ meets (ownerValue owner (bookAt (now (book .entry)) (now (words .entry)) counts) number attribute) (relationOf relation)
-        (valueOf (now (text .entry)) value) ⌝ }
-{
-    let found = owner_entry(words, counts, owner, number, attribute);
-    found_meets(book, words, found, relation, value, text)
-}
 
 // Whether an entry's value stands in a relation to a value whose text is part of `text`; values of two types stand in none.
 pub fn entry_meets(
@@ -66,24 +39,6 @@ pub fn entry_meets(
             &text[start..start + size],
         ),
         Value::Truth(truth) => entry_meets_truth(words, entry, relation, truth),
-    }
-}
-
-// Whether what a look-up found meets a requirement.
-fn found_meets(
-    book: &[u8],
-    words: &[u32],
-    found: AttributeFound,
-    relation: Relation,
-    value: Value,
-    text: &[u8],
-) -> bool
-    requires { ⌜ FoundReady (now book) (now words) found × ValueInside (now text) value ⌝ }
-    ensures { λ r. ⌜ r ≡ meets (valueAt (now (book .entry)) (now (words .entry)) found) (relationOf relation) (valueOf (now (text .entry)) value) ⌝ }
-{
-    match found {
-        AttributeFound::At(entry) => entry_meets(book, words, entry, relation, value, text),
-        AttributeFound::Nothing => false,
     }
 }
 
