@@ -1,12 +1,16 @@
 // The attribute entries of one line of a book: their faults, and their words.
 ghost use mathlib.Core.Path.{_≡_};
 ghost use mathlib.Core.Bool.{true};
-ghost use Prim.Native.Nat.{_<_};
+ghost use Prim.Native.Nat.{_≤_, _<_};
 ghost use lib.ListN.{length};
+ghost use Rattle.book_tables.specs.Layout.{bookWords};
 ghost use Rattle.book_entries.specs.Faults.{entryFault, lower};
 ghost use Rattle.book_entries.specs.Known.{EntryAsked, EntryAdded, EntryPutAsked, EntryPut};
+ghost use Rattle.book_entries.specs.Likely.{likelyNext};
 use book_tables::BookCounts;
+use book_tables::ENTRIES;
 use book_tables::stores::ENTRY_TYPES;
+use book_tables::stores::ENTRY_WORDS;
 use model::Part;
 use model::Value;
 use model::limits::MAX_DECLARED;
@@ -68,6 +72,22 @@ fn put_entry(words: &mut [u32], k: usize, attribute: usize, value: Value)
     }
 }
 
+// Where the attribute of the next entry of a line likely stands among those declared: behind that of the entry before it, in most books; the first for a
+// line's first entry.
+fn likely_next(words: &[u32], from: usize, count: usize) -> usize
+    requires { ⌜ (bookWords ≤ length (now words)) × (from ≤ 2048) × (count ≤ 65536) ⌝ }
+    ensures { λ r. ⌜ r ≡ likelyNext (now (words .entry)) from count ⌝ }
+{
+    if count == 0 {
+        return 0;
+    }
+    let entry = from + count - 1;
+    if MAX_ENTRIES <= entry {
+        return 0;
+    }
+    words[ENTRIES + ENTRY_WORDS * entry] as usize / ENTRY_TYPES + 1
+}
+
 // What is known with one entry more, which is stored behind those before it.
 pub fn add_entry(
     text: &[u8],
@@ -84,7 +104,15 @@ pub fn add_entry(
 {
     let start = name.start;
     let end = start + name.length;
-    let attribute = book_tables::names::find_name(text, words, offset, declared, &text[start..end]);
+    let likely = likely_next(words, counts.entries, known.count);
+    let attribute = book_tables::names::find_likely(
+        text,
+        words,
+        offset,
+        declared,
+        likely,
+        &text[start..end],
+    );
     if declared <= attribute {
         return EntriesRead {
             fault: NOT_DECLARED,

@@ -36,6 +36,27 @@ pub fn find_name(text: &[u8], words: &[u32], offset: usize, count: usize, name: 
     count
 }
 
+// The number of a name among those counted at an offset, tried first where it likely stands: no two names are the same, so that it is found there or, as
+// ever, from the first on.
+pub fn find_likely(
+    text: &[u8],
+    words: &[u32],
+    offset: usize,
+    count: usize,
+    likely: usize,
+    name: &[u8],
+) -> usize
+    requires { ⌜ NamesFit (now text) (now words) offset count × (offset + count ≤ length (now words)) ⌝ }
+    ensures { λ r. ⌜ r ≡ place (now (name .entry)) (namesAt (now (text .entry)) (now (words .entry)) offset count) ⌝ }
+{
+    if likely < count {
+        if is_named(text, words, offset + likely, NameRule::Exact, name) {
+            return likely;
+        }
+    }
+    find_name(text, words, offset, count, name)
+}
+
 // The number of an attribute declared for an owner.
 pub fn find_attr(text: &[u8], words: &[u32], counts: BookCounts, owner: Owner, name: &[u8]) -> usize
     requires { ⌜ Fits (now text) (now words) counts ⌝ }
