@@ -10,7 +10,7 @@ pub struct Size {
     pub returns: usize,
 }
 
-struct Random(u64);
+pub struct Random(pub u64);
 
 impl Random {
     /// A number below n.
@@ -22,7 +22,7 @@ impl Random {
     }
 
     /// So many of the numbers below n, none twice.
-    fn some(&mut self, count: usize, n: usize) -> Vec<usize> {
+    pub fn some(&mut self, count: usize, n: usize) -> Vec<usize> {
         let mut all: Vec<usize> = (0..n).collect();
         for i in 0..count {
             let j = i + self.below(n - i);

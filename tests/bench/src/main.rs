@@ -1,11 +1,12 @@
 //! Times whole calls of the library in one process, beside plain Rust, and tells what share reading, weaving and searching have.
 //!
 //! `bench renaming` times the renaming alone, `bench tidying` the tidying, `bench lamp` the lamp beside the list, `bench conditions` lists with conditions on
-//! texts. The calls take turns, so that a busy moment of the machine falls on all of them.
+//! texts, `bench requirements` lists with conditions on nodes of many entries. The calls take turns, so that a busy moment of the machine falls on all of them.
 mod conditions;
 mod dense;
 mod lamp;
 mod renaming;
+mod requirements;
 mod texts;
 mod tidying;
 
@@ -87,6 +88,7 @@ fn main() {
         Some("tidying") => return tidying::run(),
         Some("lamp") => return lamp::run(),
         Some("conditions") => return conditions::run(),
+        Some("requirements") => return requirements::run(),
         _ => {}
     }
     for t in [texts::worked(), texts::full(), texts::dense()] {
@@ -96,4 +98,5 @@ fn main() {
     tidying::run();
     lamp::run();
     conditions::run();
+    requirements::run();
 }

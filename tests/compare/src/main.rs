@@ -1,13 +1,16 @@
 //! Compares the proved library with plain Rust.
 //!
-//! `compare [SEED] [COUNT]`: texts that are made to be slow, then random cases. `compare vectors FOLDER`: the sets of a folder of vectors.
+//! `compare [SEED] [COUNT]`: texts that are made to be slow, then nodes of many entries, then random cases. `compare vectors FOLDER`: the sets of a folder of
+//! vectors.
 //! It fails where the two differ, and where a text takes long to read or to refuse (`timed::LIMIT`), the search for rows aside.
 mod cases;
+mod channels;
 mod check;
 mod crowded;
 mod damage;
 mod lamp;
 mod limits;
+mod looked;
 mod patterns;
 mod random;
 mod slow;
@@ -25,10 +28,10 @@ use std::{env, panic, process, time::Instant};
 
 const CASES: u64 = 12_000;
 
-/// One case, from its own seed; a failure shows the texts.
-fn run(seed: u64, tally: &mut tally::Tally) -> bool {
+/// One case of a kind, from its own seed; a failure shows the texts. What plain Rust says of them, if the library agrees.
+fn run(name: &str, seed: u64, case: fn(&mut random::Random) -> cases::Texts, tally: &mut tally::Tally) -> Option<check::Expected> {
     let mut r = random::Random::new(seed.wrapping_mul(0x2545_f491_4f6c_dd1d));
-    let texts = cases::case(&mut r);
+    let texts = case(&mut r);
     let done = panic::catch_unwind(panic::AssertUnwindSafe(|| {
         let expected = check::expect(&texts);
         let mut c = check::Check { texts: &texts, expected: &expected, random: &mut r };
@@ -38,14 +41,25 @@ fn run(seed: u64, tally: &mut tally::Tally) -> bool {
         c.lamp(tally);
         c.tidy();
         tally.case(&texts.book, &expected);
+        expected
     }));
     if done.is_err() {
-        println!("case {seed} differs:");
+        println!("{name} {seed} differs:");
         for (name, t) in [("book", &texts.book), ("rules", &texts.rules), ("query", &texts.query), ("request", &texts.request)] {
             println!("--- {name}, {} bytes\n{}", t.len(), String::from_utf8_lossy(&t[..t.len().min(3000)]));
         }
     }
-    done.is_ok()
+    done.ok()
+}
+
+/// Sets of channels, with a tally of their own.
+fn run_channels(seed: u64) -> bool {
+    let (mut looked, mut tally) = (looked::Looked::default(), tally::Tally::default());
+    for i in seed..seed + channels::SETS {
+        let Some(expected) = run("set of channels", i, channels::case, &mut tally) else { return false };
+        looked.set(&expected);
+    }
+    looked.told()
 }
 
 fn main() {
@@ -56,12 +70,12 @@ fn main() {
     let seed = args.first().map_or(1, |s| s.parse().expect("a seed"));
     let count = args.get(1).map_or(CASES, |s| s.parse().expect("a count"));
     let (start, mut tally) = (Instant::now(), tally::Tally::default());
-    if !slow::run() {
+    if !slow::run() || !run_channels(seed) {
         process::exit(1);
     }
     for i in seed..seed + count {
         let began = Instant::now();
-        if !run(i, &mut tally) {
+        if run("case", i, cases::case, &mut tally).is_none() {
             process::exit(1);
         }
         if began.elapsed().as_millis() > 1000 {
