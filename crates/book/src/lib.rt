@@ -5,7 +5,7 @@ use model::Refusal;
 pub mod load;
 
 // What reading a book into the working memory gives: the counts of its tables, or a refusal.
-#[derive(Drop)]
+#[derive(Clone, Copy)]
 pub enum BookLoad {
     Loaded(BookCounts),
     Refused(Refusal),

@@ -12,7 +12,7 @@ use model::refusal_numbers::{NOT_DECLARED, OTHER_TYPE, SECOND_TIME};
 use model::{Part, Value};
 
 // What is known after some entries of a line: their lowest fault or 0, a bit for each attribute that stands among them, and how many they are.
-#[derive(Drop)]
+#[derive(Clone, Copy)]
 pub struct EntriesRead {
     pub fault: u32,
     pub seen: u32,

@@ -7,7 +7,7 @@ pub mod testing;
 pub mod values;
 
 // What the test of one requirement answers: whether it is met, and how many entries it looked at.
-#[derive(Drop)]
+#[derive(Clone, Copy)]
 pub struct Tested {
     pub met: bool,
     pub looked: usize,

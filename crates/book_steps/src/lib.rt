@@ -21,7 +21,7 @@ use model::refusal_numbers::{LIMIT_PASSED, NOT_DECLARED, SECOND_TIME};
 use text::parts;
 
 // What one line gives: its fault, in the paper's numbers, or the counts with it.
-#[derive(Drop)]
+#[derive(Clone, Copy)]
 pub enum LineStep {
     Fault(u32),
     Known(BookCounts),

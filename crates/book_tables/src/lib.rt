@@ -38,7 +38,7 @@ pub const FROM_LINKS: usize = 9632;
 pub const BOOK_WORDS: usize = 10752;
 
 // How many of each the tables hold.
-#[derive(Drop)]
+#[derive(Clone, Copy)]
 pub struct BookCounts {
     pub vattrs: usize,
     pub eattrs: usize,
@@ -49,14 +49,14 @@ pub struct BookCounts {
 }
 
 // Which names of nodes are taken for the same: the very name, or names that are equal but for the case of letters.
-#[derive(Drop)]
+#[derive(Clone, Copy)]
 pub enum NameRule {
     Exact,
     AnyCase,
 }
 
 // Who has attributes: nodes, and relationships.
-#[derive(Drop)]
+#[derive(Clone, Copy)]
 pub enum Owner {
     Node,
     Relationship,
@@ -64,7 +64,7 @@ pub enum Owner {
 
 // The tables of an owner: the attributes declared for it and how many they are; a word for each owner, the word of its entries, the heads and
 // links of its chains, and how many owners there are.
-#[derive(Drop)]
+#[derive(Clone, Copy)]
 pub struct OwnerTables {
     pub attributes: usize,
     pub declared: usize,
@@ -76,7 +76,7 @@ pub struct OwnerTables {
 }
 
 // A value's type, and the two words that say it: the halves of a number, start and length of a text, 0 and then 0 or 1 of a truth value.
-#[derive(Drop)]
+#[derive(Clone, Copy)]
 pub struct ValueWords {
     pub kind: u32,
     pub first: u32,

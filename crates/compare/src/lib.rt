@@ -8,7 +8,7 @@ ghost use Rattle.model.specs.Answers.{part_of};
 ghost use Rattle.compare.specs.Compare.{begins_one_of_six, order_of, same_near};
 
 // How one text stands to another, by bytes.
-#[derive(Drop)]
+#[derive(Clone, Copy)]
 pub enum Order {
     Less,
     Equal,

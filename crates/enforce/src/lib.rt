@@ -17,14 +17,14 @@ use woven_tables::WovenCounts;
 pub mod policies; // policies.rt: the enforced policies, one category after another
 
 // The counts of the woven pattern, or the number of its refusal.
-#[derive(Drop)]
+#[derive(Clone, Copy)]
 pub enum AskedWoven {
     Woven(WovenCounts),
     Refused(u32),
 }
 
 // Which text is woven: the number of its category, its own number among the texts, and where it begins in the query or the rules.
-#[derive(Drop)]
+#[derive(Clone, Copy)]
 pub struct TextPlace {
     pub category: usize,
     pub number: usize,

@@ -11,7 +11,7 @@ use weave::PatternAdded;
 use woven_tables::WovenCounts;
 
 // How many texts are woven, and the counts of their woven pattern; or it passes a limit.
-#[derive(Drop)]
+#[derive(Clone, Copy)]
 pub enum TextsWoven {
     Woven(usize, WovenCounts),
     Passed,

@@ -12,21 +12,21 @@ use model::{Part, Value};
 use text::{End, bytes, parts, words};
 
 // Where a form stands among the lists of a text: in each list of it `inner` lists may still be opened, and behind it `closes` lists close.
-#[derive(Drop)]
+#[derive(Clone, Copy)]
 pub struct Form {
     pub inner: usize,
     pub closes: usize,
 }
 
 // Where a word, a name or a policy text stands; or that none can be read there.
-#[derive(Drop)]
+#[derive(Clone, Copy)]
 pub enum ItemAt {
     At(Part),
     None,
 }
 
 // Where a name stands, the closing bracket with the place behind it, or neither.
-#[derive(Drop)]
+#[derive(Clone, Copy)]
 pub enum NameItem {
     Name(Part),
     Close(usize),
@@ -34,14 +34,14 @@ pub enum NameItem {
 }
 
 // A value and the place behind it; or that none can be read there.
-#[derive(Drop)]
+#[derive(Clone, Copy)]
 pub enum ValueItem {
     Value(Value, usize),
     None,
 }
 
 // (ATTR VALUE): where the name stands, the value, and the place behind; the closing bracket of the form; or neither.
-#[derive(Drop)]
+#[derive(Clone, Copy)]
 pub enum EntryRead {
     Entry {
         name: Part,
@@ -53,7 +53,7 @@ pub enum EntryRead {
 }
 
 // (id ACTOR NODE): where the two names stand, and the place behind; the closing bracket of the form; or neither.
-#[derive(Drop)]
+#[derive(Clone, Copy)]
 pub enum ClaimRead {
     Claim {
         actor: Part,

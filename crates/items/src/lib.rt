@@ -2,7 +2,7 @@
 pub mod read;
 
 // What the item at a place is, and where it ends; or that none can be read there. A whole number z is given as z + 2^63.
-#[derive(Drop)]
+#[derive(Clone, Copy)]
 pub enum ItemRead {
     Word(usize),
     Number(u64, usize),
@@ -13,7 +13,7 @@ pub enum ItemRead {
 }
 
 // What follows in a list: an item that begins at a place, the closing bracket with the place behind it, or neither.
-#[derive(Drop)]
+#[derive(Clone, Copy)]
 pub enum Next {
     Item(usize),
     Close(usize),

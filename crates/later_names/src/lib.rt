@@ -17,7 +17,7 @@ mod ends; // ends.rt: how often each node is an end
 mod longer; // longer.rt: a name with `_b`, and whether it is free
 
 // Whether all later names can have their new ones: then the length of the new text; else the first node whose name cannot.
-#[derive(Drop)]
+#[derive(Clone, Copy)]
 pub enum NewNames {
     Free(usize),
     Stuck(usize),

@@ -15,6 +15,7 @@ get_d_in d (x ∷ xs) (suc j) h = Memᴰ.tail (get_d_in d xs j (omega arith))
 
 -- What stands in a list stands at a place of it.
 pub in_get_d : {A : Type 0} (d x : A) (l : List A) → x ∈ l → (i : ℕ) × (i < length l) × (get_or l i d ≡ x)
+in_get_d {A = A} d x [] x'' = elim x'' [ ]
 in_get_d d x (y ∷ ys) (Memᴰ.head e) = (0, omega arith, sym e)
 in_get_d d x (y ∷ ys) (Memᴰ.tail m) = let r = in_get_d d x ys m in (suc r.0, omega arith, r.2)
 

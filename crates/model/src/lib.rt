@@ -7,7 +7,7 @@ pub mod refusal_numbers; // refusal_numbers.rt: the numbers of refusals and of t
 use crate::limits::{MAX_CONDITIONS, MAX_EDGES, MAX_IDENTITIES, MAX_RETURNS, MAX_VERTICES};
 
 // A refusal: number, text and line, as the table of document 01 has them.
-#[derive(Drop)]
+#[derive(Clone, Copy)]
 pub struct Refusal {
     pub number: u32,
     pub text: u32,
@@ -15,14 +15,14 @@ pub struct Refusal {
 }
 
 // Accepted, or refused.
-#[derive(Drop)]
+#[derive(Clone, Copy)]
 pub enum Verdict {
     Accepted,
     Refused(Refusal),
 }
 
 // The relations = <> < <= > >= in this order.
-#[derive(Drop)]
+#[derive(Clone, Copy)]
 pub enum Relation {
     Equal,
     Differs,
@@ -33,7 +33,7 @@ pub enum Relation {
 }
 
 // A value: a whole number z kept as z + 2^63, a text by its start and its length in the text it stands in, or a truth value.
-#[derive(Drop)]
+#[derive(Clone, Copy)]
 pub enum Value {
     Number(u64),
     Text(usize, usize),
@@ -41,7 +41,7 @@ pub enum Value {
 }
 
 // What an attribute, by its number among the declared ones, must be.
-#[derive(Drop)]
+#[derive(Clone, Copy)]
 pub struct Requirement {
     pub attribute: usize,
     pub relation: Relation,
@@ -49,14 +49,14 @@ pub struct Requirement {
 }
 
 // Where a name stands in its text.
-#[derive(Drop)]
+#[derive(Clone, Copy)]
 pub struct Part {
     pub start: usize,
     pub length: usize,
 }
 
 // An edge of a pattern: its name, its label by number, the vertices it runs from and to.
-#[derive(Drop)]
+#[derive(Clone, Copy)]
 pub struct Edge {
     pub name: Part,
     pub label: usize,
@@ -65,7 +65,7 @@ pub struct Edge {
 }
 
 // Two vertices that differ, or a requirement of a vertex or of an edge, each by its number.
-#[derive(Drop)]
+#[derive(Clone, Copy)]
 pub enum Condition {
     Excluded(usize, usize),
     OfVertex(usize, Requirement),
@@ -73,13 +73,13 @@ pub enum Condition {
 }
 
 // A condition in its place.
-#[derive(Drop)]
+#[derive(Clone, Copy)]
 pub struct Clause {
     pub condition: Condition,
 }
 
 // How many of each a pattern has.
-#[derive(Drop)]
+#[derive(Clone, Copy)]
 pub struct Counts {
     pub vertices: usize,
     pub edges: usize,
@@ -88,7 +88,7 @@ pub struct Counts {
 }
 
 // A pattern: vertices by first appearance, edges and conditions in the order of the text, Return vertices by number.
-#[derive(Drop)]
+#[derive(Clone, Copy)]
 pub struct Pattern {
     pub vertices: [Part; MAX_VERTICES],
     pub edges: [Edge; MAX_EDGES],
@@ -98,35 +98,35 @@ pub struct Pattern {
 }
 
 // An actor of the request, and the number of its node.
-#[derive(Drop)]
+#[derive(Clone, Copy)]
 pub struct Identity {
     pub actor: Part,
     pub node: usize,
 }
 
 // What reading a book gives: the counts of nodes, relationships and attribute entries, or a refusal.
-#[derive(Drop)]
+#[derive(Clone, Copy)]
 pub enum BookRead {
     Counts(usize, usize, usize),
     Refused(Refusal),
 }
 
 // What reading rules gives: the counts of categories and policies, or a refusal.
-#[derive(Drop)]
+#[derive(Clone, Copy)]
 pub enum RulesRead {
     Counts(usize, usize),
     Refused(Refusal),
 }
 
 // What reading a query gives: the whole pattern, or a refusal beside an empty pattern.
-#[derive(Drop)]
+#[derive(Clone, Copy)]
 pub struct QueryRead {
     pub verdict: Verdict,
     pub pattern: Pattern,
 }
 
 // What reading a request gives: the category's number and the identities, or a refusal beside none.
-#[derive(Drop)]
+#[derive(Clone, Copy)]
 pub struct RequestRead {
     pub verdict: Verdict,
     pub category: usize,
@@ -135,21 +135,21 @@ pub struct RequestRead {
 }
 
 // What a writer of a text gives: the length in bytes, or a refusal.
-#[derive(Drop)]
+#[derive(Clone, Copy)]
 pub enum TextWritten {
     Length(usize),
     Refused(Refusal),
 }
 
 // What a list gives: the number of its rows and the number of Return names that each row answers, or a refusal.
-#[derive(Drop)]
+#[derive(Clone, Copy)]
 pub enum RowsListed {
     Count(usize, usize),
     Refused(Refusal),
 }
 
 // What the lamp gives: whether the list of the same texts has a row, or a refusal.
-#[derive(Drop)]
+#[derive(Clone, Copy)]
 pub enum LampShown {
     Yes,
     No,

@@ -20,7 +20,7 @@ use rules_tables::{RULES_WORDS, RulesCounts};
 mod needed; // needed.rt: reading a text, if it is needed
 
 // Which texts a service needs besides the book. A text that is not needed is not read.
-#[derive(Drop)]
+#[derive(Clone, Copy)]
 pub struct Needs {
     pub rules: bool,
     pub query: bool,
@@ -28,7 +28,7 @@ pub struct Needs {
 }
 
 // What is ready: the counts of the tables in which book and rules stand, and the request; its verdict is that of all texts that are needed.
-#[derive(Drop)]
+#[derive(Clone, Copy)]
 pub struct Ready {
     pub book: BookCounts,
     pub rules: RulesCounts,

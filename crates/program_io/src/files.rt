@@ -14,14 +14,14 @@ pub const QUERY_ROOM: usize = MAX_QUERY_BYTES + 1;
 pub const REQUEST_ROOM: usize = MAX_REQUEST_BYTES + 1;
 
 // A file's bytes in front of a buffer: how many, and whether they are the whole file, or as much of it as the buffer takes.
-#[derive(Drop)]
+#[derive(Clone, Copy)]
 pub struct FileRead {
     pub length: usize,
     pub whole: bool,
 }
 
 // The bytes of a folder's four texts in front of their buffers: how many of each, and whether they are the whole files.
-#[derive(Drop)]
+#[derive(Clone, Copy)]
 pub struct TextsRead {
     pub book: usize,
     pub rules: usize,

@@ -6,7 +6,7 @@ pub mod bytes; // bytes.rt: putting bytes, texts and names
 pub mod values; // values.rt: putting numbers, texts in apostrophes and truth values
 
 // What writing a text gives: its length, or that it does not fit.
-#[derive(Drop)]
+#[derive(Clone, Copy)]
 pub enum Written {
     Length(usize),
     TooLong,

@@ -23,7 +23,7 @@ use query_pieces::Demand;
 use text::parts;
 
 // The conditions found so far, in the order of the text.
-#[derive(Drop)]
+#[derive(Clone, Copy)]
 pub struct Clauses {
     pub clauses: [Clause; MAX_CONDITIONS],
     pub count: usize,

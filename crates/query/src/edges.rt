@@ -16,7 +16,7 @@ use query_survey::scan;
 use text::parts;
 
 // The edges found so far, in the order of the text.
-#[derive(Drop)]
+#[derive(Clone, Copy)]
 pub struct Edges {
     pub edges: [Edge; MAX_EDGES],
     pub count: usize,

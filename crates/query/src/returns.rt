@@ -5,7 +5,7 @@ ghost use Rattle.query.specs.Returns.{no_returns};
 use model::limits::MAX_RETURNS;
 
 // The numbers of the returned vertices found so far, in the order of the text.
-#[derive(Drop)]
+#[derive(Clone, Copy)]
 pub struct Returns {
     pub numbers: [usize; MAX_RETURNS],
     pub count: usize,

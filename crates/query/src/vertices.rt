@@ -10,7 +10,7 @@ use model::limits::MAX_VERTICES;
 use query_survey::scan;
 
 // The vertices found so far, by first appearance.
-#[derive(Drop)]
+#[derive(Clone, Copy)]
 pub struct Vertices {
     pub parts: [Part; MAX_VERTICES],
     pub count: usize,

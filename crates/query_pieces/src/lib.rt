@@ -6,7 +6,7 @@ pub mod spots;
 use model::{Part, Relation, Value};
 
 // Where a piece may stand: at the beginning, behind a chain, behind a condition, behind a returned name.
-#[derive(Drop)]
+#[derive(Clone, Copy)]
 pub enum Spot {
     AtStart,
     InChain,
@@ -15,7 +15,7 @@ pub enum Spot {
 }
 
 // A place of the text between two pieces; close: a word or a number ends just before it.
-#[derive(Drop)]
+#[derive(Clone, Copy)]
 pub struct Place {
     pub at: usize,
     pub close: bool,
@@ -23,7 +23,7 @@ pub struct Place {
 }
 
 // An edge variable, its label, and the vertex behind it.
-#[derive(Drop)]
+#[derive(Clone, Copy)]
 pub struct Link {
     pub edge: Part,
     pub label: Part,
@@ -31,7 +31,7 @@ pub struct Link {
 }
 
 // A variable, the attribute that is asked of it, the relation and the value.
-#[derive(Drop)]
+#[derive(Clone, Copy)]
 pub struct Demand {
     pub subject: Part,
     pub attribute: Part,
@@ -40,7 +40,7 @@ pub struct Demand {
 }
 
 // A piece of the text. Of a link it is told whether it points to its own vertex or to the one before.
-#[derive(Drop)]
+#[derive(Clone, Copy)]
 pub enum Piece {
     Start(Part),
     Linked(bool, Link),
@@ -50,14 +50,14 @@ pub enum Piece {
 }
 
 // A piece, and the place behind it.
-#[derive(Drop)]
+#[derive(Clone, Copy)]
 pub struct Step {
     pub piece: Piece,
     pub next: Place,
 }
 
 // The piece at a place; or none, and whether the text ends there as it may.
-#[derive(Drop)]
+#[derive(Clone, Copy)]
 pub enum PieceRead {
     Found(Step),
     None(bool),

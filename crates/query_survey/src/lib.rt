@@ -9,7 +9,7 @@ pub mod tallies;
 use model::Part;
 
 // The kinds of names in pieces: a vertex, an edge variable, a returned name.
-#[derive(Drop)]
+#[derive(Clone, Copy)]
 pub enum Which {
     Vertex,
     Edge,
@@ -17,14 +17,14 @@ pub enum Which {
 }
 
 // The name of a kind in a piece, if it has one.
-#[derive(Drop)]
+#[derive(Clone, Copy)]
 pub enum NameOf {
     Is(Part),
     None,
 }
 
 // What is known behind some pieces of a text: which of the faults 4, 5, 6 and 8 a piece showed, and how many more of each kind would pass a limit.
-#[derive(Drop)]
+#[derive(Clone, Copy)]
 pub struct Survey {
     pub undeclared: bool,
     pub twice: bool,
@@ -38,7 +38,7 @@ pub struct Survey {
 }
 
 // How many names each of the three tables lists: vertices, edge variables, returned names.
-#[derive(Drop)]
+#[derive(Clone, Copy)]
 pub struct Met {
     pub vertices: usize,
     pub edges: usize,
@@ -46,7 +46,7 @@ pub struct Met {
 }
 
 // What a book says of an attribute: whether it is declared, and whether with a type that has a relation and a value.
-#[derive(Drop)]
+#[derive(Clone, Copy)]
 pub struct AttrSeen {
     pub known: bool,
     pub typed: bool,

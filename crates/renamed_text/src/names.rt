@@ -9,7 +9,7 @@ use book_tables::{BookCounts, names};
 
 // How far a text has been read and how far it is put, and the place in the buffer behind what is put. What has been read without a `_b` waits to be put,
 // so that it is put at once.
-#[derive(Drop)]
+#[derive(Clone, Copy)]
 pub struct Progress {
     pub seen: usize,
     pub put: usize,

@@ -4,7 +4,7 @@ ghost use Rattle.text.specs.Places.{past};
 ghost use Rattle.renamed_text.specs.Words.{is_between, FirstWord, LineWord};
 
 // Where a word starts and ends.
-#[derive(Drop)]
+#[derive(Clone, Copy)]
 pub struct Word {
     pub start: usize,
     pub end: usize,

@@ -9,7 +9,7 @@ use model::limits::MAX_IDENTITIES;
 use model::{Identity, Part};
 
 // What a line's identities say: the lowest fault of the line, 0 being none, and without a fault the identities, of which so many are counted.
-#[derive(Drop)]
+#[derive(Clone, Copy)]
 pub struct Identities {
     pub fault: u32,
     pub list: [Identity; MAX_IDENTITIES],
@@ -17,7 +17,7 @@ pub struct Identities {
 }
 
 // (id ACTOR NODE): where its two names stand, and the place behind; or that none follows.
-#[derive(Drop)]
+#[derive(Clone, Copy)]
 pub enum ClaimAt {
     At {
         actor: Part,

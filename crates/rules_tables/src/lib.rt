@@ -31,7 +31,7 @@ pub const POLICY_WORDS: usize = 3;
 pub const RULES_WORDS: usize = 512;
 
 // How many of each the tables hold.
-#[derive(Drop)]
+#[derive(Clone, Copy)]
 pub struct RulesCounts {
     pub categories: usize,
     pub policies: usize,

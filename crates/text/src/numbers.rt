@@ -12,7 +12,7 @@ pub const BIAS: u64 = 9223372036854775808;
 const BIAS_TENTH: u64 = 922337203685477580;
 
 // What digits write, and where they end; or that they write more than 2^63.
-#[derive(Drop)]
+#[derive(Clone, Copy)]
 pub enum Magnitude {
     Value(u64, usize),
     TooLarge,

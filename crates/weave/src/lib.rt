@@ -16,7 +16,7 @@ mod marks;
 mod ties;
 
 // What weaving one text more gives: the counts of the woven pattern, or that it passes a limit (12).
-#[derive(Drop)]
+#[derive(Clone, Copy)]
 pub enum PatternAdded {
     Woven(WovenCounts),
     Passed,

@@ -30,7 +30,7 @@ pub const OF_VERTEX: usize = 1;
 const OF_EDGE: usize = 2;
 
 // A value in words: 0, a whole number in two halves; 1, a text by its start and length; 2, a truth value.
-#[derive(Drop)]
+#[derive(Clone, Copy)]
 struct ClauseValue {
     kind: usize,
     high: u32,
@@ -38,7 +38,7 @@ struct ClauseValue {
 }
 
 // A clause in words.
-#[derive(Drop)]
+#[derive(Clone, Copy)]
 struct ClauseWords {
     what: u32,
     high: u32,

@@ -7,7 +7,7 @@ pub mod returns;
 pub mod vertices;
 
 // How many of each the woven pattern has.
-#[derive(Drop)]
+#[derive(Clone, Copy)]
 pub struct WovenCounts {
     pub vertices: usize,
     pub edges: usize,

@@ -8,14 +8,14 @@ use model::Part;
 use model::limits::{MAX_VERTICES, MAX_WOVEN_VERTICES};
 
 // Where a vertex has its place, and how many vertices there are then: past the limit where there is no room.
-#[derive(Drop)]
+#[derive(Clone, Copy)]
 pub struct Placed {
     pub at: usize,
     pub count: usize,
 }
 
 // The woven numbers of a text's vertices, and how many vertices there are then: past the limit where there is no room.
-#[derive(Drop)]
+#[derive(Clone, Copy)]
 pub struct Numbers {
     pub numbers: [usize; MAX_VERTICES],
     pub count: usize,
