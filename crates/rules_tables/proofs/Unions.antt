@@ -6,7 +6,7 @@ use mathlib.Core.Bool.{Bool, true, false, ◌||◌}
 use lib.Dec.{eqb}
 use lib.Bits.{bit_or}
 use Rattle.bits.specs.Word.{bit, with}
-use Rattle.bits.specs.WordLaws.{bit_or, bit_zero, bit_with}
+use Rattle.bits.specs.WordLaws.{bit_of_or, bit_zero, bit_with}
 use Rattle.model.specs.Bytes.{Bytes}
 use Rattle.model.specs.Lists.{any}
 use Rattle.book_tables.specs.Listed.{listed}
@@ -34,7 +34,7 @@ module _ (text : Bytes) (words : List ℕ) (k : ℕ) where
       → ((m : ℕ) → bit set m ≡ (eqb m k || below_some text words k m (names_at text words (over_from k) i)))
       → (m : ℕ) → bit (bit_or set (lower_set words j)) m ≡ (eqb m k || below_some text words k m (names_at text words (over_from k) (i + 1)))
   union_more set i j e h m =
-      bit_or set (lower_set words j) m
+      bit_of_or set (lower_set words j) m
       ∙ rw (
         h m,
         e,

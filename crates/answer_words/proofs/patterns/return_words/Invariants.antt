@@ -1,0 +1,14 @@
+-- The vertices of all Return names. The loop's invariant: what is put so far is each place's word. The measure is what is left of them.
+use Prim.Native.Nat.{◌-◌}
+use mathlib.Core.Path.{refl}
+use native.Mathlib.Omega.{arith}
+use borrow.Author.Rules.{rules}
+use Rattle.book_tables.proofs.PutLaws.{PutSoFar, put_start, put_step, put_end}
+use Rattle.answer_words.specs.Words.{return_word, return_words}
+use Rattle.answer_words.proofs.patterns.return_words.Given as goal
+
+abbrev pub invariant-loop-k : goal.invariant-loop-k
+invariant-loop-k l = PutSoFar (return_word l.given l.count) 4 l.words l.k
+
+abbrev pub decreases-loop-k : goal.decreases-loop-k
+decreases-loop-k l = 4 - l.k

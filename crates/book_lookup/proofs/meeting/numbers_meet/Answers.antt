@@ -1,0 +1,29 @@
+-- `book_lookup::meeting::numbers_meet` meets its contract. Assumes nothing.
+use borrow.Author.Rules.{rules}
+use Rattle.model.specs.Answers.{relation_of}
+use Rattle.model.specs.Graph.{compares}
+use Rattle.book_lookup.proofs.meeting.numbers_meet.Goals as goal
+
+pub returns-in-Equal : goal.returns-in-Equal
+unfolding compares relation_of
+returns-in-Equal c = rw c.in-Equal.is
+
+pub returns-in-Differs : goal.returns-in-Differs
+unfolding compares relation_of
+returns-in-Differs c = rw c.in-Differs.is
+
+pub returns-in-Less : goal.returns-in-Less
+unfolding compares relation_of
+returns-in-Less c = rw c.in-Less.is
+
+pub returns-in-AtMost : goal.returns-in-AtMost
+unfolding compares relation_of
+returns-in-AtMost c = rw c.in-AtMost.is
+
+pub returns-in-Greater : goal.returns-in-Greater
+unfolding compares relation_of
+returns-in-Greater c = rw c.in-Greater.is
+
+pub returns-in-AtLeast : goal.returns-in-AtLeast
+unfolding compares relation_of
+returns-in-AtLeast c = rw c.in-AtLeast.is

@@ -1,0 +1,7 @@
+use Rattle.book_tables.specs.View.{book_at}
+use borrow.Author.Rules.{rules}
+use Rattle.book_tables.proofs.names.find_label.Goals as goal
+
+pub returns : goal.returns
+unfolding book_at
+returns c = c.find_name.ensures

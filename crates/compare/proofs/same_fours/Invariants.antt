@@ -1,0 +1,16 @@
+-- `compare::same_fours` meets its contract. The loop's invariant: what is left of the two texts stands as the whole texts do.
+use Rattle.compare.proofs.CompareLaws.{compare_row}
+use Rattle.model.specs.TextOrder.{byte_order}
+use native.Mathlib.Omega.{arith}
+use lib.ListN.{length, drop}
+use Prim.Native.Nat.{◌-◌, ◌≤◌}
+use mathlib.Core.Path.{◌≡◌, refl, sym, ◌∙◌}
+use borrow.Author.Rules.{rules}
+use borrow.Author.Tests.{not-false}
+use Rattle.compare.proofs.same_fours.Given as goal
+
+abbrev pub invariant-loop-i : goal.invariant-loop-i
+invariant-loop-i l = (l.i ≤ length l.a) × (l.i ≤ length l.b) × (byte_order (drop l.i l.a) (drop l.i l.b) ≡ byte_order l.a l.b)
+
+abbrev pub decreases-loop-i : goal.decreases-loop-i
+decreases-loop-i l = length l.a - l.i

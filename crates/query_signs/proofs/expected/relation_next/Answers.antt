@@ -1,0 +1,18 @@
+use Rattle.query_signs.proofs.ExpectLaws.{relation_end, relation_met}
+use Rattle.query_signs.specs.Expected.{RelationNext, relation_or}
+use Prim.Native.Nat.{ℕ}
+use mathlib.Core.Path.{sym, ap, subst, ◌∙◌}
+use borrow.Author.Rules.{rules}
+use Rattle.query_signs.proofs.expected.relation_next.Goals as goal
+
+pub returns-in_default : goal.returns-in_default
+returns-in_default c =
+    relation_end c.args.close c.args.s.now c.args.from c.next_sign.result
+    c.next_sign.ensures c.in_default.is
+
+pub returns : goal.returns
+returns c =
+    subst (λ r. RelationNext c.args.close c.args.s.now c.args.from r)
+    (sym (c.relation_or.ensures ∙ ap (λ (n : ℕ). relation_or n c.t-1.given.0.1.0) c.mark_code.ensures))
+    (relation_met c.args.close c.args.s.now c.args.from c.next_sign.result
+    c.next_sign.ensures c.t-1.given.0.0 c.t-1.given.0.1.0 c.in-Found.is)

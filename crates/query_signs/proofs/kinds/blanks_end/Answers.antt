@@ -1,0 +1,35 @@
+use Rattle.query_signs.specs.Reads.{is_blank}
+use Rattle.text.proofs.PlaceLaws.{test_in, past_step, past_stop}
+use Rattle.text.specs.Places.{past, peek_at}
+use mathlib.Core.Bool.{true}
+use native.Mathlib.Omega.{arith}
+use lib.ListN.{length}
+use Prim.Native.Nat.{◌-◌}
+use mathlib.Core.Path.{◌≡◌, refl, sym, ap, ◌∙◌}
+use borrow.Author.Rules.{rules}
+use Rattle.query_signs.proofs.kinds.blanks_end.Goals as goal
+
+passes : (c : tie.Then1 invariant-loop decreases-loop)
+    → is_blank (peek_at c.args.s.now c.loop-i.i) ≡ true
+passes c = ap is_blank (sym c.peek.ensures) ∙ sym c.is_blank.ensures ∙ c.loop-i-test.true
+
+pub loop-i-init : goal.loop-i-init
+loop-i-init c = refl
+
+pub overflow_add-i : goal.overflow_add-i
+unfolding is_blank
+overflow_add-i c = omega (arith, test_in is_blank c.args.s.now c.loop-i.i refl (passes c))
+
+pub loop-i-smaller : goal.loop-i-smaller
+unfolding is_blank
+loop-i-smaller c = omega (arith, test_in is_blank c.args.s.now c.loop-i.i refl (passes c))
+
+pub loop-i-preserved : goal.loop-i-preserved
+unfolding is_blank
+loop-i-preserved c =
+    sym (past_step is_blank c.args.s.now c.loop-i.i refl (passes c)) ∙ c.loop-i.invariant
+
+pub returns : goal.returns
+returns c =
+    sym (past_stop is_blank c.args.s.now c.loop-i.i
+    (ap is_blank (sym c.peek.ensures) ∙ sym c.is_blank.ensures ∙ c.loop-i-test.false)) ∙ c.loop-i.invariant

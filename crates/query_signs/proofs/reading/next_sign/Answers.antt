@@ -1,0 +1,52 @@
+use Rattle.query_signs.proofs.PlacedLaws.{next_found}
+use Rattle.query_signs.specs.declared.SignRead.{SignRead}
+use Rattle.query_signs.proofs.SignLaws.{none_left, sign_none, sign_close}
+use Rattle.query_signs.specs.Reads.{got_of, ReadPartAt, first_of}
+use mathlib.Core.Path.{sym, ap, ◌∙◌, subst}
+use borrow.Author.Rules.{rules}
+use Rattle.query_signs.proofs.reading.next_sign.Goals as goal
+
+pub returns-then-s-at : goal.returns-then-s-at
+unfolding first_of
+returns-then-s-at c =
+    record {
+      reads = none_left c.args.chain c.args.close c.args.s.now c.args.from c.blanks_end-at.result
+          c.blanks_end-at.ensures c.if-s-at.true;
+      moves = tt;
+      inside = tt;
+      stands = λ o. tt;
+    }
+
+pub returns-in_default : goal.returns-in_default
+unfolding first_of
+returns-in_default c =
+    record {
+      reads = sign_none c.args.chain c.args.close c.args.s.now c.args.from
+          c.blanks_end-at.result c.blanks_end-at.ensures c.if-s-at.false
+          (ap (got_of c.args.s.now c.blanks_end-at.result) (sym c.in_default.is) ∙ c.sign_at.ensures.got);
+      moves = tt;
+      inside = tt;
+      stands = λ o. tt;
+    }
+
+pub returns-then-adjoins : goal.returns-then-adjoins
+unfolding first_of
+returns-then-adjoins c =
+    record {
+      reads = sign_close c.args.chain c.args.close c.args.s.now c.args.from
+          c.blanks_end-at.result c.blanks_end-at.ensures c.if-s-at.false c.t-1.given.0.0 c.t-1.given.0.1.0
+          (ap (got_of c.args.s.now c.blanks_end-at.result) (sym c.in-Found.is) ∙ c.sign_at.ensures.got)
+          (sym c.adjoins.ensures ∙ c.if-adjoins.true);
+      moves = tt;
+      inside = tt;
+      stands = λ o. tt;
+    }
+
+pub returns : goal.returns
+returns c =
+    next_found c.args.chain c.args.close c.args.s.now c.args.from c.blanks_end-at.result
+    c.blanks_end-at.ensures c.if-s-at.false c.t-1.given.0.0 c.t-1.given.0.1.0
+    (ap (got_of c.args.s.now c.blanks_end-at.result) (sym c.in-Found.is) ∙ c.sign_at.ensures.got)
+    (sym c.adjoins.ensures ∙ c.if-adjoins.false)
+    (subst (λ (r : SignRead). ReadPartAt c.args.s.now c.blanks_end-at.result r) c.in-Found.is
+    c.sign_at.ensures.part)

@@ -1,0 +1,20 @@
+-- `rules_tables::policies::policy_place` meets its contract. Assumes nothing.
+use Prim.Native.Nat.{◌+◌, ◌≤◌, ◌-◌, ◌*◌}
+use mathlib.Core.Bool.{false}
+use mathlib.Core.Path.{◌≡◌, sym}
+use native.Mathlib.Omega.{arith}
+use lib.Dec.{eqb}
+use borrow.Author.Tests.{eq-eqb, ne_eqb}
+use borrow.Author.Rules.{rules}
+use Rattle.model.specs.Lists.{any}
+use Rattle.rules_tables.specs.Enforced.{policy_place}
+use Rattle.rules_tables.specs.View.{policy_category}
+use Rattle.book_tables.proofs.ListedLaws.{scan_none, scan_on, scan_place, scan_absent}
+use Rattle.book_tables.specs.Listed.{listed}
+use Rattle.rules_tables.proofs.policies.policy_place.Given as goal
+
+abbrev pub invariant-loop-i : goal.invariant-loop-i
+invariant-loop-i l = (l.i ≤ l.count) × (any (λ w. eqb w l.m) (listed (policy_category l.words) l.i) ≡ false)
+
+abbrev pub decreases-loop-i : goal.decreases-loop-i
+decreases-loop-i l = l.count - l.i

@@ -1,0 +1,25 @@
+-- `text::quotes::text_end` meets its contract. The loop's invariant: the run from i on ends where the one from the start ends.
+use Rattle.text.proofs.PlaceLaws.{past_step_in, past_stop_in, past_end}
+use Rattle.text.specs.Places.{past, is_in_text}
+use borrow.Author.Tests.{not-true, not-false}
+use lib.ListN.{length}
+use Prim.Native.Nat.{◌-◌}
+use mathlib.Core.Path.{◌≡◌, refl, sym, ◌∙◌}
+use borrow.Author.Rules.{rules}
+use Rattle.text.proofs.quotes.text_end.Goals as goal
+
+pub loop-i-init : goal.loop-i-init
+loop-i-init c = refl
+
+pub returns-then-not-in_text : goal.returns-then-not-in_text
+returns-then-not-in_text c =
+    sym (past_stop_in is_in_text c.args.s.now c.loop-i.i c.loop-i-test.true
+    (sym c.in_text.ensures ∙ c.if-not-in_text.true)) ∙ c.loop-i.invariant
+
+pub loop-i-preserved : goal.loop-i-preserved
+loop-i-preserved c =
+    sym (past_step_in is_in_text c.args.s.now c.loop-i.i c.loop-i-test.true
+    (sym c.in_text.ensures ∙ c.if-not-in_text.false)) ∙ c.loop-i.invariant
+
+pub returns : goal.returns
+returns c = sym (past_end is_in_text c.args.s.now c.loop-i.i c.loop-i-test.false) ∙ c.loop-i.invariant

@@ -1,0 +1,14 @@
+-- `add_clauses` meets its contract. The loop's invariant: the first i clauses are woven. Assumes nothing.
+use Rattle.woven_tables.proofs.ClauseTable.{ClausesSoFar, clauses_start, clauses_more}
+use Rattle.woven_tables.specs.ClauseSteps.{ClausesAdded}
+use lib.ListN.{length, length-set}
+use native.Mathlib.Omega.{arith}
+use mathlib.Core.Path.{◌≡◌, subst}
+use Prim.Native.Nat.{◌-◌, ◌≤◌}
+use Rattle.woven_tables.proofs.clauses.add_clauses.Given as goal
+
+abbrev pub invariant-loop-i : goal.invariant-loop-i
+invariant-loop-i l = (l.i ≤ l.count) × ClausesSoFar l.base l.k l.clauses l.i l.numbers l.before l.initial.words l.words l.woven
+
+abbrev pub decreases-loop-i : goal.decreases-loop-i
+decreases-loop-i l = l.count - l.i

@@ -1,0 +1,22 @@
+-- `is_actor` meets its contract: none of the names passed is the vertex's. Assumes nothing.
+use Rattle.woven_tables.specs.Tables.{name_of, actors_at}
+use Rattle.book_tables.specs.View.{name_in}
+use Rattle.book_tables.proofs.ListedLaws.{scan_none, scan_on, scan_found}
+use Rattle.book_tables.specs.Listed.{listed}
+use Rattle.model.specs.Names.{mem}
+use Rattle.model.specs.Lists.{any}
+use Rattle.model.specs.Bytes.{same}
+use Rattle.model.specs.Answers.{name_at}
+use lib.ListN.{get_or}
+use native.Mathlib.Omega.{arith}
+use Prim.Native.Nat.{◌-◌, ◌≤◌}
+use mathlib.Core.Bool.{false}
+use mathlib.Core.Path.{◌≡◌, sym, ap, ◌∙◌}
+use borrow.Author.Rules.{rules}
+use Rattle.woven_tables.proofs.names.is_actor.Given as goal
+
+abbrev pub invariant-loop-i : goal.invariant-loop-i
+invariant-loop-i l = (l.i ≤ l.count) × (any (same (name_of l.query l.rules l.word)) (listed (λ j. name_in l.rules (get_or l.actors j 0)) l.i) ≡ false)
+
+abbrev pub decreases-loop-i : goal.decreases-loop-i
+decreases-loop-i l = l.count - l.i

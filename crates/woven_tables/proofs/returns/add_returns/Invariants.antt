@@ -1,0 +1,15 @@
+-- `add_returns` meets its contract. The loop's invariant: the first i Return vertices are stored. Assumes nothing.
+use Rattle.woven_tables.proofs.ReturnLaws.{ReturnsSoFar, returns_start, returns_more}
+use Rattle.woven_tables.specs.Steps.{ReturnsAdded}
+use lib.ListN.{length}
+use native.Mathlib.Omega.{arith}
+use mathlib.Core.Path.{◌≡◌, subst}
+use Prim.Native.Nat.{◌-◌, ◌≤◌}
+use borrow.Author.Rules.{rules}
+use Rattle.woven_tables.proofs.returns.add_returns.Given as goal
+
+abbrev pub invariant-loop-i : goal.invariant-loop-i
+invariant-loop-i l = (l.i ≤ l.count) × ReturnsSoFar l.returns l.i l.numbers l.initial.words l.words
+
+abbrev pub decreases-loop-i : goal.decreases-loop-i
+decreases-loop-i l = l.count - l.i
