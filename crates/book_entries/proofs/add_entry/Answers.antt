@@ -15,8 +15,8 @@ pub likely_next-likely-requires : goal.likely_next-likely-requires
 likely_next-likely-requires c =
     (c.requires.fits.room, c.requires.fits.within.entries, c.requires.counted)
 
-pub OLD-slice-bounds-find-likely-end : goal.OLD-slice-bounds-find-likely-end
-OLD-slice-bounds-find-likely-end c = omega (arith, c.requires.name_inside)
+pub slice_bounds-find_likely-end : goal.slice_bounds-find_likely-end
+slice_bounds-find_likely-end c = omega (arith, c.requires.name_inside)
 
 pub find_likely-attribute-requires : goal.find_likely-attribute-requires
 find_likely-attribute-requires c =

@@ -45,8 +45,8 @@ overflow_cast-word c =
 pub overflow_add-end : goal.overflow_add-end
 overflow_add-end c = omega (arith, c.type_inv.table (c.words_from-words.result + (c.loop-entry.entry - 1)))
 
-pub OLD-slice-bounds-same-bytes-end : goal.OLD-slice-bounds-same-bytes-end
-OLD-slice-bounds-same-bytes-end c =
+pub slice_bounds-same_bytes-end : goal.slice_bounds-same_bytes-end
+slice_bounds-same_bytes-end c =
     let l = c.loop-entry in
     let i = names_inside c.args.s.now c.args.table.now c.args.n c.requires c.args.name.now l.entry c.loop-entry-test.true l.invariant in
     omega (arith, c.requires.inside (l.entry - 1) i, ap (λ p. word_at c.args.table.now (p + (l.entry - 1))) c.words_from-words.ensures)

@@ -4,4 +4,4 @@ use borrow.Author.Rules.{rules}
 use Rattle.answer_words.proofs.conditions.requirement_row.Goals as goal
 
 pub returns : goal.returns
-returns c = row_of_requirement _ _ c.args.requirement _ _ c.relation_word-number.ensures c.Value-row.ensures
+returns c = row_of_requirement _ _ c.args.requirement _ _ c.relation_word-number.ensures c.value_row-row.ensures

@@ -4,7 +4,7 @@ use borrow.Author.Rules.{rules}
 use Rattle.answer_words.proofs.patterns.return_word.Goals as goal
 
 pub returns-then-count-k : goal.returns-then-count-k
-returns-then-count-k c = past_returns c.args.t1 _ _ c.if-count-k.true
+returns-then-count-k c = past_returns c.args.given _ _ c.if-count-k.true
 
 pub returns : goal.returns
-returns c = in_returns c.args.t1 _ _ c.if-count-k.false
+returns c = in_returns c.args.given _ _ c.if-count-k.false

@@ -14,8 +14,8 @@ pub overflow_add-start : goal.overflow_add-start
 overflow_add-start c =
     omega (arith, subst (ValueInside c.args.text.now) c.in-Text.is c.requires.1)
 
-pub OLD-slice-bounds-entry-meets-text-end : goal.OLD-slice-bounds-entry-meets-text-end
-OLD-slice-bounds-entry-meets-text-end c =
+pub slice_bounds-entry_meets_text-end : goal.slice_bounds-entry_meets_text-end
+slice_bounds-entry_meets_text-end c =
     omega (arith, subst (ValueInside c.args.text.now) c.in-Text.is c.requires.1)
 
 pub returns-in-Number : goal.returns-in-Number

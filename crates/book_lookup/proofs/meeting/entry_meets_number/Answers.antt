@@ -15,4 +15,4 @@ number_of-requires c = record { room = c.requires; is = kind_ints _ (sym c.kind_
 
 pub returns : goal.returns
 unfolding in_relation
-returns c = λ book. rw (c.number_of_lem.ensures book) c.numbers_meet.ensures
+returns c = λ book. rw (c.number_of.ensures book) c.numbers_meet.ensures

@@ -16,4 +16,4 @@ truth_of-requires c = record { room = c.requires; is = kind_bools _ (omega (arit
 
 pub returns : goal.returns
 unfolding in_relation
-returns c = λ book. rw (c.truth_of.ensures book) c.same_Meets.ensures
+returns c = λ book. rw (c.truth_of.ensures book) c.same_meets.ensures

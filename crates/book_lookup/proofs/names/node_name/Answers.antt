@@ -14,8 +14,8 @@ overflow_cast-word c = omega (arith, c.type_inv.words (node_names + c.args.node)
 pub overflow_add-end : goal.overflow_add-end
 overflow_add-end c = omega (arith, c.type_inv.words (node_names + c.args.node))
 
-pub OLD-slice-bounds-result-end : goal.OLD-slice-bounds-result-end
-OLD-slice-bounds-result-end c = omega (arith, c.requires.fits.nodes.inside c.args.node c.requires.counted)
+pub slice_bounds-result-end : goal.slice_bounds-result-end
+slice_bounds-result-end c = omega (arith, c.requires.fits.nodes.inside c.args.node c.requires.counted)
 
 pub returns : goal.returns
 returns c = let a = c.args in

@@ -6,8 +6,8 @@ use Rattle.model.specs.Values.{str}
 use Rattle.book_lookup.proofs.ValueLaws.{text_value, part_between}
 use Rattle.book_lookup.proofs.values.text_of.Goals as goal
 
-pub OLD-slice-bounds-result-end : goal.OLD-slice-bounds-result-end
-OLD-slice-bounds-result-end c =
+pub slice_bounds-result-end : goal.slice_bounds-result-end
+slice_bounds-result-end c =
     let a = c.args in omega (arith, c.requires.0.inside (text_value a.book.now a.words.now a.entry c.requires.1.is).0)
 
 pub returns : goal.returns

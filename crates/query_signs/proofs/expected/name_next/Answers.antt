@@ -24,7 +24,7 @@ pub returns-then-touches : goal.returns-then-touches
 returns-then-touches c =
     name_close c.args.chain c.args.close c.args.s.now c.args.from c.blanks_end-at.result
     c.blanks_end-at.ensures (ap is_letter (sym c.peek.ensures) ∙ sym c.is_letter.ensures
-    ∙ c.if-not-is_letter.false) c.q-1.given.0.0
+    ∙ c.if-not-is_letter.false) c.in-At.q
     (sym c.in-At.is ∙ c.word.ensures) (sym c.touches.ensures ∙ c.if-touches.true)
 
 pub slice_bounds-is_query_name-count : goal.slice_bounds-is_query_name-count
@@ -34,29 +34,29 @@ slice_bounds-is_query_name-count c =
       name_within c.args.chain c.args.close c.args.s.now c.args.from
           c.blanks_end-at.result c.blanks_end-at.ensures
           (ap is_letter (sym c.peek.ensures) ∙ sym c.is_letter.ensures
-          ∙ c.if-not-is_letter.false) c.q-1.given.0.0
+          ∙ c.if-not-is_letter.false) c.in-At.q
           (sym c.in-At.is ∙ c.word.ensures),
     )
 
-pub OLD-slice-bounds-is-query-name-start : goal.OLD-slice-bounds-is-query-name-start
-OLD-slice-bounds-is-query-name-start c =
+pub slice_bounds-is_query_name-start : goal.slice_bounds-is_query_name-start
+slice_bounds-is_query_name-start c =
     omega (
       arith,
       name_within c.args.chain c.args.close c.args.s.now c.args.from
           c.blanks_end-at.result c.blanks_end-at.ensures
           (ap is_letter (sym c.peek.ensures) ∙ sym c.is_letter.ensures
-          ∙ c.if-not-is_letter.false) c.q-1.given.0.0
+          ∙ c.if-not-is_letter.false) c.in-At.q
           (sym c.in-At.is ∙ c.word.ensures),
     )
 
-pub OLD-slice-bounds-is-query-name-end : goal.OLD-slice-bounds-is-query-name-end
-OLD-slice-bounds-is-query-name-end c =
+pub slice_bounds-is_query_name-end : goal.slice_bounds-is_query_name-end
+slice_bounds-is_query_name-end c =
     omega (
       arith,
       name_within c.args.chain c.args.close c.args.s.now c.args.from
           c.blanks_end-at.result c.blanks_end-at.ensures
           (ap is_letter (sym c.peek.ensures) ∙ sym c.is_letter.ensures
-          ∙ c.if-not-is_letter.false) c.q-1.given.0.0
+          ∙ c.if-not-is_letter.false) c.in-At.q
           (sym c.in-At.is ∙ c.word.ensures),
     )
 
@@ -67,7 +67,7 @@ overflow_sub-result c =
       name_within c.args.chain c.args.close c.args.s.now c.args.from
           c.blanks_end-at.result c.blanks_end-at.ensures
           (ap is_letter (sym c.peek.ensures) ∙ sym c.is_letter.ensures
-          ∙ c.if-not-is_letter.false) c.q-1.given.0.0 (sym c.in-At.is ∙ c.word.ensures),
+          ∙ c.if-not-is_letter.false) c.in-At.q (sym c.in-At.is ∙ c.word.ensures),
     )
 
 pub returns-then-is_query_name : goal.returns-then-is_query_name
@@ -75,7 +75,7 @@ unfolding part_of
 returns-then-is_query_name c =
     name_found c.args.chain c.args.close c.args.s.now c.args.from c.blanks_end-at.result
     c.blanks_end-at.ensures (ap is_letter (sym c.peek.ensures) ∙ sym c.is_letter.ensures
-    ∙ c.if-not-is_letter.false) c.q-1.given.0.0 (sym c.in-At.is ∙ c.word.ensures)
+    ∙ c.if-not-is_letter.false) c.in-At.q (sym c.in-At.is ∙ c.word.ensures)
     (sym c.touches.ensures ∙ c.if-touches.false) (sym c.is_query_name.ensures ∙ c.if-is_query_name.true)
 
 pub returns : goal.returns
@@ -83,5 +83,5 @@ unfolding part_of
 returns c =
     name_reserved c.args.chain c.args.close c.args.s.now c.args.from c.blanks_end-at.result
     c.blanks_end-at.ensures (ap is_letter (sym c.peek.ensures) ∙ sym c.is_letter.ensures
-    ∙ c.if-not-is_letter.false) c.q-1.given.0.0 (sym c.in-At.is ∙ c.word.ensures)
+    ∙ c.if-not-is_letter.false) c.in-At.q (sym c.in-At.is ∙ c.word.ensures)
     (sym c.touches.ensures ∙ c.if-touches.false) (sym c.is_query_name.ensures ∙ c.if-is_query_name.false)

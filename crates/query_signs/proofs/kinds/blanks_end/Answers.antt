@@ -9,25 +9,21 @@ use mathlib.Core.Path.{◌≡◌, refl, sym, ap, ◌∙◌}
 use borrow.Author.Rules.{rules}
 use Rattle.query_signs.proofs.kinds.blanks_end.Goals as goal
 
-passes : (c : tie.Then1 invariant-loop decreases-loop)
-    → is_blank (peek_at c.args.s.now c.loop-i.i) ≡ true
-passes c = ap is_blank (sym c.peek.ensures) ∙ sym c.is_blank.ensures ∙ c.loop-i-test.true
-
 pub loop-i-init : goal.loop-i-init
 loop-i-init c = refl
 
 pub overflow_add-i : goal.overflow_add-i
 unfolding is_blank
-overflow_add-i c = omega (arith, test_in is_blank c.args.s.now c.loop-i.i refl (passes c))
+overflow_add-i c = omega (arith, test_in is_blank c.args.s.now c.loop-i.i refl (ap is_blank (sym c.peek.ensures) ∙ sym c.is_blank.ensures ∙ c.loop-i-test.true))
 
 pub loop-i-smaller : goal.loop-i-smaller
 unfolding is_blank
-loop-i-smaller c = omega (arith, test_in is_blank c.args.s.now c.loop-i.i refl (passes c))
+loop-i-smaller c = omega (arith, test_in is_blank c.args.s.now c.loop-i.i refl (ap is_blank (sym c.peek.ensures) ∙ sym c.is_blank.ensures ∙ c.loop-i-test.true))
 
 pub loop-i-preserved : goal.loop-i-preserved
 unfolding is_blank
 loop-i-preserved c =
-    sym (past_step is_blank c.args.s.now c.loop-i.i refl (passes c)) ∙ c.loop-i.invariant
+    sym (past_step is_blank c.args.s.now c.loop-i.i refl (ap is_blank (sym c.peek.ensures) ∙ sym c.is_blank.ensures ∙ c.loop-i-test.true)) ∙ c.loop-i.invariant
 
 pub returns : goal.returns
 returns c =

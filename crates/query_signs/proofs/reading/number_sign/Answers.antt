@@ -10,7 +10,7 @@ returns-in_default c =
 pub returns : goal.returns
 returns c =
     record {
-      got = whole_found c.args.s.now c.args.at c.n-1.given.0.0 c.n-1.given.0.1.0
+      got = whole_found c.args.s.now c.args.at c.in-Number.n c.in-Number.n.0
           (sym c.in-Number.is ∙ c.whole.ensures);
       part = tt;
     }

@@ -13,7 +13,7 @@ pub overflow_sub-result : goal.overflow_sub-result
 overflow_sub-result c =
     omega (
       arith,
-      text_behind c.args.s.now c.args.at c.q-1.given.0.0
+      text_behind c.args.s.now c.args.at c.in-At.q
           (sym c.in-At.is ∙ c.text_value.ensures),
     )
 
@@ -21,15 +21,15 @@ pub overflow_sub-result-2 : goal.overflow_sub-result-2
 overflow_sub-result-2 c =
     omega (
       arith,
-      text_behind c.args.s.now c.args.at c.q-1.given.0.0
+      text_behind c.args.s.now c.args.at c.in-At.q
           (sym c.in-At.is ∙ c.text_value.ensures),
     )
 
 pub returns : goal.returns
 returns c =
     record {
-      got = text_found c.args.s.now c.args.at c.q-1.given.0.0
+      got = text_found c.args.s.now c.args.at c.in-At.q
           (sym c.in-At.is ∙ c.text_value.ensures);
       part = text_part c.args.s.now c.args.at
-          c.q-1.given.0.0 (sym c.in-At.is ∙ c.text_value.ensures);
+          c.in-At.q (sym c.in-At.is ∙ c.text_value.ensures);
     }

@@ -10,13 +10,13 @@ returns-in_default c =
 
 pub overflow_sub-result : goal.overflow_sub-result
 overflow_sub-result c =
-    end_behind c.args.at c.q-1.given.0.0 _ (sym c.in-At.is ∙ c.word.ensures)
+    end_behind c.args.at c.in-At.q _ (sym c.in-At.is ∙ c.word.ensures)
 
 pub returns : goal.returns
 returns c =
     record {
-      got = word_found c.args.s.now c.args.at c.q-1.given.0.0
+      got = word_found c.args.s.now c.args.at c.in-At.q
           (sym c.in-At.is ∙ c.word.ensures);
       part = word_part c.args.s.now c.args.at
-          c.q-1.given.0.0 (sym c.in-At.is ∙ c.word.ensures);
+          c.in-At.q (sym c.in-At.is ∙ c.word.ensures);
     }

@@ -14,22 +14,6 @@ use Rattle.rules_tables.specs.Layout.{names, over_from}
 use Rattle.book_tables.specs.View.{name_of, names_at}
 use Rattle.rules_tables.proofs.lower.lower_set.Goals as goal
 
-ranked : (c : tie.After-find-name invariant-loop decreases-loop)
-    → c.find_name-j.result ≡ rank c.args.text.now
-    c.args.words.now c.args.k
-    (name_of c.args.text.now
-    c.args.words.now
-    (over_from c.args.k) c.loop-i.i)
-unfolding name_of
-ranked c =
-    c.find_name-j.ensures ∙ ap (λ (w : Bytes). place w (names_at c.args.text.now c.args.words.now names c.args.k))
-    c.name_at-name.ensures
-
-earlier : (c : tie.After-find-name invariant-loop decreases-loop) → c.find_name-j.result < 16
-earlier c =
-    let e = ranked c in let h = c.requires.earlier c.loop-i.i c.loop-i-test.true in
-    omega (arith, c.requires.few)
-
 pub with-set-requires : goal.with-set-requires
 with-set-requires c = omega (arith, c.requires.few)
 
@@ -58,26 +42,26 @@ find_name-j-requires c =
     (c.requires.named, omega (arith, c.requires.few, c.requires.room))
 
 pub overflow_mul-set : goal.overflow_mul-set
-overflow_mul-set c = omega (arith, earlier c)
+overflow_mul-set c = omega (arith, (let e = (c.find_name-j.ensures ∙ ap (λ (w : Bytes). place w (names_at c.args.text.now c.args.words.now names c.args.k)) c.name_at-name.ensures) in let h = c.requires.earlier c.loop-i.i c.loop-i-test.true in omega (arith, c.requires.few)))
 
 pub overflow_add-set : goal.overflow_add-set
-overflow_add-set c = omega (arith, earlier c)
+overflow_add-set c = omega (arith, (let e = (c.find_name-j.ensures ∙ ap (λ (w : Bytes). place w (names_at c.args.text.now c.args.words.now names c.args.k)) c.name_at-name.ensures) in let h = c.requires.earlier c.loop-i.i c.loop-i-test.true in omega (arith, c.requires.few)))
 
 pub overflow_add-set-in-loop-i : goal.overflow_add-set-in-loop-i
-overflow_add-set-in-loop-i c = omega (arith, earlier c)
+overflow_add-set-in-loop-i c = omega (arith, (let e = (c.find_name-j.ensures ∙ ap (λ (w : Bytes). place w (names_at c.args.text.now c.args.words.now names c.args.k)) c.name_at-name.ensures) in let h = c.requires.earlier c.loop-i.i c.loop-i-test.true in omega (arith, c.requires.few)))
 
 pub offset_bounds-words-j : goal.offset_bounds-words-j
-offset_bounds-words-j c = omega (arith, earlier c)
+offset_bounds-words-j c = omega (arith, (let e = (c.find_name-j.ensures ∙ ap (λ (w : Bytes). place w (names_at c.args.text.now c.args.words.now names c.args.k)) c.name_at-name.ensures) in let h = c.requires.earlier c.loop-i.i c.loop-i-test.true in omega (arith, c.requires.few)))
 
 pub bounds-words-j : goal.bounds-words-j
-bounds-words-j c = omega (arith, earlier c, c.requires.room)
+bounds-words-j c = omega (arith, (let e = (c.find_name-j.ensures ∙ ap (λ (w : Bytes). place w (names_at c.args.text.now c.args.words.now names c.args.k)) c.name_at-name.ensures) in let h = c.requires.earlier c.loop-i.i c.loop-i-test.true in omega (arith, c.requires.few)), c.requires.room)
 
 pub loop-i-preserved : goal.loop-i-preserved
 loop-i-preserved c =
     (
       omega arith,
       union_more c.args.text.now c.args.words.now c.args.k c.loop-i.set c.loop-i.i
-          c.find_name-j.result (ranked c) c.loop-i.invariant.1,
+          c.find_name-j.result (c.find_name-j.ensures ∙ ap (λ (w : Bytes). place w (names_at c.args.text.now c.args.words.now names c.args.k)) c.name_at-name.ensures) c.loop-i.invariant.1,
     )
 
 pub returns : goal.returns
