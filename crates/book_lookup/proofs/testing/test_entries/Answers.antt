@@ -6,6 +6,8 @@ use native.Mathlib.Omega.{arith}
 use borrow.Author.Rules.{rules}
 use Rattle.book_tables.specs.View.{start_part, count_part}
 use Rattle.book_lookup.specs.Entries.{seek}
+use Rattle.model.specs.Answers.{relation_of, value_of}
+use mathlib.Core.Bool.{false}
 use Rattle.book_lookup.proofs.SeekLaws.{seek_begins, seek_passes, seek_finds, seek_ends}
 use Rattle.book_lookup.proofs.FoundLaws.{found_answer, absent_answer}
 use Rattle.book_lookup.proofs.testing.test_entries.Goals as goal
@@ -32,9 +34,11 @@ returns-then-is_of c =
     let a = c.args in
     let below = c.loop-i-test.true in
     let told = c.test_own.ensures in
-    rw told.looked (found_answer a.book.now a.words.now _ _ (start_part a.entries) (count_part a.entries) _ _ _ _
+    let p = found_answer a.book.now a.words.now (relation_of a.relation) (value_of a.text.now a.value) (start_part a.entries) (count_part a.entries) _
+    c.test_own.result.met (loop.i + 1) _
     (loop.invariant.1 ∙ seek_finds a.words.now a.attribute (start_part a.entries) (count_part a.entries) loop.i (omega arith)
-    (sym c.is_of.ensures ∙ c.if-is_of.true)) (omega arith) told.0)
+    (sym c.is_of.ensures ∙ c.if-is_of.true)) (omega arith) told.met in
+    rw told.looked (record { met = p.0; looked = p.1 })
 
 pub is_of-requires-in-loop-i : goal.is_of-requires-in-loop-i
 is_of-requires-in-loop-i c =
@@ -54,11 +58,13 @@ returns-then-is_of-2 c =
     let below = c.loop-i-test.true in
     let told = c.test_own-then-is_of-2.ensures in
     let place = next (start_part a.entries) loop.i in
-    rw told.looked (found_answer a.book.now a.words.now _ _ (start_part a.entries) (count_part a.entries) _ _ _ _
+    let p = found_answer a.book.now a.words.now (relation_of a.relation) (value_of a.text.now a.value) (start_part a.entries) (count_part a.entries) _
+    c.test_own-then-is_of-2.result.met (loop.i + 2) _
     (loop.invariant.1 ∙ seek_passes a.words.now a.attribute (start_part a.entries) (count_part a.entries) loop.i (omega arith)
     (sym c.is_of.ensures ∙ c.if-is_of.false)
     ∙ seek_finds a.words.now a.attribute (start_part a.entries) (count_part a.entries) (loop.i + 1) (omega arith)
-    (rw (← place) (sym c.is_of-in-loop-i.ensures ∙ c.if-is_of-2.true))) (omega arith) (rw (← place) told.0))
+    (rw (← place) (sym c.is_of-in-loop-i.ensures ∙ c.if-is_of-2.true))) (omega arith) (rw (← place) told.met) in
+    rw told.looked (record { met = p.0; looked = p.1 })
 
 pub loop-i-preserved : goal.loop-i-preserved
 loop-i-preserved c =
@@ -90,9 +96,11 @@ returns-then-is_of-3 c =
     let below = c.if-i-count.true in
     let ended = c.loop-i-test.false in
     let told = c.test_own-then-is_of-3.ensures in
-    rw told.looked (found_answer a.book.now a.words.now _ _ (start_part a.entries) (count_part a.entries) _ _ _ _
+    let p = found_answer a.book.now a.words.now (relation_of a.relation) (value_of a.text.now a.value) (start_part a.entries) (count_part a.entries) _
+    c.test_own-then-is_of-3.result.met (count_part a.entries) _
     (loop.invariant.1 ∙ seek_finds a.words.now a.attribute (start_part a.entries) (count_part a.entries) loop.i below
-    (sym c.is_of-then-i-count.ensures ∙ c.if-is_of-3.true)) (omega arith) told.0)
+    (sym c.is_of-then-i-count.ensures ∙ c.if-is_of-3.true)) (omega arith) told.met in
+    rw told.looked (record { met = p.0; looked = p.1 })
 
 pub returns-else-is_of-3 : goal.returns-else-is_of-3
 returns-else-is_of-3 c =
@@ -100,14 +108,18 @@ returns-else-is_of-3 c =
     let a = c.args in
     let below = c.if-i-count.true in
     let ended = c.loop-i-test.false in
-    absent_answer a.book.now a.words.now _ _ (start_part a.entries) (count_part a.entries) _ _ _
+    let p = absent_answer a.book.now a.words.now (relation_of a.relation) (value_of a.text.now a.value) (start_part a.entries) (count_part a.entries) _
+    false (count_part a.entries)
     (loop.invariant.1 ∙ seek_passes a.words.now a.attribute (start_part a.entries) (count_part a.entries) loop.i below
     (sym c.is_of-then-i-count.ensures ∙ c.if-is_of-3.false)
-    ∙ seek_ends a.words.now a.attribute (start_part a.entries) (count_part a.entries) (loop.i + 1) (omega arith)) refl refl
+    ∙ seek_ends a.words.now a.attribute (start_part a.entries) (count_part a.entries) (loop.i + 1) (omega arith)) refl refl in
+    record { met = p.0; looked = p.1 }
 
 pub returns-else-i-count : goal.returns-else-i-count
 returns-else-i-count c =
     let loop = c.loop-i in
     let a = c.args in
-    absent_answer a.book.now a.words.now _ _ (start_part a.entries) (count_part a.entries) _ _ _
-    (loop.invariant.1 ∙ seek_ends a.words.now a.attribute (start_part a.entries) (count_part a.entries) loop.i c.if-i-count.false) refl refl
+    let p = absent_answer a.book.now a.words.now (relation_of a.relation) (value_of a.text.now a.value) (start_part a.entries) (count_part a.entries) _
+    false (count_part a.entries)
+    (loop.invariant.1 ∙ seek_ends a.words.now a.attribute (start_part a.entries) (count_part a.entries) loop.i c.if-i-count.false) refl refl in
+    record { met = p.0; looked = p.1 }

@@ -13,6 +13,6 @@ returns-in_default c =
 pub returns : goal.returns
 returns c =
     subst (λ r. RelationNext c.args.close c.args.s.now c.args.from r)
-    (sym (c.relation_or.ensures ∙ ap (λ (n : ℕ). relation_or n c.in-Found.t.0) c.mark_code.ensures))
+    (sym (c.relation_or.ensures ∙ ap (λ (n : ℕ). relation_or n c.in-Found.q) c.mark_code.ensures))
     (relation_met c.args.close c.args.s.now c.args.from c.next_sign.result
-    c.next_sign.ensures c.in-Found.t c.in-Found.t.0 c.in-Found.is)
+    c.next_sign.ensures c.in-Found.t c.in-Found.q c.in-Found.is)

@@ -15,29 +15,29 @@ returns-in_default c =
 pub truth_or-requires : goal.truth_or-requires
 truth_or-requires c =
     subst (ReadInside c.args.s.now)
-    (c.in-Found.is ∙ ap (λ (t : Sign). Found t c.in-Found.t.0) c.in-Word.is) c.next_sign.ensures.inside
+    (c.in-Found.is ∙ ap (λ (t : Sign). Found t c.in-Found.q) c.in-Word.is) c.next_sign.ensures.inside
 
 pub returns-in-Word : goal.returns-in-Word
 returns-in-Word c =
     subst (λ r. ValueNext c.args.close c.args.s.now c.args.from r) (sym c.truth_or.ensures)
     (value_word c.args.close c.args.s.now c.args.from c.next_sign.result
-    c.next_sign.ensures c.in-Found.t.0 c.in-Word.t
-    (c.in-Found.is ∙ ap (λ (t : Sign). Found t c.in-Found.t.0) c.in-Word.is))
+    c.next_sign.ensures c.in-Found.q c.in-Word.t
+    (c.in-Found.is ∙ ap (λ (t : Sign). Found t c.in-Found.q) c.in-Word.is))
 
 pub returns-in-Whole : goal.returns-in-Whole
 returns-in-Whole c =
     value_whole c.args.close c.args.s.now c.args.from c.next_sign.result c.next_sign.ensures
-    c.in-Found.t.0 c.in-Whole.t
-    (c.in-Found.is ∙ ap (λ (t : Sign). Found t c.in-Found.t.0) c.in-Whole.is)
+    c.in-Found.q c.in-Whole.t
+    (c.in-Found.is ∙ ap (λ (t : Sign). Found t c.in-Found.q) c.in-Whole.is)
 
 pub returns-in-Text : goal.returns-in-Text
 returns-in-Text c =
     value_text_law c.args.close c.args.s.now c.args.from c.next_sign.result c.next_sign.ensures
-    c.in-Found.t.0 c.in-Text.t
-    (c.in-Found.is ∙ ap (λ (t : Sign). Found t c.in-Found.t.0) c.in-Text.is)
+    c.in-Found.q c.in-Text.t
+    (c.in-Found.is ∙ ap (λ (t : Sign). Found t c.in-Found.q) c.in-Text.is)
 
 pub returns-in-Mark : goal.returns-in-Mark
 returns-in-Mark c =
     value_mark c.args.close c.args.s.now c.args.from c.next_sign.result c.next_sign.ensures
-    c.in-Found.t.0 c.in-Mark.enum_told
-    (c.in-Found.is ∙ ap (λ (t : Sign). Found t c.in-Found.t.0) c.in-Mark.is)
+    c.in-Found.q c.in-Mark.m
+    (c.in-Found.is ∙ ap (λ (t : Sign). Found t c.in-Found.q) c.in-Mark.is)

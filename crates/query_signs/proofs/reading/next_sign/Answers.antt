@@ -34,7 +34,7 @@ unfolding first_of
 returns-then-adjoins c =
     record {
       reads = sign_close c.args.chain c.args.close c.args.s.now c.args.from
-          c.blanks_end-at.result c.blanks_end-at.ensures c.if-s-at.false c.in-Found.t c.in-Found.t.0
+          c.blanks_end-at.result c.blanks_end-at.ensures c.if-s-at.false c.in-Found.t c.in-Found.q
           (ap (got_of c.args.s.now c.blanks_end-at.result) (sym c.in-Found.is) ∙ c.sign_at.ensures.got)
           (sym c.adjoins.ensures ∙ c.if-adjoins.true);
       moves = tt;
@@ -45,7 +45,7 @@ returns-then-adjoins c =
 pub returns : goal.returns
 returns c =
     next_found c.args.chain c.args.close c.args.s.now c.args.from c.blanks_end-at.result
-    c.blanks_end-at.ensures c.if-s-at.false c.in-Found.t c.in-Found.t.0
+    c.blanks_end-at.ensures c.if-s-at.false c.in-Found.t c.in-Found.q
     (ap (got_of c.args.s.now c.blanks_end-at.result) (sym c.in-Found.is) ∙ c.sign_at.ensures.got)
     (sym c.adjoins.ensures ∙ c.if-adjoins.false)
     (subst (λ (r : SignRead). ReadPartAt c.args.s.now c.blanks_end-at.result r) c.in-Found.is

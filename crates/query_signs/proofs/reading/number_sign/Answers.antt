@@ -10,7 +10,7 @@ returns-in_default c =
 pub returns : goal.returns
 returns c =
     record {
-      got = whole_found c.args.s.now c.args.at c.in-Number.n c.in-Number.n.0
+      got = whole_found c.args.s.now c.args.at c.in-Number.n c.in-Number.q
           (sym c.in-Number.is ∙ c.whole.ensures);
       part = tt;
     }

@@ -1,6 +1,7 @@
 -- `rules_tables::lower::lower_set` meets its contract. Assumes nothing.
-use Prim.Native.Nat.{ℕ, ◌≤◌, ◌<◌, ◌-◌}
+use Prim.Native.Nat.{ℕ, ◌+◌, ◌≤◌, ◌<◌, ◌-◌}
 use mathlib.Core.Bool.{◌||◌}
+use mathlib.Core.List.{List}
 use mathlib.Core.Path.{◌≡◌, ap, ◌∙◌}
 use native.Mathlib.Omega.{arith}
 use lib.Dec.{eqb}
@@ -11,8 +12,14 @@ use Rattle.model.specs.Bytes.{Bytes}
 use Rattle.rules_tables.proofs.Unions.{union_none, union_more}
 use Rattle.rules_tables.specs.Fits.{rank, below_some}
 use Rattle.rules_tables.specs.Layout.{names, over_from}
-use Rattle.book_tables.specs.View.{name_of, names_at}
+use Rattle.book_tables.specs.View.{word_at, name_in, name_of, names_at}
 use Rattle.rules_tables.proofs.lower.lower_set.Goals as goal
+
+-- the number of a name above is its rank
+ranked : (text : Bytes) (words : List ℕ) (k i found : ℕ) (name : Bytes) → found ≡ place name (names_at text words names k)
+    → name ≡ name_in text (word_at words (over_from k + i)) → found ≡ rank text words k (name_of text words (over_from k) i)
+unfolding name_of
+ranked text words k i found name e n = e ∙ ap (λ (w : Bytes). place w (names_at text words names k)) n
 
 pub with-set-requires : goal.with-set-requires
 with-set-requires c = omega (arith, c.requires.few)
@@ -42,26 +49,26 @@ find_name-j-requires c =
     (c.requires.named, omega (arith, c.requires.few, c.requires.room))
 
 pub overflow_mul-set : goal.overflow_mul-set
-overflow_mul-set c = omega (arith, (let e = (c.find_name-j.ensures ∙ ap (λ (w : Bytes). place w (names_at c.args.text.now c.args.words.now names c.args.k)) c.name_at-name.ensures) in let h = c.requires.earlier c.loop-i.i c.loop-i-test.true in omega (arith, c.requires.few)))
+overflow_mul-set c = omega (arith, c.requires.few, ranked _ _ _ c.loop-i.i _ _ c.find_name-j.ensures c.name_at-name.ensures, c.requires.earlier c.loop-i.i c.loop-i-test.true)
 
 pub overflow_add-set : goal.overflow_add-set
-overflow_add-set c = omega (arith, (let e = (c.find_name-j.ensures ∙ ap (λ (w : Bytes). place w (names_at c.args.text.now c.args.words.now names c.args.k)) c.name_at-name.ensures) in let h = c.requires.earlier c.loop-i.i c.loop-i-test.true in omega (arith, c.requires.few)))
+overflow_add-set c = omega (arith, c.requires.few, ranked _ _ _ c.loop-i.i _ _ c.find_name-j.ensures c.name_at-name.ensures, c.requires.earlier c.loop-i.i c.loop-i-test.true)
 
 pub overflow_add-set-in-loop-i : goal.overflow_add-set-in-loop-i
-overflow_add-set-in-loop-i c = omega (arith, (let e = (c.find_name-j.ensures ∙ ap (λ (w : Bytes). place w (names_at c.args.text.now c.args.words.now names c.args.k)) c.name_at-name.ensures) in let h = c.requires.earlier c.loop-i.i c.loop-i-test.true in omega (arith, c.requires.few)))
+overflow_add-set-in-loop-i c = omega (arith, c.requires.few, ranked _ _ _ c.loop-i.i _ _ c.find_name-j.ensures c.name_at-name.ensures, c.requires.earlier c.loop-i.i c.loop-i-test.true)
 
 pub offset_bounds-words-j : goal.offset_bounds-words-j
-offset_bounds-words-j c = omega (arith, (let e = (c.find_name-j.ensures ∙ ap (λ (w : Bytes). place w (names_at c.args.text.now c.args.words.now names c.args.k)) c.name_at-name.ensures) in let h = c.requires.earlier c.loop-i.i c.loop-i-test.true in omega (arith, c.requires.few)))
+offset_bounds-words-j c = omega (arith, c.requires.few, ranked _ _ _ c.loop-i.i _ _ c.find_name-j.ensures c.name_at-name.ensures, c.requires.earlier c.loop-i.i c.loop-i-test.true)
 
 pub bounds-words-j : goal.bounds-words-j
-bounds-words-j c = omega (arith, (let e = (c.find_name-j.ensures ∙ ap (λ (w : Bytes). place w (names_at c.args.text.now c.args.words.now names c.args.k)) c.name_at-name.ensures) in let h = c.requires.earlier c.loop-i.i c.loop-i-test.true in omega (arith, c.requires.few)), c.requires.room)
+bounds-words-j c = omega (arith, c.requires.few, ranked _ _ _ c.loop-i.i _ _ c.find_name-j.ensures c.name_at-name.ensures, c.requires.earlier c.loop-i.i c.loop-i-test.true, c.requires.room)
 
 pub loop-i-preserved : goal.loop-i-preserved
 loop-i-preserved c =
     (
       omega arith,
       union_more c.args.text.now c.args.words.now c.args.k c.loop-i.set c.loop-i.i
-          c.find_name-j.result (c.find_name-j.ensures ∙ ap (λ (w : Bytes). place w (names_at c.args.text.now c.args.words.now names c.args.k)) c.name_at-name.ensures) c.loop-i.invariant.1,
+          c.find_name-j.result (ranked _ _ _ c.loop-i.i _ _ c.find_name-j.ensures c.name_at-name.ensures) c.loop-i.invariant.1,
     )
 
 pub returns : goal.returns

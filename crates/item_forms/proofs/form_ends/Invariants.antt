@@ -1,0 +1,16 @@
+-- `item_forms::form_ends` meets its contract. The loop's invariant: what is left to close ends the form as the whole does.
+use Rattle.item_forms.proofs.FormLaws.{spaces_from_law, ends_on}
+use Rattle.item_forms.specs.Ends.{ends_after}
+use Rattle.item_forms.specs.Pieces.{after_end}
+use mathlib.Core.Path.{◌≡◌, refl, sym, ap, ◌∙◌}
+use lib.Dec.{leb}
+use lib.ListN.{length}
+use native.Mathlib.Omega.{arith}
+use borrow.Author.Rules.{rules}
+use Rattle.item_forms.proofs.form_ends.Given as goal
+
+abbrev pub invariant-loop-left : goal.invariant-loop-left
+invariant-loop-left l = ends_after l.left l.s l.at ≡ ends_after l.closes l.s l.from
+
+abbrev pub decreases-loop-left : goal.decreases-loop-left
+decreases-loop-left l = l.left

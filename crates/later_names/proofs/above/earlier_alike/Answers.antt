@@ -1,0 +1,76 @@
+-- `later_names::above::earlier_alike` meets its contract. The loop's invariant: the names alike behind the entry are counted, and are at most one.
+use Prim.Native.Nat.{◌-◌}
+use mathlib.Core.Path.{ap}
+use mathlib.Core.Logic.{⊎_elim}
+use native.Mathlib.Omega.{arith}
+use borrow.Author.Rules.{rules}
+use Rattle.chains.specs.Slots.{slot_of}
+use Rattle.model.specs.Names.{same_but_case}
+use Rattle.book_tables.specs.Layout.{node_names as nodesAt}
+use Rattle.book_tables.specs.View.{name_of, node_slot}
+use Rattle.later_names.specs.Ends.{one}
+use Rattle.later_names.proofs.NumberLaws.{node_named}
+use Rattle.later_names.proofs.WalkLaws.{Counting, walk_first, walk_next, walk_falls, walk_two, walk_over}
+use Rattle.later_names.proofs.above.earlier_alike.Goals as goal
+
+pub node_name-name-requires : goal.node_name-name-requires
+node_name-name-requires c = record { counts = c.args.counts; fits = c.requires.0; counted = c.requires.1 }
+
+pub next-entry-requires : goal.next-entry-requires
+next-entry-requires c = omega (arith, c.requires.1, c.requires.0.room, c.requires.0.within.nodes)
+
+pub loop-entry-init : goal.loop-entry-init
+loop-entry-init c =
+    let a = c.args in
+    walk_first a.text.now a.words.now a.counts c.requires.0 a.node c.requires.1 _
+    (node_named a.text.now a.words.now a.counts a.node _ c.requires.1 (c.node_name-name.ensures a.counts c.requires.1)) _ c.next-entry.ensures
+
+pub overflow_add-other : goal.overflow_add-other
+overflow_add-other c =
+    omega (arith, c.requires.1, c.requires.0.within.nodes, c.loop-entry.invariant.inside)
+
+pub is_named-requires : goal.is_named-requires
+is_named-requires c =
+    (
+      omega (arith, c.requires.1, c.requires.0.room, c.requires.0.within.nodes, c.loop-entry.invariant.inside),
+      c.requires.0.nodes.inside (c.loop-entry.entry - 1) (omega (arith, c.requires.1, c.loop-entry.invariant.inside, c.loop-entry-test.true)),
+    )
+
+pub returns-then-found-gt0 : goal.returns-then-found-gt0
+returns-then-found-gt0 c =
+    let a = c.args in
+    walk_two a.text.now a.words.now a.counts c.requires.0 a.node c.requires.1 _
+    (node_named a.text.now a.words.now a.counts a.node _ c.requires.1 (c.node_name-name.ensures a.counts c.requires.1))
+    c.loop-entry.entry c.loop-entry.found c.loop-entry-test.true c.loop-entry.invariant _ c.is_named.ensures
+    c.if-found-gt0.true c.if-is_named.true
+
+pub next-entry-requires-in-loop-entry : goal.next-entry-requires-in-loop-entry
+next-entry-requires-in-loop-entry c =
+    omega (arith, c.requires.1, c.requires.0.room, c.requires.0.within.nodes, c.loop-entry.invariant.inside)
+
+pub loop-entry-smaller : goal.loop-entry-smaller
+loop-entry-smaller c =
+    let a = c.args in
+    walk_falls a.text.now a.words.now a.counts c.requires.0 a.node c.requires.1 _
+    (node_named a.text.now a.words.now a.counts a.node _ c.requires.1 (c.node_name-name.ensures a.counts c.requires.1))
+    c.loop-entry.entry c.loop-entry.found c.loop-entry-test.true c.loop-entry.invariant _ c.is_named.ensures
+    _ c.next-entry-in-loop-entry.ensures
+
+pub loop-entry-preserved : goal.loop-entry-preserved
+loop-entry-preserved c =
+    let a = c.args in
+    let walk = walk_next a.text.now a.words.now a.counts c.requires.0 a.node c.requires.1 _
+    (node_named a.text.now a.words.now a.counts a.node _ c.requires.1 (c.node_name-name.ensures a.counts c.requires.1))
+    c.loop-entry.entry c.loop-entry.found c.loop-entry-test.true c.loop-entry.invariant _ c.is_named.ensures
+    _ c.if-is_named.found c.next-entry-in-loop-entry.ensures in
+    ⊎_elim
+    (λ w. let o = ap one w.0.taken in walk (omega (arith, o, w.1.left, w.2)) (omega (arith, w.2)))
+    (λ w. let o = ap one w.0.left in walk (omega (arith, o, w.1)) (omega (arith, w.1, c.loop-entry.invariant.few)))
+    c.if-is_named.branch
+
+pub returns : goal.returns
+returns c =
+    let a = c.args in
+    walk_over a.text.now a.words.now a.counts c.requires.0 a.node c.requires.1 _
+    (node_named a.text.now a.words.now a.counts a.node _ c.requires.1 (c.node_name-name.ensures a.counts c.requires.1))
+    c.loop-entry.entry c.loop-entry.found (omega arith) c.loop-entry.invariant

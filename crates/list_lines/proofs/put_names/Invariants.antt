@@ -1,0 +1,18 @@
+use mathlib.Core.Path.{◌≡◌, ap}
+use Prim.Native.Nat.{◌≤◌, ◌-◌}
+use lib.ListN.{length}
+use native.Mathlib.Omega.{arith}
+use Rattle.model.specs.Book.{node_names}
+use Rattle.book_tables.specs.View.{book_at}
+use Rattle.putting.specs.Putting.{Puts}
+use Rattle.putting.proofs.PuttingLaws.{puts_same, puts_keeps_length}
+use Rattle.list_lines.specs.Printing.{names_text}
+use Rattle.list_lines.proofs.PrintingLaws.{names_more, no_names}
+use borrow.Author.Rules.{rules}
+use Rattle.list_lines.proofs.put_names.Given as goal
+
+abbrev pub invariant-loop-i : goal.invariant-loop-i
+invariant-loop-i l = (l.i ≤ length l.row) × Puts l.initial.out l.at (names_text (node_names (book_at l.book l.words l.counts)) l.row l.i) l.out l.next
+
+abbrev pub decreases-loop-i : goal.decreases-loop-i
+decreases-loop-i l = length l.row - l.i
