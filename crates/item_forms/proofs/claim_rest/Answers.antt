@@ -34,7 +34,7 @@ returns-in_default-next_name-2 c =
 pub overflow_add-node : goal.overflow_add-node
 overflow_add-node c =
     let a = c.args in
-    omega (arith, c.well-formed, placed_at a.s.now _ _ c.in-At-next_name-2.is c.next_name-2.ensures.placed)
+    omega (arith, c.well_formed, placed_at a.s.now _ _ c.in-At-next_name-2.is c.next_name-2.ensures.placed)
 
 pub only_closes-requires : goal.only_closes-requires
 only_closes-requires c =

@@ -2,12 +2,12 @@
 -- of the text with them.
 use Prim.Native.Nat.{◌+◌, ◌-◌, ◌*◌}
 use mathlib.Core.Path.{ap}
-use mathlib.Core.Logic.{⊎_elim}
 use native.Mathlib.Omega.{arith}
 use borrow.Author.Rules.{rules}
 use Rattle.later_names.proofs.EndLaws.{ends_small}
 use Rattle.later_names.proofs.StuckLaws.{Going, going_first, going_other, going_later, going_stuck, going_over}
 use Rattle.later_names.proofs.new_names.Goals as goal
+use Rattle.later_names.proofs.new_names.Goals.{else-above-gt0, then-above-gt0+else-is_stuck}
 
 pub count_ends-ends-requires : goal.count_ends-ends-requires
 count_ends-ends-requires c = (c.requires.fits.room, c.requires.fits.within.relationships)
@@ -63,14 +63,11 @@ pub loop-node-preserved : goal.loop-node-preserved
 loop-node-preserved c =
     let a = c.args in
     let there = c.loop-node-test.true in
-    ⊎_elim
-    (λ w. rw w.3 (going_later a.text.now a.words.now a.counts c.requires c.loop-node.node c.loop-node.size there c.loop-node.invariant _
-    c.earlier_alike-above.ensures w.0.taken _
+    elim c.if-above-gt0.branch [ then-above-gt0+else-is_stuck w ↦ rw w.size-is (going_later a.text.now a.words.now a.counts c.requires c.loop-node.node c.loop-node.size there c.loop-node.invariant _
+    c.earlier_alike-above.ensures w.if-above-gt0.true _
     (ap (λ e. c.loop-node.size + 2 * (1 + e)) (c.count_ends-ends.ensures.each c.loop-node.node (omega (arith, c.requires.fits.within.nodes, there))))
-    _ w.1.ensures w.2.left))
-    (λ w. rw w.1 (going_other a.text.now a.words.now a.counts c.requires c.loop-node.node c.loop-node.size there c.loop-node.invariant _
-    c.earlier_alike-above.ensures w.0.left))
-    c.if-above-gt0.branch
+    _ w.is_stuck.ensures w.if-is_stuck.false) | else-above-gt0 w ↦ rw w.size-is (going_other a.text.now a.words.now a.counts c.requires c.loop-node.node c.loop-node.size there c.loop-node.invariant _
+    c.earlier_alike-above.ensures w.if-above-gt0.false) ]
 
 pub returns : goal.returns
 returns c =

@@ -25,13 +25,13 @@ loop-i-init c =
     )
 
 pub overflow_add-to : goal.overflow_add-to
-overflow_add-to c = omega (arith, (let h : c.loop-i.i < c.args.count = omega arith in omega (arith, row_inside c.args.rows.now c.args.width c.args.count c.requires.1 c.loop-i.i h)))
+overflow_add-to c = let h : c.loop-i.i < c.args.count = omega arith in omega (arith, row_inside c.args.rows.now c.args.width c.args.count c.requires.1 c.loop-i.i h)
 
 pub offset_bounds-rows-from : goal.offset_bounds-rows-from
-offset_bounds-rows-from c = let h = (let h : c.loop-i.i < c.args.count = omega arith in omega (arith, row_inside c.args.rows.now c.args.width c.args.count c.requires.1 c.loop-i.i h)) in search rules
+offset_bounds-rows-from c = let h : c.loop-i.i < c.args.count = omega arith in omega (arith, row_inside c.args.rows.now c.args.width c.args.count c.requires.1 c.loop-i.i h)
 
 pub slice_bounds-put_row-end : goal.slice_bounds-put_row-end
-slice_bounds-put_row-end c = let h = (let h : c.loop-i.i < c.args.count = omega arith in omega (arith, row_inside c.args.rows.now c.args.width c.args.count c.requires.1 c.loop-i.i h)) in search rules
+slice_bounds-put_row-end c = let h : c.loop-i.i < c.args.count = omega arith in omega (arith, row_inside c.args.rows.now c.args.width c.args.count c.requires.1 c.loop-i.i h)
 
 pub put_row-next-requires : goal.put_row-next-requires
 put_row-next-requires c = c.requires.0

@@ -13,21 +13,14 @@ use Rattle.query_writer.proofs.InsideLaws.{pattern_inside}
 use borrow.Author.Rules.{rules}
 use Rattle.query_writer.proofs.write_query.Goals as goal
 
--- What is put is the model's text.
-text_is : (s : tie.Start) → pattern_text s.args.book.now s.args.words.now s.args.query.now s.args.pattern
-    ≡ written_query (pattern_in (book_at s.args.book.now s.args.words.now s.args.counts) s.args.query.now s.args.pattern)
-text_is s =
-    pattern_written s.args.book.now s.args.words.now s.args.counts s.args.query.now s.args.pattern s.requires
-    (sym (length-map s.args.pattern.vertices _) ∙ s.well-formed.1.1.1.1.0.1.1.0.1.0.1)
-
 pub put_query-length-requires : goal.put_query-length-requires
 put_query-length-requires c = pattern_inside c.requires
 
 pub returns-then-too_long : goal.returns-then-too_long
 returns-then-too_long c =
     let put = c.put_query-length in
-    let kept = nothing_lent put.new.1.1.1.1.0 c.args.out.now put.auto.1.1.1.1.0 in
-    refused (puts_same (text_is c) put.ensures) (omega arith) kept (sym c.too_long.ensures ∙ c.if-too_long.true)
+    let kept = nothing_lent put.new.out c.args.out.now put.auto.out in
+    refused (puts_same (pattern_written c.args.book.now c.args.words.now c.args.counts c.args.query.now c.args.pattern c.requires c.well_formed.1.1.1.1.0.1.1.0.1.0.1) put.ensures) (omega arith) kept (sym c.too_long.ensures ∙ c.if-too_long.true)
 
 pub put_query-requires : goal.put_query-requires
 put_query-requires c =
@@ -36,6 +29,6 @@ put_query-requires c =
 pub returns : goal.returns
 returns c =
     let put = c.put_query-length in
-    let kept = nothing_lent put.new.1.1.1.1.0 c.args.out.now put.auto.1.1.1.1.0 in
-    written_in_front (puts_same (text_is c) put.ensures) (omega arith) kept (sym c.too_long.ensures ∙ c.if-too_long.false)
-    (puts_same (text_is c) c.put_query.ensures)
+    let kept = nothing_lent put.new.out c.args.out.now put.auto.out in
+    written_in_front (puts_same (pattern_written c.args.book.now c.args.words.now c.args.counts c.args.query.now c.args.pattern c.requires c.well_formed.1.1.1.1.0.1.1.0.1.0.1) put.ensures) (omega arith) kept (sym c.too_long.ensures ∙ c.if-too_long.false)
+    (puts_same (pattern_written c.args.book.now c.args.words.now c.args.counts c.args.query.now c.args.pattern c.requires c.well_formed.1.1.1.1.0.1.1.0.1.0.1) c.put_query.ensures)

@@ -12,13 +12,13 @@ overflow_add-result-4 c =
     omega (arith, (c.attrs_size-vattrs.ensures Node).small, (c.attrs_size-eattrs.ensures Node).small)
 
 pub overflow_add-result : goal.overflow_add-result
-overflow_add-result c = omega (arith, add-result-4 c)
+overflow_add-result c = omega (arith, (c.attrs_size-vattrs.ensures Node).small, (c.attrs_size-eattrs.ensures Node).small, c.requires.fits.within)
 
 pub overflow_add-result-2 : goal.overflow_add-result-2
-overflow_add-result-2 c = omega (arith, add-result-4 c)
+overflow_add-result-2 c = omega (arith, (c.attrs_size-vattrs.ensures Node).small, (c.attrs_size-eattrs.ensures Node).small, c.requires.fits.within)
 
 pub overflow_add-result-3 : goal.overflow_add-result-3
-overflow_add-result-3 c = omega (arith, add-result-4 c)
+overflow_add-result-3 c = omega (arith, (c.attrs_size-vattrs.ensures Node).small, (c.attrs_size-eattrs.ensures Node).small, c.requires.fits.within)
 
 pub returns : goal.returns
 returns c =

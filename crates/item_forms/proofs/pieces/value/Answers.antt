@@ -46,22 +46,6 @@ slice_bounds-same_bytes-count-in-Word c =
           (sym c.in-Word.is ∙ c.item.ensures) refl,
     )
 
-pub OLD-slice-bounds-same-bytes-start-2 : goal.OLD-slice-bounds-same-bytes-start-2
-OLD-slice-bounds-same-bytes-start-2 c =
-    omega (
-      arith,
-      read_within c.args.depth c.args.s.now c.args.at c.in-Word.q _
-          (sym c.in-Word.is ∙ c.item.ensures) refl,
-    )
-
-pub OLD-slice-bounds-same-bytes-end-2 : goal.OLD-slice-bounds-same-bytes-end-2
-OLD-slice-bounds-same-bytes-end-2 c =
-    omega (
-      arith,
-      read_within c.args.depth c.args.s.now c.args.at c.in-Word.q _
-          (sym c.in-Word.is ∙ c.item.ensures) refl,
-    )
-
 pub returns-then-same_bytes-2 : goal.returns-then-same_bytes-2
 unfolding value_piece part_of
 returns-then-same_bytes-2 c =
@@ -124,3 +108,19 @@ pub returns-in-None : goal.returns-in-None
 unfolding value_piece
 returns-in-None c =
     ap (value_piece c.args.s.now c.args.at) (sym c.in-None.is ∙ c.item.ensures)
+
+pub slice_bounds-same_bytes-start-in-Word : goal.slice_bounds-same_bytes-start-in-Word
+slice_bounds-same_bytes-start-in-Word c =
+    omega (
+      arith,
+      read_within c.args.depth c.args.s.now c.args.at c.in-Word.q _
+          (sym c.in-Word.is ∙ c.item.ensures) refl,
+    )
+
+pub slice_bounds-same_bytes-end-in-Word-2 : goal.slice_bounds-same_bytes-end-in-Word-2
+slice_bounds-same_bytes-end-in-Word-2 c =
+    omega (
+      arith,
+      read_within c.args.depth c.args.s.now c.args.at c.in-Word.q _
+          (sym c.in-Word.is ∙ c.item.ensures) refl,
+    )

@@ -1,7 +1,6 @@
 -- `later_names::above::earlier_alike` meets its contract. The loop's invariant: the names alike behind the entry are counted, and are at most one.
 use Prim.Native.Nat.{◌-◌}
 use mathlib.Core.Path.{ap}
-use mathlib.Core.Logic.{⊎_elim}
 use native.Mathlib.Omega.{arith}
 use borrow.Author.Rules.{rules}
 use Rattle.chains.specs.Slots.{slot_of}
@@ -12,6 +11,7 @@ use Rattle.later_names.specs.Ends.{one}
 use Rattle.later_names.proofs.NumberLaws.{node_named}
 use Rattle.later_names.proofs.WalkLaws.{Counting, walk_first, walk_next, walk_falls, walk_two, walk_over}
 use Rattle.later_names.proofs.above.earlier_alike.Goals as goal
+use Rattle.later_names.proofs.above.earlier_alike.Goals.{else-is_named, then-is_named+else-found-gt0}
 
 pub node_name-name-requires : goal.node_name-name-requires
 node_name-name-requires c = record { counts = c.args.counts; fits = c.requires.0; counted = c.requires.1 }
@@ -63,10 +63,7 @@ loop-entry-preserved c =
     (node_named a.text.now a.words.now a.counts a.node _ c.requires.1 (c.node_name-name.ensures a.counts c.requires.1))
     c.loop-entry.entry c.loop-entry.found c.loop-entry-test.true c.loop-entry.invariant _ c.is_named.ensures
     _ c.if-is_named.found c.next-entry-in-loop-entry.ensures in
-    ⊎_elim
-    (λ w. let o = ap one w.0.taken in walk (omega (arith, o, w.1.left, w.2)) (omega (arith, w.2)))
-    (λ w. let o = ap one w.0.left in walk (omega (arith, o, w.1)) (omega (arith, w.1, c.loop-entry.invariant.few)))
-    c.if-is_named.branch
+    elim c.if-is_named.branch [ then-is_named+else-found-gt0 w ↦ let o = ap one w.if-is_named.true in walk (omega (arith, o, w.if-found-gt0.false, w.found-is)) (omega (arith, w.found-is)) | else-is_named w ↦ let o = ap one w.if-is_named.false in walk (omega (arith, o, w.found-is)) (omega (arith, w.found-is, c.loop-entry.invariant.few)) ]
 
 pub returns : goal.returns
 returns c =

@@ -21,23 +21,23 @@ pub returns-in-Word : goal.returns-in-Word
 returns-in-Word c =
     subst (λ r. ValueNext c.args.close c.args.s.now c.args.from r) (sym c.truth_or.ensures)
     (value_word c.args.close c.args.s.now c.args.from c.next_sign.result
-    c.next_sign.ensures c.in-Found.q c.in-Word.t
+    c.next_sign.ensures c.in-Found.q c.in-Word.p
     (c.in-Found.is ∙ ap (λ (t : Sign). Found t c.in-Found.q) c.in-Word.is))
 
 pub returns-in-Whole : goal.returns-in-Whole
 returns-in-Whole c =
     value_whole c.args.close c.args.s.now c.args.from c.next_sign.result c.next_sign.ensures
-    c.in-Found.q c.in-Whole.t
+    c.in-Found.q c.in-Whole.n
     (c.in-Found.is ∙ ap (λ (t : Sign). Found t c.in-Found.q) c.in-Whole.is)
 
 pub returns-in-Text : goal.returns-in-Text
 returns-in-Text c =
     value_text_law c.args.close c.args.s.now c.args.from c.next_sign.result c.next_sign.ensures
-    c.in-Found.q c.in-Text.t
+    c.in-Found.q c.in-Text.p
     (c.in-Found.is ∙ ap (λ (t : Sign). Found t c.in-Found.q) c.in-Text.is)
 
 pub returns-in-Mark : goal.returns-in-Mark
 returns-in-Mark c =
     value_mark c.args.close c.args.s.now c.args.from c.next_sign.result c.next_sign.ensures
-    c.in-Found.q c.in-Mark.m
+    c.in-Found.q c.in-Mark.field-0
     (c.in-Found.is ∙ ap (λ (t : Sign). Found t c.in-Found.q) c.in-Mark.is)

@@ -23,10 +23,10 @@ put_condition-next-requires c =
 pub loop-i-preserved : goal.loop-i-preserved
 unfolding conditions_text
 loop-i-preserved c = let a = c.args in
-    let all : length a.t6 ≡ 32 = search rules in (
+    let all : length a.clauses ≡ 32 = search rules in (
       omega arith,
       puts_one_more (bytes_of " Where ") (bytes_of " AND ")
-          (λ x. condition_piece a.book.now a.words.now a.query.now a.vertices a.edges x.condition) a.t6 no_clause
+          (λ x. condition_piece a.book.now a.words.now a.query.now a.vertices a.edges x.condition) a.clauses no_clause
           c.loop-i.i (omega arith)
           c.loop-i.invariant.1
           (puts_then c.put_where-next.ensures c.put_condition-next.ensures),
@@ -38,4 +38,4 @@ shape_of-out c = puts_keeps_length c.loop-i.invariant.1
 pub returns : goal.returns
 returns c =
     let a = c.args in let e : c.loop-i.i ≡ a.count = omega arith in
-    puts_same (ap (λ n. conditions_text a.book.now a.words.now a.query.now a.vertices a.edges a.t6 n) e) c.loop-i.invariant.1
+    puts_same (ap (λ n. conditions_text a.book.now a.words.now a.query.now a.vertices a.edges a.clauses n) e) c.loop-i.invariant.1

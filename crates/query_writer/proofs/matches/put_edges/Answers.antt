@@ -23,12 +23,12 @@ put_edge-next-requires c = c.requires.each c.loop-i.i (omega arith)
 pub loop-i-preserved : goal.loop-i-preserved
 unfolding edges_text
 loop-i-preserved c = let a = c.args in
-    let all : length a.t5 ≡ 16 = search rules in (
+    let all : length a.edges ≡ 16 = search rules in (
       omega arith,
-      puts_one_more (bytes_of " ") (bytes_of " ") (edge_piece a.book.now a.words.now a.query.now a.vertices) a.t5 no_edge
+      puts_one_more (bytes_of " ") (bytes_of " ") (edge_piece a.book.now a.words.now a.query.now a.vertices) a.edges no_edge
           c.loop-i.i (omega arith) c.loop-i.invariant.1
           (puts_same (ap (λ s. s ++ edge_piece a.book.now a.words.now a.query.now a.vertices
-          (get_or a.t5 c.loop-i.i no_edge))
+          (get_or a.edges c.loop-i.i no_edge))
           (sym (before_all (bytes_of " ") c.loop-i.i))) c.put_edge-next.ensures),
     )
 
@@ -38,4 +38,4 @@ shape_of-out c = puts_keeps_length c.loop-i.invariant.1
 pub returns : goal.returns
 returns c =
     let a = c.args in let e : c.loop-i.i ≡ a.count = omega arith in
-    puts_same (ap (λ n. edges_text a.book.now a.words.now a.query.now a.vertices a.t5 n) e) c.loop-i.invariant.1
+    puts_same (ap (λ n. edges_text a.book.now a.words.now a.query.now a.vertices a.edges n) e) c.loop-i.invariant.1

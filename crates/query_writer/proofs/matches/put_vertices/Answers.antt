@@ -23,9 +23,9 @@ put_vertex-next-requires c = c.requires.each c.loop-i.i (omega arith)
 pub loop-i-preserved : goal.loop-i-preserved
 unfolding vertices_text
 loop-i-preserved c = let a = c.args in
-    let all : length a.t2 ≡ 8 = search rules in (
+    let all : length a.vertices ≡ 8 = search rules in (
       omega arith,
-      puts_one_more [] (bytes_of " ") (vertex_piece a.query.now) a.t2 no_part c.loop-i.i
+      puts_one_more [] (bytes_of " ") (vertex_piece a.query.now) a.vertices no_part c.loop-i.i
           (omega arith) c.loop-i.invariant.1 c.put_vertex-next.ensures,
     )
 
@@ -35,4 +35,4 @@ shape_of-out c = puts_keeps_length c.loop-i.invariant.1
 pub returns : goal.returns
 returns c =
     let a = c.args in let e : c.loop-i.i ≡ a.count = omega arith in
-    puts_same (ap (λ n. vertices_text a.query.now a.t2 n) e) c.loop-i.invariant.1
+    puts_same (ap (λ n. vertices_text a.query.now a.vertices n) e) c.loop-i.invariant.1

@@ -28,9 +28,9 @@ put_return-next-requires c = (c.requires.each c.loop-i.i (omega arith)).1
 pub loop-i-preserved : goal.loop-i-preserved
 unfolding vertex_at returns_text
 loop-i-preserved c = let a = c.args in
-    let all : length a.t3 ≡ 4 = search rules in (
+    let all : length a.returns ≡ 4 = search rules in (
       omega arith,
-      puts_one_more [] (bytes_of ", ") (vertex_at a.query.now a.t2) a.t3 0 c.loop-i.i
+      puts_one_more [] (bytes_of ", ") (vertex_at a.query.now a.vertices) a.returns 0 c.loop-i.i
           (omega arith) c.loop-i.invariant.1 c.put_return-next.ensures,
     )
 
@@ -40,4 +40,4 @@ shape_of-out c = puts_keeps_length c.loop-i.invariant.1
 pub returns : goal.returns
 returns c =
     let a = c.args in let e : c.loop-i.i ≡ a.count = omega arith in
-    puts_same (ap (λ n. returns_text a.query.now a.t2 a.t3 n) e) c.loop-i.invariant.1
+    puts_same (ap (λ n. returns_text a.query.now a.vertices a.returns n) e) c.loop-i.invariant.1

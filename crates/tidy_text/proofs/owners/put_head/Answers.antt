@@ -10,28 +10,24 @@ use Rattle.tidy_text.specs.Pieces.{head_piece}
 use Rattle.tidy_text.specs.Inside.{HeadInside}
 use Rattle.tidy_text.proofs.owners.put_head.Goals as goal
 
--- What is asked of the owner, by what it is.
-inside : (s : tie.Start) {o : Owner} → s.args.owner ≡ o → HeadInside s.args.book.now s.args.words.now o s.args.number
-inside s e = subst (λ o. HeadInside s.args.book.now s.args.words.now o s.args.number) e s.requires
-
 pub put_declared-requires : goal.put_declared-requires
 put_declared-requires c =
-    inside c c.in-Node.is
+    subst (λ o. HeadInside c.args.book.now c.args.words.now o c.args.number) c.in-Node.is c.requires
 
 pub overflow_add-word : goal.overflow_add-word
-overflow_add-word c = let f = inside c c.in-Relationship.is in omega (arith, f.0)
+overflow_add-word c = let f = subst (λ o. HeadInside c.args.book.now c.args.words.now o c.args.number) c.in-Relationship.is c.requires in omega (arith, f.0)
 
 pub offset_bounds-words-number : goal.offset_bounds-words-number
-offset_bounds-words-number c = let f = inside c c.in-Relationship.is in omega (arith, f.0)
+offset_bounds-words-number c = let f = subst (λ o. HeadInside c.args.book.now c.args.words.now o c.args.number) c.in-Relationship.is c.requires in omega (arith, f.0)
 
 pub bounds-words-number : goal.bounds-words-number
-bounds-words-number c = let f = inside c c.in-Relationship.is in omega (arith, f.0)
+bounds-words-number c = let f = subst (λ o. HeadInside c.args.book.now c.args.words.now o c.args.number) c.in-Relationship.is c.requires in omega (arith, f.0)
 
 pub overflow_cast-word : goal.overflow_cast-word
 overflow_cast-word c = omega (arith, c.type_inv.words (relationships + c.args.number))
 
 pub put_relationship-requires : goal.put_relationship-requires
-put_relationship-requires c = (inside c c.in-Relationship.is).1
+put_relationship-requires c = (subst (λ o. HeadInside c.args.book.now c.args.words.now o c.args.number) c.in-Relationship.is c.requires).1
 
 pub returns-in-Node : goal.returns-in-Node
 unfolding head_piece

@@ -10,7 +10,7 @@ use Rattle.woven_tables.proofs.clauses.add_clauses.Goals as goal
 pub loop-i-init : goal.loop-i-init
 loop-i-init c = (
   omega arith,
-  clauses_start c.args.base c.args.k c.args.t3 c.args.numbers
+  clauses_start c.args.base c.args.k c.args.clauses c.args.numbers
       c.args.before c.args.words.now c.args.woven,
 )
 
@@ -36,9 +36,9 @@ loop-i-preserved c =
     let p = c.requires in
     let l = c.loop-i in
     let t = c.loop-i-test.true in
-    let all : length a.t3 ≡ 32 = omega (arith, c.well-formed) in (
+    let all : length a.clauses ≡ 32 = omega (arith, c.well_formed) in (
       omega (arith, t),
-      clauses_more a.base a.k a.t3 l.i a.numbers a.before a.words.now l.words a.woven c.clause_words-said.result l.invariant.1
+      clauses_more a.base a.k a.clauses l.i a.numbers a.before a.words.now l.words a.woven c.clause_words-said.result l.invariant.1
           (omega (arith, t, all, p.0.few)) (omega (arith, t, p.0.room)) (omega (arith, l.invariant.1.size, p.1)) c.clause_words-said.ensures,
     )
 
@@ -49,7 +49,7 @@ pub returns : goal.returns
 returns c =
     let a = c.args in
     let e : c.loop-i.i ≡ a.count = omega (arith, c.loop-i.invariant.0, c.loop-i-test.false) in
-    subst (λ n. ClausesAdded a.base a.k a.t3 n a.numbers a.before a.words.now c.loop-i.words a.woven) e
+    subst (λ n. ClausesAdded a.base a.k a.clauses n a.numbers a.before a.words.now c.loop-i.words a.woven) e
     c.loop-i.invariant.1.added
 
 pub offset_bounds-clauses-i : goal.offset_bounds-clauses-i

@@ -10,7 +10,7 @@ use Rattle.woven_tables.proofs.edges.add_edges.Goals as goal
 pub loop-i-init : goal.loop-i-init
 loop-i-init c = (
   omega arith,
-  edges_start c.args.base c.args.k c.args.t3 c.args.t5
+  edges_start c.args.base c.args.k c.args.edges c.args.numbers
       c.args.words.now c.args.woven,
 )
 
@@ -58,9 +58,9 @@ loop-i-preserved c =
     let p = c.requires in
     let l = c.loop-i in
     let t = c.loop-i-test.true in
-    let all : length a.t3 ≡ 16 = omega (arith, c.well-formed) in (
+    let all : length a.edges ≡ 16 = omega (arith, c.well_formed) in (
       omega (arith, t),
-      edges_more a.base a.k a.t3 l.i a.t5 a.words.now l.words a.woven c.edge_word.result c.name_word.result
+      edges_more a.base a.k a.edges l.i a.numbers a.words.now l.words a.woven c.edge_word.result c.name_word.result
           l.invariant.1 (omega (arith, t, all, p.0.few)) (omega (arith, t, p.0.room)) (omega (arith, l.invariant.1.size, p.1)) (p.0.fit l.i t)
           c.edge_word.ensures c.name_word.ensures,
     )
@@ -72,7 +72,7 @@ pub returns : goal.returns
 returns c =
     let a = c.args in
     let e : c.loop-i.i ≡ a.count = omega (arith, c.loop-i.invariant.0, c.loop-i-test.false) in
-    subst (λ n. EdgesAdded a.base a.k a.t3 n a.t5 a.words.now c.loop-i.words a.woven) e c.loop-i.invariant.1.added
+    subst (λ n. EdgesAdded a.base a.k a.edges n a.numbers a.words.now c.loop-i.words a.woven) e c.loop-i.invariant.1.added
 
 pub offset_bounds-edges-i : goal.offset_bounds-edges-i
 offset_bounds-edges-i c = omega (arith, c.loop-i-test.true, c.requires.0.few)

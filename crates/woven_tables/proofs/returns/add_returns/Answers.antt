@@ -9,7 +9,7 @@ use borrow.Author.Rules.{rules}
 use Rattle.woven_tables.proofs.returns.add_returns.Goals as goal
 
 pub loop-i-init : goal.loop-i-init
-loop-i-init c = (omega arith, returns_start c.args.t1 c.args.t3 c.args.words.now)
+loop-i-init c = (omega arith, returns_start c.args.returns c.args.numbers c.args.words.now)
 
 pub offset_bounds-returns-i : goal.offset_bounds-returns-i
 offset_bounds-returns-i c = omega (arith, c.requires.0.few)
@@ -32,9 +32,9 @@ bounds-words-i c = omega (arith, c.loop-i.invariant.1.size, c.requires.0.few, c.
 pub loop-i-preserved : goal.loop-i-preserved
 loop-i-preserved c =
     let a = c.args in
-    let all : length a.t1 ≡ 4 = search rules in (
+    let all : length a.returns ≡ 4 = search rules in (
       omega arith,
-      returns_more a.t1 c.loop-i.i a.t3 a.words.now c.loop-i.words c.loop-i.invariant.1
+      returns_more a.returns c.loop-i.i a.numbers a.words.now c.loop-i.words c.loop-i.invariant.1
           (omega (arith, c.requires.0.few)) (omega (arith, c.requires.0.few))
           (omega (arith, c.loop-i.invariant.1.size, c.requires.1)),
     )
@@ -46,4 +46,4 @@ pub returns : goal.returns
 returns c =
     let a = c.args in
     let e : c.loop-i.i ≡ a.count = omega arith in
-    subst (λ n. ReturnsAdded a.t1 n a.t3 a.words.now c.loop-i.words) e c.loop-i.invariant.1.added
+    subst (λ n. ReturnsAdded a.returns n a.numbers a.words.now c.loop-i.words) e c.loop-i.invariant.1.added

@@ -30,11 +30,11 @@ vertex_of-word-requires c =
 
 pub place_vertex-placed-requires : goal.place_vertex-placed-requires
 place_vertex-placed-requires c =
-    (c.loop-i.invariant.1.few, omega (arith, c.loop-i.invariant.1.room, c.requires.3), c.loop-i.invariant.1.inside, c.vertex_of-word.ensures.0)
+    (c.loop-i.invariant.1.few, omega (arith, c.loop-i.invariant.1.room, c.requires.3), c.loop-i.invariant.1.inside, c.vertex_of-word.ensures.inside)
 
 pub shape_of-words-then-n-gt-MAX_WOVEN_VERTICES : goal.shape_of-words-then-n-gt-MAX_WOVEN_VERTICES
 shape_of-words-then-n-gt-MAX_WOVEN_VERTICES c =
-    c.place_vertex-placed.auto.1.1.0 ∙ c.loop-i.invariant.1.room
+    c.place_vertex-placed.auto.words.1.0 ∙ c.loop-i.invariant.1.room
 
 pub returns-then-n-gt-MAX_WOVEN_VERTICES : goal.returns-then-n-gt-MAX_WOVEN_VERTICES
 returns-then-n-gt-MAX_WOVEN_VERTICES c =
@@ -43,14 +43,14 @@ returns-then-n-gt-MAX_WOVEN_VERTICES c =
     let put = c.place_vertex-placed in
     let found = c.vertex_of-word in
     let a = c.args in
-    let actors = actors_at a.rules.now a.actors.now a.actor-count in
+    let actors = actors_at a.rules.now a.actors.now a.actor_count in
     let text = text_of a.query.now a.rules.now a.k in
-    let size : length a.t7 ≡ 8 = omega (arith, c.well-formed) in
-    let few : a.count ≤ length a.t7 = omega (arith, size, c.requires.0.few) in
-    let all = length_names (drop a.base text) a.k actors a.t7 a.count few in
-    vertices_passed a.query.now a.rules.now (text_vertices (drop a.base text) a.k actors a.t7 a.count) a.words.now l.words a.woven
-    l.n l.i l.numbers l.invariant.1 (omega (arith, all, t)) put.new.1.1.0 found.result put.result put.ensures
-    (found.ensures.1 ∙ own_says text a.base a.k actors a.t7 a.count few l.i t) a.count all c.if-n-gt-MAX_WOVEN_VERTICES.true
+    let size : length a.parts ≡ 8 = omega (arith, c.well_formed) in
+    let few : a.count ≤ length a.parts = omega (arith, size, c.requires.0.few) in
+    let all = length_names (drop a.base text) a.k actors a.parts a.count few in
+    vertices_passed a.query.now a.rules.now (text_vertices (drop a.base text) a.k actors a.parts a.count) a.words.now l.words a.woven
+    l.n l.i l.numbers l.invariant.1 (omega (arith, all, t)) put.new.words.1.0 found.result put.result put.ensures
+    (found.ensures.1 ∙ own_says text a.base a.k actors a.parts a.count few l.i t) a.count all c.if-n-gt-MAX_WOVEN_VERTICES.true
 
 pub loop-i-preserved : goal.loop-i-preserved
 loop-i-preserved c =
@@ -59,15 +59,15 @@ loop-i-preserved c =
     let put = c.place_vertex-placed in
     let found = c.vertex_of-word in
     let a = c.args in
-    let actors = actors_at a.rules.now a.actors.now a.actor-count in
+    let actors = actors_at a.rules.now a.actors.now a.actor_count in
     let text = text_of a.query.now a.rules.now a.k in
-    let size : length a.t7 ≡ 8 = omega (arith, c.well-formed) in
-    let few : a.count ≤ length a.t7 = omega (arith, size, c.requires.0.few) in
-    let all = length_names (drop a.base text) a.k actors a.t7 a.count few in (
+    let size : length a.parts ≡ 8 = omega (arith, c.well_formed) in
+    let few : a.count ≤ length a.parts = omega (arith, size, c.requires.0.few) in
+    let all = length_names (drop a.base text) a.k actors a.parts a.count few in (
       omega (arith, t),
-      vertices_more a.query.now a.rules.now (text_vertices (drop a.base text) a.k actors a.t7 a.count) a.words.now l.words a.woven
-          l.n l.i l.numbers l.invariant.1 (omega (arith, all, t)) put.new.1.1.0 found.result put.result put.ensures
-          (found.ensures.1 ∙ own_says text a.base a.k actors a.t7 a.count few l.i t)
+      vertices_more a.query.now a.rules.now (text_vertices (drop a.base text) a.k actors a.parts a.count) a.words.now l.words a.woven
+          l.n l.i l.numbers l.invariant.1 (omega (arith, all, t)) put.new.words.1.0 found.result put.result put.ensures
+          (found.ensures.1 ∙ own_says text a.base a.k actors a.parts a.count few l.i t)
           c.if-n-gt-MAX_WOVEN_VERTICES.false put.auto.1.1.0 (omega (arith, t, c.requires.0.few)),
     )
 
@@ -78,12 +78,12 @@ pub returns : goal.returns
 returns c =
     let l = c.loop-i in
     let a = c.args in
-    let actors = actors_at a.rules.now a.actors.now a.actor-count in
+    let actors = actors_at a.rules.now a.actors.now a.actor_count in
     let text = text_of a.query.now a.rules.now a.k in
-    let size : length a.t7 ≡ 8 = omega (arith, c.well-formed) in
-    let few : a.count ≤ length a.t7 = omega (arith, size, c.requires.0.few) in
-    let all = length_names (drop a.base text) a.k actors a.t7 a.count few in
-    vertices_end a.query.now a.rules.now (text_vertices (drop a.base text) a.k actors a.t7 a.count) a.words.now l.words a.woven
+    let size : length a.parts ≡ 8 = omega (arith, c.well_formed) in
+    let few : a.count ≤ length a.parts = omega (arith, size, c.requires.0.few) in
+    let all = length_names (drop a.base text) a.k actors a.parts a.count few in
+    vertices_end a.query.now a.rules.now (text_vertices (drop a.base text) a.k actors a.parts a.count) a.words.now l.words a.woven
     l.n l.i l.numbers l.invariant.1 a.count all (omega (arith, l.invariant.0, c.loop-i-test.false))
 
 pub offset_bounds-parts-i : goal.offset_bounds-parts-i

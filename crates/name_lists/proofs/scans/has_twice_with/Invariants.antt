@@ -1,0 +1,16 @@
+-- `name_lists::scans::has_twice_with` meets its contract. The loop's invariant: the table has the names before the place. Assumes nothing.
+use Prim.Native.Nat.{◌-◌}
+use mathlib.Core.Path.{◌≡◌, refl, sym, ◌∙◌}
+use native.Mathlib.Omega.{arith}
+use lib.ListN.{length}
+use Rattle.name_lists.proofs.Heads.{placed_at}
+use Rattle.name_lists.proofs.Behind.{left_over}
+use Rattle.name_lists.proofs.Again.{MetBefore, met_start, met_done, met_again, met_more}
+use borrow.Author.Rules.{rules}
+use Rattle.name_lists.proofs.scans.has_twice_with.Given as goal
+
+abbrev pub invariant-loop-i : goal.invariant-loop-i
+invariant-loop-i l = MetBefore l.s l.table l.from l.n l.i × (length l.table ≡ length l.initial.table)
+
+abbrev pub decreases-loop-i : goal.decreases-loop-i
+decreases-loop-i l = length l.s - l.i

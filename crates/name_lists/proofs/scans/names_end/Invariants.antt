@@ -1,0 +1,18 @@
+-- `name_lists::scans::names_end` meets its contract.
+use Prim.Native.Nat.{◌-◌}
+use mathlib.Core.Bool.{false}
+use mathlib.Core.Path.{◌≡◌, refl, sym, ◌∙◌}
+use native.Mathlib.Omega.{arith}
+use lib.ListN.{length}
+use Rattle.item_forms.proofs.EndLaws.{ends_shut}
+use Rattle.name_lists.proofs.Heads.{placed_at}
+use Rattle.name_lists.proofs.Behind.{end_step, end_over, names_nowhere, names_shut, names_past}
+use Rattle.name_lists.specs.Names.{names_behind, names_end}
+use borrow.Author.Rules.{rules}
+use Rattle.name_lists.proofs.scans.names_end.Given as goal
+
+abbrev pub invariant-loop-i : goal.invariant-loop-i
+invariant-loop-i l = names_end (names_behind l.s l.i) ≡ names_end (names_behind l.s l.from)
+
+abbrev pub decreases-loop-i : goal.decreases-loop-i
+decreases-loop-i l = length l.s - l.i

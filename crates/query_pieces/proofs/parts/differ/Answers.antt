@@ -1,0 +1,34 @@
+use Rattle.model.specs.Places.{none, variable_at}
+use Rattle.query_pieces.specs.Steps.{other_then}
+use Rattle.query_pieces.proofs.PartLaws.{name_read, name_unread, name_moves, name_stands, step_stopped}
+use Rattle.query_pieces.specs.Steps.{step_of, walk_at, piece_of, spot_of, chain_at, piece_standing}
+use Rattle.query_pieces.specs.Walk.{or_stopped}
+use Rattle.query_signs.specs.Expected.{NameInside}
+use native.Mathlib.Omega.{arith}
+use mathlib.Core.Bool.{false}
+use mathlib.Core.Path.{ap, subst}
+use borrow.Author.Rules.{rules}
+use Rattle.query_pieces.proofs.parts.differ.Goals as goal
+
+pub returns-in_default : goal.returns-in_default
+unfolding or_stopped other_then
+returns-in_default c =
+    step_stopped (ap or_stopped (name_unread false false c.args.s.now c.args.from c.name_next.result
+    c.name_next.ensures c.in_default.is _))
+
+pub returns : goal.returns
+unfolding step_of walk_at piece_of spot_of chain_at or_stopped other_then piece_standing variable_at
+returns c =
+    record {
+      reads = ap or_stopped (name_read false false c.args.s.now c.args.from c.name_next.result
+          c.name_next.ensures c.in-Found.u c.in-Found.q c.in-Found.is _);
+      moves = omega (
+        arith,
+        name_moves false false c.args.s.now c.args.from c.name_next.result c.name_next.ensures
+            c.in-Found.u c.in-Found.q c.in-Found.is,
+      );
+      inside = (c.requires, subst (NameInside c.args.s.now) c.in-Found.is c.name_next.ensures.inside);
+      stands = name_stands false false c.args.s.now
+          c.args.from c.name_next.result c.name_next.ensures c.in-Found.u
+          c.in-Found.q c.in-Found.is none;
+    }

@@ -1,0 +1,38 @@
+use Rattle.query_pieces.proofs.PartLaws.{step_stopped}
+use Rattle.query_pieces.proofs.SpotLaws.{step_same, chain_link, no_link_law, chain_where, chain_match, chain_return, chain_none}
+use mathlib.Core.Path.{sym, ap, ◌∙◌}
+use Rattle.query_pieces.specs.Steps.{arrow_behind}
+use borrow.Author.Rules.{rules}
+use Rattle.query_pieces.proofs.spots.chain_piece.Goals as goal
+
+pub returns-then-arrow-ne-NONE : goal.returns-then-arrow-ne-NONE
+returns-then-arrow-ne-NONE c =
+    step_same _ _ c.args.s.now c.args.q c.link.result
+    (chain_link c.args.s.now c.args.t c.args.q _
+    (c.arrow_behind-arrow.ensures ∙ ap arrow_behind c.mark_code.ensures) c.if-arrow-ne-NONE.true) c.link.ensures
+
+pub returns-then-is_word : goal.returns-then-is_word
+returns-then-is_word c =
+    step_same _ _ c.args.s.now c.args.q c.condition.result
+    (chain_where c.args.s.now c.args.t c.args.q (sym c.is_IsWord.ensures ∙ c.if-is_word.true))
+    c.condition.ensures
+
+pub returns-then-is_word-2 : goal.returns-then-is_word-2
+returns-then-is_word-2 c =
+    step_same _ _ c.args.s.now c.args.q c.start.result
+    (chain_match c.args.s.now c.args.t c.args.q (sym c.is_word-2.ensures ∙ c.if-is_word-2.true))
+    c.start.ensures
+
+pub returns-then-is_word-3 : goal.returns-then-is_word-3
+returns-then-is_word-3 c =
+    step_same _ _ c.args.s.now c.args.q c.returned.result
+    (chain_return c.args.s.now c.args.t c.args.q (sym c.is_word-3.ensures ∙ c.if-is_word-3.true))
+    c.returned.ensures
+
+pub returns : goal.returns
+returns c =
+    let none = no_link_law c.args.s.now c.args.t c.args.q
+    (sym (c.arrow_behind-arrow.ensures ∙ ap arrow_behind c.mark_code.ensures) ∙ c.if-arrow-ne-NONE.false) in
+    step_stopped (chain_none c.args.s.now c.args.t c.args.q none.0 none.1
+    (sym c.is_IsWord.ensures ∙ c.if-is_word.false) (sym c.is_word-2.ensures ∙ c.if-is_word-2.false)
+    (sym c.is_word-3.ensures ∙ c.if-is_word-3.false))

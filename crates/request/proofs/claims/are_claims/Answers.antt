@@ -1,0 +1,34 @@
+-- `request::claims::are_claims` meets its contract. Assumes nothing.
+use Prim.Native.Nat.{◌-◌}
+use mathlib.Core.Path.{◌≡◌, refl, sym, ap, ◌∙◌}
+use native.Mathlib.Omega.{arith}
+use lib.ListN.{length}
+use borrow.Author.Rules.{rules}
+use Rattle.request.specs.Claims.{claims_from, are_read, claim_at}
+use Rattle.request.proofs.ClaimLaws.{claim_placed, placed_at, read_on, read_closed, read_broken, read_over}
+use Rattle.request.proofs.claims.are_claims.Goals as goal
+
+pub loop-i-init : goal.loop-i-init
+loop-i-init c = refl
+
+pub loop-i-smaller : goal.loop-i-smaller
+loop-i-smaller c =
+    let h = placed_at c.args.s.now c.loop-i.i _
+    (ap claim_at (sym c.claim.ensures ∙ c.in-Claim.is))
+    (claim_placed c.args.s.now c.loop-i.i) in omega (arith, h.onward)
+
+pub loop-i-preserved : goal.loop-i-preserved
+loop-i-preserved c =
+    read_on c.args.s.now c.loop-i.i (sym c.in-Claim.is ∙ c.claim.ensures) ∙ c.loop-i.invariant
+
+pub returns-in-Close : goal.returns-in-Close
+returns-in-Close c =
+    c.form_ends.ensures ∙ read_closed c.args.s.now c.loop-i.i (sym c.in-Close.is ∙ c.claim.ensures)
+    ∙ c.loop-i.invariant
+
+pub returns-in-None : goal.returns-in-None
+returns-in-None c =
+    read_broken c.args.s.now c.loop-i.i (sym c.in-None.is ∙ c.claim.ensures) ∙ c.loop-i.invariant
+
+pub returns : goal.returns
+returns c = read_over c.args.s.now c.loop-i.i c.loop-i-test.false ∙ c.loop-i.invariant
