@@ -13,7 +13,7 @@ use Rattle.book_lines.proofs.owners.read_entries.Given as goal
 
 abbrev pub invariant-loop-name : goal.invariant-loop-name
 invariant-loop-name l =
-    Reading (record { l.inner = l.inner; l.closes = l.closes }) l.text l.line l.initial.words l.words l.counts l.offset l.declared l.from l.at l.known
+    Reading (record { inner = l.inner; closes = l.closes }) l.text l.line l.initial.words l.words l.counts l.offset l.declared l.from l.at l.known
 
 abbrev pub decreases-loop-name : goal.decreases-loop-name
 decreases-loop-name l = length l.line - l.at

@@ -14,7 +14,7 @@ returns-then-arrow-ne-NONE c =
 pub returns-then-is_word : goal.returns-then-is_word
 returns-then-is_word c =
     step_same _ _ c.args.s.now c.args.q c.condition.result
-    (chain_where c.args.s.now c.args.t c.args.q (sym c.is_IsWord.ensures ∙ c.if-is_word.true))
+    (chain_where c.args.s.now c.args.t c.args.q (sym c.is_word.ensures ∙ c.if-is_word.true))
     c.condition.ensures
 
 pub returns-then-is_word-2 : goal.returns-then-is_word-2
@@ -34,5 +34,5 @@ returns c =
     let none = no_link_law c.args.s.now c.args.t c.args.q
     (sym (c.arrow_behind-arrow.ensures ∙ ap arrow_behind c.mark_code.ensures) ∙ c.if-arrow-ne-NONE.false) in
     step_stopped (chain_none c.args.s.now c.args.t c.args.q none.0 none.1
-    (sym c.is_IsWord.ensures ∙ c.if-is_word.false) (sym c.is_word-2.ensures ∙ c.if-is_word-2.false)
+    (sym c.is_word.ensures ∙ c.if-is_word.false) (sym c.is_word-2.ensures ∙ c.if-is_word-2.false)
     (sym c.is_word-3.ensures ∙ c.if-is_word-3.false))

@@ -7,7 +7,7 @@ use Rattle.query_pieces.proofs.spots.where_piece.Goals as goal
 pub returns-then-is_word : goal.returns-then-is_word
 returns-then-is_word c =
     step_same _ _ c.args.s.now c.args.q c.condition.result
-    (where_and c.args.s.now c.args.t c.args.q (sym c.is_IsWord.ensures ∙ c.if-is_word.true))
+    (where_and c.args.s.now c.args.t c.args.q (sym c.is_word.ensures ∙ c.if-is_word.true))
     c.condition.ensures
 
 pub returns-then-is_word-2 : goal.returns-then-is_word-2
@@ -24,5 +24,5 @@ returns-then-is_word-3 c =
 
 pub returns : goal.returns
 returns c =
-    step_stopped (where_none c.args.s.now c.args.t c.args.q (sym c.is_IsWord.ensures ∙ c.if-is_word.false)
+    step_stopped (where_none c.args.s.now c.args.t c.args.q (sym c.is_word.ensures ∙ c.if-is_word.false)
     (sym c.is_word-2.ensures ∙ c.if-is_word-2.false) (sym c.is_word-3.ensures ∙ c.if-is_word-3.false))

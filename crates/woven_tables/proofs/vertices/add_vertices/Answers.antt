@@ -34,7 +34,7 @@ place_vertex-placed-requires c =
 
 pub shape_of-words-then-n-gt-MAX_WOVEN_VERTICES : goal.shape_of-words-then-n-gt-MAX_WOVEN_VERTICES
 shape_of-words-then-n-gt-MAX_WOVEN_VERTICES c =
-    c.place_vertex-placed.auto.words.1.0 ∙ c.loop-i.invariant.1.room
+    c.place_vertex-placed.auto.words ∙ c.loop-i.invariant.1.room
 
 pub returns-then-n-gt-MAX_WOVEN_VERTICES : goal.returns-then-n-gt-MAX_WOVEN_VERTICES
 returns-then-n-gt-MAX_WOVEN_VERTICES c =
@@ -49,8 +49,8 @@ returns-then-n-gt-MAX_WOVEN_VERTICES c =
     let few : a.count ≤ length a.parts = omega (arith, size, c.requires.0.few) in
     let all = length_names (drop a.base text) a.k actors a.parts a.count few in
     vertices_passed a.query.now a.rules.now (text_vertices (drop a.base text) a.k actors a.parts a.count) a.words.now l.words a.woven
-    l.n l.i l.numbers l.invariant.1 (omega (arith, all, t)) put.new.words.1.0 found.result put.result put.ensures
-    (found.ensures.1 ∙ own_says text a.base a.k actors a.parts a.count few l.i t) a.count all c.if-n-gt-MAX_WOVEN_VERTICES.true
+    l.n l.i l.numbers l.invariant.1 (omega (arith, all, t)) put.new.words found.result put.result put.ensures
+    (found.ensures.says ∙ own_says text a.base a.k actors a.parts a.count few l.i t) a.count all c.if-n-gt-MAX_WOVEN_VERTICES.true
 
 pub loop-i-preserved : goal.loop-i-preserved
 loop-i-preserved c =
@@ -66,9 +66,9 @@ loop-i-preserved c =
     let all = length_names (drop a.base text) a.k actors a.parts a.count few in (
       omega (arith, t),
       vertices_more a.query.now a.rules.now (text_vertices (drop a.base text) a.k actors a.parts a.count) a.words.now l.words a.woven
-          l.n l.i l.numbers l.invariant.1 (omega (arith, all, t)) put.new.words.1.0 found.result put.result put.ensures
-          (found.ensures.1 ∙ own_says text a.base a.k actors a.parts a.count few l.i t)
-          c.if-n-gt-MAX_WOVEN_VERTICES.false put.auto.1.1.0 (omega (arith, t, c.requires.0.few)),
+          l.n l.i l.numbers l.invariant.1 (omega (arith, all, t)) put.new.words found.result put.result put.ensures
+          (found.ensures.says ∙ own_says text a.base a.k actors a.parts a.count few l.i t)
+          c.if-n-gt-MAX_WOVEN_VERTICES.false put.auto.words.1.0 (omega (arith, t, c.requires.0.few)),
     )
 
 pub shape_of-words : goal.shape_of-words
