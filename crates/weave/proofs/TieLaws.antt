@@ -121,6 +121,7 @@ all_passes p (x ∷ l) e = ap₂ (λ t r. pick t r false) (e x (Memᴰ.head refl
 
 all_fails : (p : ℕ → Bool) (l : List ℕ) (x : ℕ) → x ∈ l → p x ≡ false → all p l ≡ false
 unfolding all
+all_fails p [] x x4 f = elim x4 [ ]
 all_fails p (y ∷ l) x (Memᴰ.head e) f = ap (λ t. pick t (all p l) false) (ap p (sym e) ∙ f)
 all_fails p (y ∷ l) x (Memᴰ.tail i) f = ap (λ r. pick (p y) r false) (all_fails p l x i f) ∙ either_way (p y)
   where

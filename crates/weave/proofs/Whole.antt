@@ -103,6 +103,7 @@ once_here x ids once d i e = once (twice_i x.actor (map (λ (z : Identity). z.ac
 by_each : (ids : List Identity) (v : WovenVertex) (n : ℕ) → (T (twice (map (λ i. i.actor) ids)) → ⊥) → Identifies (identity_of ids v) n → (d : Identity)
     → d ∈ ids → v ≡ actor d.actor → n ≡ d.node
 unfolding identity_of
+by_each [] v n once h d x4 a = elim x4 [ ]
 by_each (x ∷ ids) v n once h d (Memᴰ.head e) a = go (identified_by v x) ((identified_exactly v x).1 (a ∙ ap (λ (z : Identity). actor z.actor) e)) h
     ∙ ap (λ (z : Identity). z.node) (sym e)
   where

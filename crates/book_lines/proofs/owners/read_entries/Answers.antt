@@ -27,7 +27,7 @@ pub shifted-requires : goal.shifted-requires
 shifted-requires c =
     let a = c.args in
     let h = entry_stands a.line.now c.loop-name.at _ c.entry.ensures _ _ _ c.in-Entry.is in
-    let v = c.in-Entry.name in
+    let v = c.in-Entry.value in
     ends_later _ 65536 c.requires.0.limit (shift a.base v)
     (ends_moved a.text.now a.line.now a.base c.requires.0.is c.requires.0.inside v h.ends)
 
@@ -42,7 +42,7 @@ add_entry-known-requires c =
       short = c.requires.0.limit;
       name_inside = rw c.moved.ensures (omega (arith, c.requires.0.inside, h.inside));
       value_inside = rw c.shifted.ensures (ends_moved a.text.now a.line.now a.base c.requires.0.is c.requires.0.inside
-          c.in-Entry.name h.ends);
+          c.in-Entry.value h.ends);
       counted = omega (arith, c.loop-name.invariant.few, c.loop-name.invariant.inside, c.requires.0.inside, c.requires.0.limit);
     }
 

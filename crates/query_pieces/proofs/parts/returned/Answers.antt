@@ -24,14 +24,14 @@ returns c =
     record {
       reads = return_by (signs_from false c.args.close c.args.s.now c.args.from)
           ∙ ap or_stopped (name_read false c.args.close c.args.s.now c.args.from c.name_next.result
-          c.name_next.ensures c.in-Found.v c.in-Found.v c.in-Found.is _);
+          c.name_next.ensures c.in-Found.v c.in-Found.q c.in-Found.is _);
       moves = omega (
         arith,
         name_moves false c.args.close c.args.s.now c.args.from c.name_next.result
-            c.name_next.ensures c.in-Found.v c.in-Found.v c.in-Found.is,
+            c.name_next.ensures c.in-Found.v c.in-Found.q c.in-Found.is,
       );
       inside = subst (NameInside c.args.s.now) c.in-Found.is c.name_next.ensures.inside;
       stands = name_stands false
           c.args.close c.args.s.now c.args.from c.name_next.result c.name_next.ensures
-          c.in-Found.v c.in-Found.v c.in-Found.is none;
+          c.in-Found.v c.in-Found.q c.in-Found.is none;
     }

@@ -24,14 +24,14 @@ returns c =
     record {
       reads = start_by (signs_from true true c.args.s.now c.args.from)
           ∙ ap or_stopped (vertex_read true c.args.s.now c.args.from c.vertex.result c.vertex.ensures
-          c.in-Found.v c.in-Found.v c.in-Found.is _);
+          c.in-Found.v c.in-Found.q c.in-Found.is _);
       moves = omega (
         arith,
         vertex_moves true c.args.s.now c.args.from c.vertex.result c.vertex.ensures
-            c.in-Found.v c.in-Found.v c.in-Found.is,
+            c.in-Found.v c.in-Found.q c.in-Found.is,
       );
       inside = subst (NameInside c.args.s.now) c.in-Found.is c.vertex.ensures.inside;
       stands = vertex_stands true c.args.s.now
-          c.args.from c.vertex.result c.vertex.ensures c.in-Found.v c.in-Found.v
+          c.args.from c.vertex.result c.vertex.ensures c.in-Found.v c.in-Found.q
           c.in-Found.is none;
     }

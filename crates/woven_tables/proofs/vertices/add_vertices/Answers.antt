@@ -68,7 +68,7 @@ loop-i-preserved c =
       vertices_more a.query.now a.rules.now (text_vertices (drop a.base text) a.k actors a.parts a.count) a.words.now l.words a.woven
           l.n l.i l.numbers l.invariant.1 (omega (arith, all, t)) put.new.words found.result put.result put.ensures
           (found.ensures.says ∙ own_says text a.base a.k actors a.parts a.count few l.i t)
-          c.if-n-gt-MAX_WOVEN_VERTICES.false put.auto.words.1.0 (omega (arith, t, c.requires.0.few)),
+          c.if-n-gt-MAX_WOVEN_VERTICES.false put.auto.words (omega (arith, t, c.requires.0.few)),
     )
 
 pub shape_of-words : goal.shape_of-words

@@ -1,0 +1,7 @@
+use Rattle.model.specs.ReadBook.{read_book}
+use borrow.Author.Rules.{rules}
+use Rattle.book.proofs.load.load.Goals as goal
+
+pub returns : goal.returns
+unfolding read_book
+returns c = c.load_by.ensures

@@ -1,0 +1,15 @@
+use Rattle.query_survey.proofs.SeenLaws.{demand_is}
+use borrow.Author.Rules.{rules}
+use Rattle.query_survey.proofs.conditions.demand_seen.Goals as goal
+
+pub returns : goal.returns
+returns c =
+    λ rest.
+    let vertex = c.stands_before-vertex.ensures in
+    let edge = c.stands_before-edge.ensures in
+    let of_vertex = c.attr_seen-of_vertex.ensures in
+    let of_edge = c.attr_seen-of_edge.ensures in
+    demand_is _ _ c.args.t rest _ _ _ _ _ _ _
+    (rw (← vertex, ← edge, ← of_vertex.known, ← of_edge.known, ← c.neither-unknown.ensures) c.flagged-undeclared.ensures)
+    (rw (← vertex, ← edge, ← of_vertex.typed, ← of_edge.typed, ← c.neither-unsuited.ensures) c.flagged-mistyped.ensures)
+    c.less-fewer.ensures

@@ -1,0 +1,12 @@
+use mathlib.Core.Bool.{not, true}
+use Rattle.model.specs.Choice.{pick}
+use Rattle.query_survey.proofs.SeenLaws.{return_is}
+use mathlib.Core.Path.{ap, ◌∙◌}
+use borrow.Author.Rules.{rules}
+use Rattle.query_survey.proofs.conditions.return_seen.Goals as goal
+
+pub returns : goal.returns
+returns c =
+    λ b rest. return_is b _ c.args.t rest _ _ _ _
+    (c.flagged-undeclared.ensures ∙ ap (λ x. pick (not x) true c.args.t.undeclared)
+    c.stands_before-known.ensures) c.seen_before-twice.ensures c.less-fewer.ensures

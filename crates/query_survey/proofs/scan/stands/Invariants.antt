@@ -1,0 +1,18 @@
+use Rattle.query_survey.proofs.ScanLaws.{step_list, step_none, stands_on, stands_here, stands_none, stands_end}
+use Rattle.query_survey.specs.Names.{names_in, found_at}
+use Rattle.query_pieces.specs.Steps.{piece_of, StepInside}
+use Rattle.model.specs.Answers.{name_at}
+use Rattle.model.specs.Names.{mem}
+use lib.ListN.{take}
+use native.Mathlib.Omega.{arith}
+use Prim.Native.Nat.{◌-◌, ◌≤◌}
+use mathlib.Core.Path.{◌≡◌, sym, ap, subst, ◌∙◌}
+use borrow.Author.Rules.{rules}
+use Rattle.query_survey.proofs.scan.stands.Given as goal
+
+abbrev pub invariant-loop-i : goal.invariant-loop-i
+invariant-loop-i l = (l.i ≤ l.count)
+    × (mem (name_at l.s l.name) (names_in l.which (take (l.count - l.i) (found_at l.s l.place))) ≡ mem (name_at l.s l.name) (names_in l.which (take l.count (found_at l.s l.initial.place))))
+
+abbrev pub decreases-loop-i : goal.decreases-loop-i
+decreases-loop-i l = l.count - l.i

@@ -1,0 +1,28 @@
+-- `tidy_book` answers and leaves what the service does: the first refusal, of the memory or of the book, or what is written; then the memory is cleared.
+use mathlib.Core.Path.{ap, ◌∙◌}
+use native.Mathlib.Omega.{arith}
+use Rattle.model.specs.Service.{ones, tidy_service}
+use Rattle.written_book.proofs.LeavesLaws.{loaded, load_refused, cleared, whole_memory_law}
+use Rattle.tidy_book.proofs.TidyLaws.{book_loaded, refused_first}
+use borrow.Author.Rules.{rules}
+use Rattle.tidy_book.proofs.tidy_book.Goals as goal
+
+pub returns-in-Refused : goal.returns-in-Refused
+returns-in-Refused c =
+    let a = c.args in
+    let q = load_refused _ a.book.now _ c.load_whole.result _ _ c.in-Refused.is c.load_whole.ensures in
+    let h = refused_first _ a.book.now a.text.now _ q.0 in
+    (h.0, (h.1, q.1 ∙ ap ones (search rules)))
+
+pub write_tidy-written-requires : goal.write_tidy-written-requires
+write_tidy-written-requires c =
+    let a = c.args in
+    book_loaded _ a.book.now _ c.load_whole.result _ c.in-Loaded.is c.load_whole.ensures
+
+pub returns-in-Loaded : goal.returns-in-Loaded
+unfolding tidy_service
+returns-in-Loaded c =
+    let a = c.args in
+    let whole = (loaded _ a.book.now _ c.load_whole.result _ _ c.in-Loaded.is c.load_whole.ensures).0 in
+    let h = whole_memory_law _ a.text.now _ _ _ whole c.write_tidy-written.ensures in
+    (h.0, (h.1, cleared a.work.now _ _ c.fill.ensures (omega (arith, c.work-1.given))))

@@ -1,0 +1,17 @@
+-- `give_identities` meets its contract. The loop's invariant: the vertices below v have their nodes. Assumes nothing.
+use Rattle.weave.proofs.IdentityLaws.{GivenSoFar, given_start, given_more}
+use Rattle.woven_tables.specs.Tables.{NameInside}
+use Rattle.weave.specs.Identities.{identities_in, IdentitiesGiven}
+use native.Mathlib.Omega.{arith}
+use mathlib.Core.Logic.{inl}
+use mathlib.Core.Path.{◌≡◌, sym, subst}
+use Prim.Native.Nat.{◌+◌, ◌-◌, ◌/◌, ◌≤◌}
+use borrow.Author.Rules.{rules}
+use Rattle.weave.proofs.identities.give_identities.Given as goal
+
+abbrev pub invariant-loop-v : goal.invariant-loop-v
+invariant-loop-v l = (l.v ≤ l.n)
+    × GivenSoFar l.query l.rules (identities_in l.request l.identities l.count) l.initial.words l.words l.v l.mask
+
+abbrev pub decreases-loop-v : goal.decreases-loop-v
+decreases-loop-v l = l.n - l.v

@@ -1,0 +1,12 @@
+-- `tied` meets its contract. The loop's invariant: the steps that are left lead where all lead from the first marks. Assumes nothing.
+use Rattle.weave.proofs.TieLaws.{TiedSoFar, tied_start, tied_more, tied_unchanged, tied_end}
+use native.Mathlib.Omega.{arith}
+use Prim.Native.Nat.{◌-◌, ◌≤◌}
+use borrow.Author.Rules.{rules}
+use Rattle.weave.proofs.ties.tied.Given as goal
+
+abbrev pub invariant-loop-round : goal.invariant-loop-round
+invariant-loop-round l = (l.round ≤ l.vertices) × TiedSoFar l.words l.vertices l.edges l.mask l.marked l.round
+
+abbrev pub decreases-loop-round : goal.decreases-loop-round
+decreases-loop-round l = l.vertices - l.round
