@@ -12,7 +12,7 @@ returns-in-Refused c =
     let a = c.args in
     let q = load_refused _ a.book.now _ c.load_whole.result _ _ c.in-Refused.is c.load_whole.ensures in
     let h = refused_first _ a.book.now a.text.now _ q.0 in
-    (h.0, (h.1, q.1 ∙ ap ones (search rules)))
+    record { answer = h.0; text = h.1; cleared = q.1 ∙ ap ones (search rules) }
 
 pub write_tidy-written-requires : goal.write_tidy-written-requires
 write_tidy-written-requires c =
@@ -25,4 +25,4 @@ returns-in-Loaded c =
     let a = c.args in
     let whole = (loaded _ a.book.now _ c.load_whole.result _ _ c.in-Loaded.is c.load_whole.ensures).0 in
     let h = whole_memory_law _ a.text.now _ _ _ whole c.write_tidy-written.ensures in
-    (h.0, (h.1, cleared a.work.now _ _ c.fill.ensures (omega (arith, c.work-1.given))))
+    record { answer = h.0; text = h.1; cleared = cleared a.work.now _ _ c.fill.ensures (omega (arith, c.work-1.given)) }

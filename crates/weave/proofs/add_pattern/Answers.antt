@@ -31,7 +31,7 @@ returns-then-edge_sum-gt-MAX_WOVEN_EDGES c =
     let a = c.args in
     passed_by_edges a.query.now a.rules.now (actors_at a.rules.now a.actors.now a.actor_count) a.k a.base a.pattern
     a.words.now a.counts
-    (sym (length_map _ a.pattern.edges) ∙ c.well_formed.1.1.1.1.1.1.0.1.1.1.0.1.0.1) c.requires.fits.few_edges c.if-edge_sum-gt-MAX_WOVEN_EDGES.true
+    c.well_formed.1.1.1.1.1.1.0.1.1.1.0.1.0.1 c.requires.fits.few_edges c.if-edge_sum-gt-MAX_WOVEN_EDGES.true
 
 pub returns-then-exclusion_sum-gt-MAX_WOVEN_EXCLUSIONS : goal.returns-then-exclusion_sum-gt-MAX_WOVEN_EXCLUSIONS
 returns-then-exclusion_sum-gt-MAX_WOVEN_EXCLUSIONS c =

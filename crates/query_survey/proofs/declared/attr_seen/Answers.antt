@@ -36,5 +36,6 @@ unfolding name_at
 returns c =
     let a = c.args in
     let found = rw c.part_of.ensures at c.find_attr-k.ensures in
-    attr_out a.book.now a.words.now a.counts c.requires.0 a.owner _ (relation_of a.relation) (value_of a.s.now a.value) _ found
-    (rw c.tables-tables.ensures.declared at c.if-k-tables.false)
+    let p = attr_out a.book.now a.words.now a.counts c.requires.0 a.owner _ (relation_of a.relation) (value_of a.s.now a.value) _ found
+    (rw c.tables-tables.ensures.declared at c.if-k-tables.false) in
+    record { known = p.0; typed = p.1 }

@@ -22,7 +22,7 @@ returns-in_default c =
     sym (stands_none (name_at c.args.s.now c.args.name) c.args.which (c.args.count - c.loop-i.i)
     (found_at c.args.s.now c.loop-i.place)
     (step_none c.args.s.now c.loop-i.place c.next_piece.result c.next_piece.ensures
-    c.in_default.enum_told c.in_default.is)) ∙ c.loop-i.invariant.1
+    c.in_default.field-0 c.in_default.is)) ∙ c.loop-i.invariant.1
 
 pub has_name-requires : goal.has_name-requires
 has_name-requires c =

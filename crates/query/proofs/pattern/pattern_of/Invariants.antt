@@ -1,0 +1,19 @@
+-- `pattern_of` meets its contract. The loop's invariant: what is found so far is what the pieces before the place name. Assumes nothing.
+use native.Mathlib.Omega.{arith}
+use lib.ListN.{length}
+use mathlib.Core.Path.{subst, sym}
+use Rattle.book_tables.specs.View.{book_at}
+use Rattle.query_survey.specs.Names.{found_at}
+use Rattle.query.specs.PatternRead.{PatternRead}
+use Rattle.query.proofs.ArrayLaws.{fewer_pieces}
+use Rattle.query.proofs.VertexLaws.{vertices_inside}
+use Rattle.query.proofs.EdgeLaws.{edges_inside}
+use Rattle.query.proofs.WalkLaws.{ PatternSoFar, here_inside, pattern_start, pattern_end, start_own, start_on, link_own, link_room, link_on, differ_room, differ_on, asks_room, asks_on, returned_room, returned_on,
+use Rattle.query.proofs.pattern.pattern_of.Given as goal
+
+abbrev pub invariant-loop-x : goal.invariant-loop-x
+invariant-loop-x l =
+    PatternSoFar l.book l.words l.counts l.s l.place l.last l.found l.links l.conditions l.returned
+
+abbrev pub decreases-loop-x : goal.decreases-loop-x
+decreases-loop-x l = length (found_at l.s l.place)

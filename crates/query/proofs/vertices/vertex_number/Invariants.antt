@@ -1,0 +1,16 @@
+-- `vertex_number` meets its contract. The loop's invariant: none of the first k vertices has the name. Assumes nothing.
+use Prim.Native.Nat.{◌-◌, ◌≤◌}
+use mathlib.Core.Path.{◌≡◌, sym, ◌∙◌}
+use native.Mathlib.Omega.{arith}
+use lib.ListN.{length, length-map}
+use Rattle.model.specs.Answers.{name_at}
+use Rattle.model.specs.PlainData.{no_part}
+use Rattle.query.proofs.VertexLaws.{NoneNamed, number_start, number_on, number_found, number_none}
+use borrow.Author.Rules.{rules}
+use Rattle.query.proofs.vertices.vertex_number.Given as goal
+
+abbrev pub invariant-loop-k : goal.invariant-loop-k
+invariant-loop-k l = (l.k ≤ l.n) × NoneNamed (name_at l.s) no_part l.vertices.parts (name_at l.s l.name) l.k
+
+abbrev pub decreases-loop-k : goal.decreases-loop-k
+decreases-loop-k l = l.n - l.k
