@@ -4,7 +4,7 @@ use mathlib.Core.Path.{◌≡◌, refl, sym, ap, subst, ◌∙◌}
 use mathlib.Core.List.{List}
 use mathlib.Core.Bool.{Bool, true, false}
 use lib.ListN.{length}
-use Rattle.rules_tables.specs.Layout.{rules_words}
+use Rattle.rules_tables.specs.Layout.{all_rules_words}
 use Rattle.model.specs.Bytes.{Bytes}
 use Rattle.model.specs.Refusal.{accepted}
 use Rattle.model.specs.Book.{Book}
@@ -35,7 +35,7 @@ module _ (needed : Bool) (b : Book) (text : Bytes) where
       go (load.Loaded c) (is, fits, short) = (is, fits)
       go (load.Refused x) h = h
 
-  pub rules_not_needed : needed ≡ false → (table : List ℕ) → rules_words ≤ length table
+  pub rules_not_needed : needed ≡ false → (table : List ℕ) → all_rules_words ≤ length table
       → RulesGiven text table (rules_if needed b text) (load.Loaded (record { categories = 0; policies = 0 }))
   rules_not_needed e table room =
       subst (λ (t : Bool). RulesGiven text table (rules_if t b text) (load.Loaded (record { categories = 0; policies = 0 }))) (sym e)

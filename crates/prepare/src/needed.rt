@@ -1,6 +1,6 @@
 // Reading a text against the book and the rules, if it is needed.
 ghost use Rattle.std.specs.Prelude.{◌≡◌, ◌≤◌, length};
-ghost use Rattle.rules_tables.specs.Layout.{rules_words};
+ghost use Rattle.rules_tables.specs.Layout.{all_rules_words};
 ghost use Rattle.book_tables.specs.View.{book_at};
 ghost use Rattle.book_tables.specs.Fits.{Fits};
 ghost use Rattle.rules_tables.specs.Fits.{Fits as RulesFit};
@@ -22,7 +22,7 @@ pub fn rules(
     text: &[u8],
     table: &mut [u32],
 ) -> RulesLoad
-    requires { Fits book.now words.now counts × (rules_words ≤ length table.old) }
+    requires { Fits book.now words.now counts × (all_rules_words ≤ length table.old) }
     ensures { RulesGiven text.now table.new
         (rules_if needed (book_at book.now words.now counts) text.now) result }
 {

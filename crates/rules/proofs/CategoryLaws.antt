@@ -29,7 +29,7 @@ use Rattle.book_tables.proofs.ListedLaws.{get_d_listed}
 use Rattle.book_tables.proofs.NameLaws.{length_names}
 use Rattle.book_tables.proofs.AgreeLaws.{name_kept, names_kept}
 use Rattle.rules_tables.specs.declared.RulesCounts.{RulesCounts}
-use Rattle.rules_tables.specs.Layout.{names, slot, actor_count_at, over_count_at, lower_at, actors_from, over_from, rules_words}
+use Rattle.rules_tables.specs.Layout.{names, slot, actor_count_at, over_count_at, lower_at, actors_from, over_from, all_rules_words}
 use Rattle.rules_tables.specs.View.{actors_at, over_at, lower_set, rules_at}
 use Rattle.rules_tables.specs.Fits.{rank, below_some, CategoryFits, Fits, Holds, LowerAsked}
 use Rattle.rules_tables.specs.Agree.{Free, Agree}
@@ -102,7 +102,7 @@ stored_agrees words words' c j s base ns l h st = record {
   policies = λ x b. st.above (448 + x) (omega arith);
 }
 
-module _ (words : List ℕ) (k name actors over lower : ℕ) (room : rules_words ≤ length words) (l : k < 16) where
+module _ (words : List ℕ) (k name actors over lower : ℕ) (room : all_rules_words ≤ length words) (l : k < 16) where
   abbrev after : List ℕ
   after = with_category words k name actors over lower
 

@@ -7,7 +7,7 @@ use native.Mathlib.Omega.{arith}
 use lib.ListN.{length, take, drop, length-drop}
 use lib.Seq.{length-take-le}
 use borrow.Author.Tests.{lt-ltb, le-ltb}
-use Rattle.rules_tables.specs.Layout.{rules_words}
+use Rattle.rules_tables.specs.Layout.{all_rules_words}
 use Rattle.model.specs.Bytes.{Bytes}
 use Rattle.model.specs.Choice.{Maybe, and_then}
 use Rattle.model.specs.Lines.{Step, fault, known, form_step, read_lines, lines_of}
@@ -43,7 +43,7 @@ module _ (text : Bytes) (words : List ℕ) (c : RulesCounts) (none : c.categorie
   unfolding rules_at listed
   empty_is = rw (none, no_policy)
 
-  pub empty_fits : rules_words ≤ length words → Fits text words c
+  pub empty_fits : all_rules_words ≤ length words → Fits text words c
   empty_fits room = record {
     room = room;
     few = omega arith;
@@ -54,7 +54,7 @@ module _ (text : Bytes) (words : List ℕ) (c : RulesCounts) (none : c.categorie
     one_each = λ i j l m e. absurd (omega arith);
   }
 
-  pub reading_start : (b : Book) → rules_words ≤ length words → Reading b text words words 0 1 c
+  pub reading_start : (b : Book) → all_rules_words ≤ length words → Reading b text words words 0 1 c
   reading_start b room = record {
     size = refl;
     fits = empty_fits room;

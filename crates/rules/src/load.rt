@@ -1,6 +1,6 @@
 // The rules of a text, line by line, into the tables.
 ghost use Rattle.std.specs.Prelude.{◌≤◌, length};
-ghost use Rattle.rules_tables.specs.Layout.{rules_words};
+ghost use Rattle.rules_tables.specs.Layout.{all_rules_words};
 ghost use Rattle.model.specs.Choice.{and_then};
 ghost use Rattle.model.specs.Items.{line_items};
 ghost use Rattle.model.specs.Lines.{read_lines, lines_of};
@@ -107,7 +107,7 @@ fn load_lines(
     text: &[u8],
     rules_words: &mut [u32],
 ) -> RulesLoad
-    requires { BookFits book.now words.now counts × (length text.now ≤ 16384) × (rules_words ≤ length rules_words.old) }
+    requires { BookFits book.now words.now counts × (length text.now ≤ 16384) × (all_rules_words ≤ length rules_words.old) }
     ensures { Loaded (book_at book.now words.now counts) text.now rules_words.new result
         (on_accept (read_lines 2 (rules_step (book_at book.now words.now counts)) 1 no_rules (lines_of text.now)) covered) }
 {
@@ -142,7 +142,7 @@ pub fn load(
     text: &[u8],
     rules_words: &mut [u32],
 ) -> RulesLoad
-    requires { BookFits book.now words.now counts × (rules_words ≤ length rules_words.old) }
+    requires { BookFits book.now words.now counts × (all_rules_words ≤ length rules_words.old) }
     ensures { Loaded (book_at book.now words.now counts) text.now rules_words.new result
         (read_rules (book_at book.now words.now counts) text.now) }
 {

@@ -9,7 +9,7 @@ ghost use Rattle.model.specs.Answers.{name_at};
 ghost use Rattle.model.specs.ReadRules.{category, lacks_actor, rules_fault};
 ghost use Rattle.book_tables.specs.View.{name_of, names_at};
 ghost use Rattle.book_tables.specs.Fits.{NamesFit};
-ghost use Rattle.rules_tables.specs.Layout.{names, rules_words};
+ghost use Rattle.rules_tables.specs.Layout.{names, all_rules_words};
 ghost use Rattle.rules_tables.specs.View.{actors_at, rules_at};
 ghost use Rattle.rules_tables.specs.Fits.{CategoryFits, Fits};
 ghost use Rattle.item_forms.specs.Places.{WordPlaces};
@@ -80,7 +80,7 @@ fn is_past_limit(count: usize, s: &[u8], a: usize) -> bool
 
 // Whether an actor of category k is none of the names from a place on.
 fn lacks_one_of(text: &[u8], words: &[u32], k: usize, s: &[u8], a: usize) -> bool
-    requires { CategoryFits text.now words.now k × (k < 16) × (rules_words ≤ length words.now) }
+    requires { CategoryFits text.now words.now k × (k < 16) × (all_rules_words ≤ length words.now) }
     ensures { (x : NamesRead) → names_behind s.now a ≡ just x
         → result ≡ not (all (λ w. mem w x.names) (actors_at text.now words.now k)) }
 {
@@ -102,7 +102,7 @@ fn lacks_one_of(text: &[u8], words: &[u32], k: usize, s: &[u8], a: usize) -> boo
 
 // Whether category k is one of those listed from o on, and one of its actors is none of those from a on.
 fn lacks_of_lower(text: &[u8], words: &[u32], k: usize, s: &[u8], a: usize, o: usize) -> bool
-    requires { CategoryFits text.now words.now k × NamesFit text.now words.now names (k + 1) × (k < 16) × (rules_words ≤ length words.now) }
+    requires { CategoryFits text.now words.now k × NamesFit text.now words.now names (k + 1) × (k < 16) × (all_rules_words ≤ length words.now) }
     ensures { (x y : NamesRead) → names_behind s.now a ≡ just x → names_behind s.now o ≡ just y
         → result ≡ (mem (name_of text.now words.now names k) y.names
         && not (all (λ w. mem w x.names) (actors_at text.now words.now k))) }

@@ -10,7 +10,7 @@ use Rattle.model.specs.Rules.{Rules}
 use Rattle.book_tables.specs.View.{word_at, name_of, names_at}
 use Rattle.book_tables.specs.Fits.{Inside, NamesFit}
 use Rattle.rules_tables.specs.declared.RulesCounts.{RulesCounts}
-use Rattle.rules_tables.specs.Layout.{names, actor_count_at, over_count_at, actors_from, over_from, policy_at, rules_words}
+use Rattle.rules_tables.specs.Layout.{names, actor_count_at, over_count_at, actors_from, over_from, policy_at, all_rules_words}
 use Rattle.rules_tables.specs.View.{over_at, lower_set, policy_category, policy_text, tree_of, rules_at}
 
 -- the number of a category among the k first
@@ -37,7 +37,7 @@ pub record PolicyFits (text : Bytes) (words : List ℕ) (categories i : ℕ) : T
   pub is_query : query_text (policy_text text words i) ≡ just (tree_of (policy_text text words i))
 
 pub record Fits (text : Bytes) (words : List ℕ) (c : RulesCounts) : Type 0 where
-  pub room : rules_words ≤ length words
+  pub room : all_rules_words ≤ length words
   pub few : c.categories ≤ 16
   pub few_policies : c.policies ≤ c.categories
   pub named : NamesFit text words names c.categories
@@ -52,13 +52,13 @@ pub record Holds (text : Bytes) (words : List ℕ) (c : RulesCounts) (r : Rules)
 
 -- there is room for all that is counted
 pub record Within (words : List ℕ) (c : RulesCounts) : Type 0 where
-  pub room : rules_words ≤ length words
+  pub room : all_rules_words ≤ length words
   pub few : c.categories ≤ 16
   pub few_policies : c.policies ≤ 16
 
 -- what the lower set of category k asks, which is over as many earlier ones as are given
 pub record LowerAsked (text : Bytes) (words : List ℕ) (k over : ℕ) : Type 0 where
-  pub room : rules_words ≤ length words
+  pub room : all_rules_words ≤ length words
   pub few : k < 16
   pub few_over : over ≤ 16
   pub named : NamesFit text words names k

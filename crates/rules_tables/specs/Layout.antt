@@ -30,5 +30,5 @@ abbrev pub policy_at : ℕ → ℕ
 policy_at i = 448 + 3 * i
 
 -- all tables together
-abbrev pub rules_words : ℕ
-rules_words = 512
+abbrev pub all_rules_words : ℕ
+all_rules_words = 512

@@ -1,6 +1,6 @@
 // The stores: one name, one category, one policy more in the tables.
 ghost use Rattle.std.specs.Prelude.{◌≡◌, ◌+◌, ◌*◌, ◌≤◌, ◌<◌, length, set};
-ghost use Rattle.rules_tables.specs.Layout.{rules_words};
+ghost use Rattle.rules_tables.specs.Layout.{all_rules_words};
 ghost use Rattle.rules_tables.specs.Stores.{with_category, with_policy};
 
 use crate::{
@@ -25,7 +25,7 @@ pub fn store_category(
     over: usize,
     lower: u32,
 )
-    requires { (rules_words ≤ length words.old) × (k < 16) × (actors ≤ 8) × (over ≤ 16) }
+    requires { (all_rules_words ≤ length words.old) × (k < 16) × (actors ≤ 8) × (over ≤ 16) }
     ensures { words.new ≡ with_category words.old k name actors over lower }
 {
     words[CATEGORY_NAMES + k] = name;
@@ -36,7 +36,7 @@ pub fn store_category(
 
 // Policy i: its category's number, start and length of its text.
 pub fn store_policy(words: &mut [u32], i: usize, category: usize, start: usize, size: usize)
-    requires { (rules_words ≤ length words.old) × (i < 16) × (category < 16) × (start + size ≤ 16384) }
+    requires { (all_rules_words ≤ length words.old) × (i < 16) × (category < 16) × (start + size ≤ 16384) }
     ensures { words.new ≡ with_policy words.old i category start size }
 {
     words[POLICIES + POLICY_WORDS * i] = category as u32;

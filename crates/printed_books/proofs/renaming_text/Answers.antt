@@ -10,4 +10,4 @@ unfolding printed_renaming rename_service
 returns c =
     let a = c.args in
     let r = c.rename_book-written in
-    c.book_or_refusal.ensures (renamed_book a.book.now) a.out.now (search rules) r.ensures.answer r.ensures.text.0
+    c.book_or_refusal.ensures (renamed_book a.book.now) a.out.now (search rules) r.ensures.answer r.ensures.text

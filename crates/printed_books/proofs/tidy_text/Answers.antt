@@ -10,4 +10,4 @@ unfolding printed_tidy tidy_service
 returns c =
     let a = c.args in
     let r = c.tidy_book-written in
-    c.book_or_refusal.ensures (tidy_book a.book.now) a.out.now (search rules) r.ensures.answer r.ensures.text.0
+    c.book_or_refusal.ensures (tidy_book a.book.now) a.out.now (search rules) r.ensures.answer r.ensures.text

@@ -8,13 +8,8 @@ use Rattle.query.specs.PatternRead.{PatternRead}
 use Rattle.query.proofs.ArrayLaws.{fewer_pieces}
 use Rattle.query.proofs.VertexLaws.{vertices_inside}
 use Rattle.query.proofs.EdgeLaws.{edges_inside}
-use Rattle.query.proofs.WalkLaws.{ PatternSoFar, here_inside, pattern_start, pattern_end, start_own, start_on, link_own, link_room, link_on, differ_room, differ_on, asks_room, asks_on, returned_room, returned_on,
+use Rattle.query.proofs.WalkLaws.{PatternSoFar, here_inside, pattern_start, pattern_end, start_own, start_on, link_own, link_room, link_on, differ_room, differ_on, asks_room, asks_on, returned_room, returned_on}
 use Rattle.query.proofs.pattern.pattern_of.Goals as goal
-
-}
-use borrow.Author.Rules.{rules}
-use Rattle.query.proofs.pattern.pattern_of.Statement.{statement}
-use Rattle.query.proofs.pattern.pattern_of.Tie as tie
 
 pub loop-x-init : goal.loop-x-init
 loop-x-init c =

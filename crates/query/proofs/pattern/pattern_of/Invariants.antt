@@ -8,7 +8,7 @@ use Rattle.query.specs.PatternRead.{PatternRead}
 use Rattle.query.proofs.ArrayLaws.{fewer_pieces}
 use Rattle.query.proofs.VertexLaws.{vertices_inside}
 use Rattle.query.proofs.EdgeLaws.{edges_inside}
-use Rattle.query.proofs.WalkLaws.{ PatternSoFar, here_inside, pattern_start, pattern_end, start_own, start_on, link_own, link_room, link_on, differ_room, differ_on, asks_room, asks_on, returned_room, returned_on,
+use Rattle.query.proofs.WalkLaws.{PatternSoFar}
 use Rattle.query.proofs.pattern.pattern_of.Given as goal
 
 abbrev pub invariant-loop-x : goal.invariant-loop-x

@@ -1,0 +1,14 @@
+-- The rules being read: the query is refused, or what the request gives.
+use Rattle.prepare.proofs.StepLaws.{query_refused, request_read_law}
+use borrow.Author.Rules.{rules}
+use Rattle.prepare.proofs.after_rules.Goals as goal
+
+pub returns-in-Refused : goal.returns-in-Refused
+returns-in-Refused c =
+    let q = c.query-verdict in
+    query_refused _ _ _ _ _ _ _ _ _ q.result q.ensures _ c.in-Refused.is _ c.refused.ensures
+
+pub returns : goal.returns
+returns c =
+    let q = c.query-verdict in
+    request_read_law _ _ _ _ _ _ _ _ _ c.requires q.result q.ensures c.in_default.is _ c.request-request.ensures
