@@ -20,7 +20,7 @@ use Rattle.weave.specs.declared.PatternAdded.{PatternAdded}
 use Rattle.weave.specs.declared.PatternAdded.TheVariants as added
 use Rattle.weave.specs.Adding.{TextAdded}
 use Rattle.weave.specs.Identities.{identities_in}
-use Rattle.weave.specs.Given.{Identified}
+use Rattle.weave.specs.Given.{Given, Identified}
 use Rattle.query.specs.PatternRead.{PatternRead}
 use Rattle.prepare.specs.declared.Ready.{Ready}
 use Rattle.enforce.specs.declared.TextPlace.{TextPlace}
@@ -57,6 +57,7 @@ pub record AllWoven (book : Bytes) (words : List ℕ) (k : BookCounts) (query ru
     (woven : List ℕ) (c : WovenCounts) : Type 0 where
   pub held : woven_at (book_at book words k) query rules woven c ≡ weave asked
   pub no_fault : woven_fault (weave asked) ids ≡ nothing
+  pub given : Given book words k query rules woven c
   pub identified : (T (twice (map (λ i. i.actor) ids)) → ⊥) → Identified (weave asked) ids woven
   pub returns : c.returns ≡ returned
 
@@ -71,4 +72,5 @@ AskedAnswer book words query rules rules_words request r woven out =
     (x : Request) → x.category ≡ name_of rules rules_words names r.request.category
     → x.identities ≡ identities_in request r.request.identities r.request.count
     → (tree : QueryText) → query_text query ≡ just tree
-    → AskedSays book words r.book query rules (asked_query (rules_at rules rules_words r.rules) x tree ∷ asked_policies (rules_at rules rules_words r.rules) x) x.identities (length tree.returns) woven out
+    → let the_rules = rules_at rules rules_words r.rules in
+    AskedSays book words r.book query rules (asked_query the_rules x tree ∷ asked_policies the_rules x) x.identities (length tree.returns) woven out

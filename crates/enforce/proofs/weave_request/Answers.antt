@@ -45,7 +45,7 @@ returns-then-finish c =
     a.ready.request.category given.texts old new _ held
     (identities_in a.request.now a.ready.request.identities a.ready.request.count)
     (subst (Finished a.query.now a.rules.now (identities_in a.request.now a.ready.request.identities a.ready.request.count) old
-    new c.in-Woven.all) c.if-finish.true c.finish.ensures)
+    new c.in-Woven.shape) c.if-finish.true c.finish.ensures)
     (omega (arith, c.requires.1, c.weave_texts-all.auto.woven, c.finish.auto.words)))
 
 pub returns : goal.returns
@@ -62,4 +62,4 @@ returns c =
     a.ready.request.category given.texts old new _ held
     (identities_in a.request.now a.ready.request.identities a.ready.request.count)
     (subst (Finished a.query.now a.rules.now (identities_in a.request.now a.ready.request.identities a.ready.request.count) old
-    new c.in-Woven.all) c.if-finish.false c.finish.ensures))
+    new c.in-Woven.shape) c.if-finish.false c.finish.ensures))
