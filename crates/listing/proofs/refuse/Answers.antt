@@ -1,0 +1,7 @@
+-- A refusal of a list: the row words are filled.
+use Rattle.listing.proofs.ListingLaws.{lists_nothing}
+use borrow.Author.Rules.{rules}
+use Rattle.listing.proofs.refuse.Goals as goal
+
+pub returns : goal.returns
+returns c = lists_nothing _ c.args.rows.now _ c.fill.ensures
