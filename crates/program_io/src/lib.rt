@@ -1,15 +1,15 @@
 // What the programs share: reading texts from files, and printing. No contract can say what reached the output, so `print_front` promises nothing.
+#![tactic(auto)]
+
 ghost use Rattle.std.specs.Prelude.{◌≤◌, length};
+
+use std::io;
 
 pub mod files; // files.rt: texts from files
 
-use libc::STDOUT_FILENO;
-
-// Prints the first bytes of a text; an output that does not take them all is told on standard error.
-pub fn print_front(text: &[u8], n: usize)
+// Prints the first bytes of a text, or answers why the output does not take them all.
+pub fn print_front(rt: &impl Print, text: &[u8], n: usize) -> io::Result<()>
     requires { n ≤ length text.now }
 {
-    if !io::write_all(STDOUT_FILENO, &text[0..n]) {
-        os::fail(b"standard output");
-    }
+    rt.write_all(&text[..n])
 }
