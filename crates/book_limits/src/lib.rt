@@ -1,9 +1,12 @@
 // Tries the limits of a book at their edges: one text within each limit, and one past it.
 // `print` and the functions that try something only print, and no contract can say what reached the output; those that put bytes into a text
 // are held to what the program prints.
+#![tactic(auto)]
+
 use model::BookRead;
 use model::limits::{MAX_BOOK_BYTES, MAX_DECLARED, MAX_NODES, MAX_RELATIONSHIPS, WORK_WORDS};
 use putting::bytes::{put_byte, put_bytes};
+use std::io;
 
 // Room for the longest text tried.
 const TEXT_BYTES: usize = 65600;
@@ -75,116 +78,127 @@ fn put_long_line(text: &mut [u8], bytes: usize) -> usize {
 }
 
 // Prints a number behind a space.
-fn print(n: u64) {
-    io::write_all(1, b" ");
-    io::print_decimal(1, n);
+fn print(rt: &impl Print, n: u64) -> io::Result<()> {
+    print!(rt; " {n}")
 }
 
 // Reads the first n bytes of a text and prints what the service answers.
-fn try_book(name: &[u8], text: &[u8], n: usize, work: &mut [u32]) {
-    io::write_all(1, name);
+fn try_book(
+    rt: &impl Print,
+    name: &[u8],
+    text: &[u8],
+    n: usize,
+    work: &mut [u32],
+) -> io::Result<()> {
+    rt.write_all(name)?;
     if text.len() < n {
-        return;
+        return Ok(());
     }
     match service::read_book(&text[0..n], work) {
         BookRead::Counts(nodes, relationships, entries) => {
-            io::write_all(1, b": counts");
-            print(nodes as u64);
-            print(relationships as u64);
-            print(entries as u64);
+            rt.write_all(b": counts")?;
+            print(rt, nodes as u64)?;
+            print(rt, relationships as u64)?;
+            print(rt, entries as u64)?;
         }
         BookRead::Refused(refusal) => {
-            io::write_all(1, b": refused");
-            print(refusal.number as u64);
-            print(refusal.text as u64);
-            print(refusal.line as u64);
+            rt.write_all(b": refused")?;
+            print(rt, refusal.number as u64)?;
+            print(rt, refusal.text as u64)?;
+            print(rt, refusal.line as u64)?;
         }
     }
-    io::write_all(1, b"\n");
+    rt.write_all(b"\n")
 }
 
 // As many lines of one form.
-fn try_lines(name: &[u8], count: usize, before: &[u8], behind: &[u8]) {
+fn try_lines(
+    rt: &impl Print,
+    name: &[u8],
+    count: usize,
+    before: &[u8],
+    behind: &[u8],
+) -> io::Result<()> {
     let mut space = [0u8; TEXT_BYTES];
     let text: &mut [u8] = &mut space;
     let mut work = [0u32; WORK_WORDS];
     let n = put_lines(text, 0, count, before, behind);
-    try_book(name, text, n, &mut work);
+    try_book(rt, name, text, n, &mut work)
 }
 
 // As many relationships.
-fn try_relationships(name: &[u8], count: usize) {
+fn try_relationships(rt: &impl Print, name: &[u8], count: usize) -> io::Result<()> {
     let mut space = [0u8; TEXT_BYTES];
     let text: &mut [u8] = &mut space;
     let mut work = [0u32; WORK_WORDS];
     let n = put_relationships(text, count);
-    try_book(name, text, n, &mut work);
+    try_book(rt, name, text, n, &mut work)
 }
 
 // 2,048 entries, and what a last line adds.
-fn try_entries(name: &[u8], last: &[u8]) {
+fn try_entries(rt: &impl Print, name: &[u8], last: &[u8]) -> io::Result<()> {
     let mut space = [0u8; TEXT_BYTES];
     let text: &mut [u8] = &mut space;
     let mut work = [0u32; WORK_WORDS];
     let all = put_entries(text);
     let n = put_bytes(last, text, all);
-    try_book(name, text, n, &mut work);
+    try_book(rt, name, text, n, &mut work)
 }
 
 // As many bytes.
-fn try_bytes(name: &[u8], bytes: usize) {
+fn try_bytes(rt: &impl Print, name: &[u8], bytes: usize) -> io::Result<()> {
     let mut space = [0u8; TEXT_BYTES];
     let text: &mut [u8] = &mut space;
     let mut work = [0u32; WORK_WORDS];
     let n = put_long_line(text, bytes);
-    try_book(name, text, n, &mut work);
+    try_book(rt, name, text, n, &mut work)
 }
 
 // A whole number.
-fn try_number(name: &[u8], digits: &[u8]) {
+fn try_number(rt: &impl Print, name: &[u8], digits: &[u8]) -> io::Result<()> {
     let mut space = [0u8; TEXT_BYTES];
     let text: &mut [u8] = &mut space;
     let mut work = [0u32; WORK_WORDS];
     let opened = put_bytes(b"(vattr rate int)\n(node a (rate ", text, 0);
     let numbered = put_bytes(digits, text, opened);
     let n = put_bytes(b"))\n", text, numbered);
-    try_book(name, text, n, &mut work);
+    try_book(rt, name, text, n, &mut work)
 }
 
 // A working memory that is one word short.
-fn try_memory(name: &[u8]) {
+fn try_memory(rt: &impl Print, name: &[u8]) -> io::Result<()> {
     let text = [0u8; TEXT_BYTES];
     let mut work = [0u32; WORK_WORDS - 1];
-    try_book(name, &text, 0, &mut work);
+    try_book(rt, name, &text, 0, &mut work)
 }
 
-fn try_names() {
-    try_lines(b"32 vattr", MAX_DECLARED, b"(vattr a", b" int)\n");
-    try_lines(b"33 vattr", MAX_DECLARED + 1, b"(vattr a", b" int)\n");
-    try_lines(b"32 eattr", MAX_DECLARED, b"(eattr a", b" str)\n");
-    try_lines(b"33 eattr", MAX_DECLARED + 1, b"(eattr a", b" str)\n");
-    try_lines(b"32 label", MAX_DECLARED, b"(label a", b")\n");
-    try_lines(b"33 label", MAX_DECLARED + 1, b"(label a", b")\n");
+fn try_names(rt: &impl Print) -> io::Result<()> {
+    try_lines(rt, b"32 vattr", MAX_DECLARED, b"(vattr a", b" int)\n")?;
+    try_lines(rt, b"33 vattr", MAX_DECLARED + 1, b"(vattr a", b" int)\n")?;
+    try_lines(rt, b"32 eattr", MAX_DECLARED, b"(eattr a", b" str)\n")?;
+    try_lines(rt, b"33 eattr", MAX_DECLARED + 1, b"(eattr a", b" str)\n")?;
+    try_lines(rt, b"32 label", MAX_DECLARED, b"(label a", b")\n")?;
+    try_lines(rt, b"33 label", MAX_DECLARED + 1, b"(label a", b")\n")
 }
 
-fn try_numbers() {
-    try_number(b"9223372036854775807", b"9223372036854775807");
-    try_number(b"9223372036854775808", b"9223372036854775808");
-    try_number(b"-9223372036854775808", b"-9223372036854775808");
-    try_number(b"-9223372036854775809", b"-9223372036854775809");
+fn try_numbers(rt: &impl Print) -> io::Result<()> {
+    try_number(rt, b"9223372036854775807", b"9223372036854775807")?;
+    try_number(rt, b"9223372036854775808", b"9223372036854775808")?;
+    try_number(rt, b"-9223372036854775808", b"-9223372036854775808")?;
+    try_number(rt, b"-9223372036854775809", b"-9223372036854775809")
 }
 
 // Tries every limit.
-pub fn run() {
-    try_lines(b"256 nodes", MAX_NODES, b"(node n", b")\n");
-    try_lines(b"257 nodes", MAX_NODES + 1, b"(node n", b")\n");
-    try_relationships(b"1024 relationships", MAX_RELATIONSHIPS);
-    try_relationships(b"1025 relationships", MAX_RELATIONSHIPS + 1);
-    try_entries(b"2048 entries", b"");
-    try_entries(b"2049 entries", b"(node m (a0000 1))\n");
-    try_names();
-    try_bytes(b"65536 bytes", MAX_BOOK_BYTES);
-    try_bytes(b"65537 bytes", MAX_BOOK_BYTES + 1);
-    try_numbers();
-    try_memory(b"16383 words");
+pub fn run(rt: &impl Print) -> io::Result<()> {
+    try_lines(rt, b"256 nodes", MAX_NODES, b"(node n", b")\n")?;
+    try_lines(rt, b"257 nodes", MAX_NODES + 1, b"(node n", b")\n")?;
+    try_relationships(rt, b"1024 relationships", MAX_RELATIONSHIPS)?;
+    try_relationships(rt, b"1025 relationships", MAX_RELATIONSHIPS + 1)?;
+    try_entries(rt, b"2048 entries", b"")?;
+    try_entries(rt, b"2049 entries", b"(node m (a0000 1))\n")?;
+    try_names(rt)?;
+    try_bytes(rt, b"65536 bytes", MAX_BOOK_BYTES)?;
+    try_bytes(rt, b"65537 bytes", MAX_BOOK_BYTES + 1)?;
+    try_numbers(rt)?;
+    try_memory(rt, b"16383 words")
 }
