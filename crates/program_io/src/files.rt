@@ -1,6 +1,9 @@
 // Texts from files. No contract can say what a file holds, nor what the system told of it (the `whole` of FileRead and of TextsRead); these say that the
 // bytes counted are in the buffer.
+ghost use Rattle.std.specs.Prelude.{◌≡◌, ◌<◌, take, length, IfSome, IsTrue, OnOk};
 ghost use Rattle.io.specs.Counts.{IsPrefixLen};
+ghost use Rattle.std.specs.Io.{StartsWith};
+ghost use Rattle.std.specs.Io.KnownBytes.{Consumes, IsAtEnd};
 
 use model::limits::{MAX_BOOK_BYTES, MAX_QUERY_BYTES, MAX_REQUEST_BYTES, MAX_RULES_BYTES};
 use std::io::Read;
@@ -98,7 +101,9 @@ fn read_opened<F: Read + Drop>(
     path: &[u8],
     text: &mut [u8],
 ) -> FileRead
-    ensures { IsPrefixLen result.length text.new }
+    ensures inside { IsPrefixLen result.length text.new }
+    ensures first { IfSome (F.remaining file) (λ held. StartsWith held (take result.length text.new)) }
+    ensures whole { IsTrue result.whole → IfSome (F.remaining file) (λ held. take result.length text.new ≡ take (length text.new) held) }
 {
     let (length, read) = read_full(&mut file, text);
     match read {
@@ -118,7 +123,9 @@ fn read_opened<F: Read + Drop>(
 
 // Reads until the buffer is full or the input ends, or up to a read that fails.
 fn read_full<F: Read>(file: &mut F, text: &mut [u8]) -> (usize, io::Result<()>)
-    ensures { IsPrefixLen result.0 text.new }
+    ensures inside { IsPrefixLen result.0 text.new }
+    ensures bytes { Consumes (F.remaining file.old) (F.remaining file.new) (take result.0 text.new) }
+    ensures whole { OnOk result.1 (result.0 < length text.new → IsAtEnd (F.remaining file.new)) }
 {
     let mut done = 0;
     while done < text.len() {
