@@ -95,7 +95,7 @@ fn print_list(
     query: &[u8],
     request: &[u8],
 ) -> io::Result<()> {
-    let mut text = [0u8; LIST_BYTES];
+    let mut text: [u8; LIST_BYTES] = program_io::room();
     let length = printed::list_text(book, rules, query, request, &mut text);
     program_io::print_front(rt, &text, length)
 }
