@@ -25,10 +25,8 @@ const PATH_BYTES: usize = 32;
 
 // Prints every case.
 pub fn run(rt: &(impl Files + Print + Eprint)) -> io::Result<()> {
-    let mut i = 1;
-    while i <= CASES {
+    for i in 1..=CASES {
         print_case(rt, i)?;
-        i += 1;
     }
     Ok(())
 }
