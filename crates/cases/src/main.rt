@@ -7,7 +7,8 @@ mod list_cases; // list_cases.rt: every service on sets of texts
 mod query_cases; // query_cases.rt: the query reader and writer on many texts
 
 fn main(rt: HostRuntime) -> io::Result<()> {
-    query_cases::run(&rt)?;
-    list_cases::run(&rt)?;
-    book_limits::run(&rt)
+    let mut out = io::writer(&rt);
+    query_cases::run(&rt, &mut out)?;
+    list_cases::run(&rt, &mut out)?;
+    book_limits::run(&mut out)
 }

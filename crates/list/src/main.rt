@@ -2,11 +2,16 @@
 // A file that cannot be read to its end is told on standard error, and no list is printed; so is an output that does not take the whole list.
 #![tactic(auto)]
 
+ghost use Rattle.std.specs.Prelude.{OnOk};
+ghost use Rattle.std.specs.Io.KnownBytes.{Appends};
+ghost use Rattle.model.specs.Printed.{printed};
+
 use anyhow::Context;
 use printed::LIST_BYTES;
 use program_io::files;
 use program_io::files::{BOOK_ROOM, QUERY_ROOM, REQUEST_ROOM, RULES_ROOM};
 use std::io;
+use std::io::Write;
 
 fn main(rt: HostRuntime) -> anyhow::Result<()> {
     let mut book = [0u8; BOOK_ROOM];
@@ -16,7 +21,7 @@ fn main(rt: HostRuntime) -> anyhow::Result<()> {
     let read = files::read_texts(&rt, &mut book, &mut rules, &mut query, &mut request);
     if read.whole {
         print_list(
-            &rt,
+            &mut io::writer(&rt),
             &book[..read.book],
             &rules[..read.rules],
             &query[..read.query],
@@ -27,15 +32,17 @@ fn main(rt: HostRuntime) -> anyhow::Result<()> {
     Ok(())
 }
 
-// Prints the list of four texts, or the refusal. No contract can say what reached the output.
-fn print_list(
-    rt: &impl Print,
+// Prints the list of four texts, or the refusal.
+fn print_list<W: Write>(
+    out: &mut W,
     book: &[u8],
     rules: &[u8],
     query: &[u8],
     request: &[u8],
-) -> io::Result<()> {
+) -> io::Result<()>
+    ensures { OnOk result (Appends (W.contents out.old) (W.contents out.new) (printed book.now rules.now query.now request.now)) }
+{
     let mut text: [u8; LIST_BYTES] = program_io::room();
     let length = printed::list_text(book, rules, query, request, &mut text);
-    program_io::print_front(rt, &text, length)
+    program_io::print_front(out, &text, length)
 }

@@ -1,20 +1,24 @@
-// What the programs share: reading texts from files, and printing. No contract can say what reached the output, so `print_front` promises nothing.
+// What the programs share: reading texts from files, and printing. No contract can say what reached the system's output; `print_front` says what it gives a
+// writer whose bytes are known.
 #![tactic(auto)]
 
-ghost use Rattle.std.specs.Prelude.{◌≡◌, ◌≤◌, length};
+ghost use Rattle.std.specs.Prelude.{◌≡◌, ◌≤◌, take, length, OnOk};
+ghost use Rattle.std.specs.Io.KnownBytes.{Appends};
 
 use std::io;
+use std::io::Write;
 
 pub mod files; // files.rt: texts from files
 
 // Prints the first bytes of a text, or answers why the output does not take them all.
-pub fn print_front(rt: &impl Print, text: &[u8], n: usize) -> io::Result<()>
+pub fn print_front<W: Write>(out: &mut W, text: &[u8], n: usize) -> io::Result<()>
     requires { n ≤ length text.now }
+    ensures { OnOk result (Appends (W.contents out.old) (W.contents out.new) (take n text.now)) }
 {
-    rt.write_all(&text[..n])
+    out.write_all(&text[..n])
 }
 
-// A buffer of zeros. Of its bytes nothing is said: a proof about one of many bytes would count them out.
+// A buffer of zeros. Of its bytes nothing is said: a proof about a buffer of many bytes would count them out.
 pub fn room<const N: usize>() -> [u8; N]
     ensures { length result ≡ N }
 {
