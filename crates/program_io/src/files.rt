@@ -1,6 +1,6 @@
-// Texts from files. No contract can say what a file holds, nor what the system told of it (the `whole` of FileRead and of TextsRead); these say that the
-// bytes counted are in the buffer.
-ghost use Rattle.std.specs.Prelude.{◌≡◌, ◌<◌, take, length, IfSome, IsTrue, OnOk};
+// Texts from files. No contract can say what a file holds, nor what the system told of it (at_end, and the `whole` of FileRead and of TextsRead); these
+// say that the bytes counted are in the buffer. Of a reader whose bytes are known `read_opened` and `read_full` say which of them these are.
+ghost use Rattle.std.specs.Prelude.{◌≡◌, ◌<◌, ◌↔◌, take, length, IfSome, IsOk, IsTrue, OnOk};
 ghost use Rattle.io.specs.Counts.{IsPrefixLen};
 ghost use Rattle.std.specs.Io.{StartsWith};
 ghost use Rattle.std.specs.Io.KnownBytes.{Consumes, IsAtEnd};
@@ -94,7 +94,7 @@ fn open_read<R: Files>(rt: &R, path: &[u8]) -> Option<R::File> {
     fs::open(rt, name).ok()
 }
 
-// Reads a file that is open, and closes it; one that cannot be read is told on standard error.
+// Reads a file that is open, and closes it.
 fn read_opened<F: Read + Drop>(
     rt: &impl Eprint,
     mut file: F,
@@ -106,19 +106,8 @@ fn read_opened<F: Read + Drop>(
     ensures whole { IsTrue result.whole → IfSome (F.remaining file) (λ held. take result.length text.new ≡ take (length text.new) held) }
 {
     let (length, read) = read_full(&mut file, text);
-    match read {
-        Ok(()) => FileRead {
-            length,
-            whole: true,
-        },
-        Err(error) => {
-            tell(rt, path, error);
-            FileRead {
-                length,
-                whole: false,
-            }
-        }
-    }
+    let whole = at_end(rt, read, path);
+    FileRead { length, whole }
 }
 
 // Reads until the buffer is full or the input ends, or up to a read that fails.
@@ -138,8 +127,17 @@ fn read_full<F: Read>(file: &mut F, text: &mut [u8]) -> (usize, io::Result<()>)
     (done, Ok(()))
 }
 
-// Tells on standard error why a file cannot be read. What standard error does not take can be told nowhere.
-fn tell(rt: &impl Eprint, path: &[u8], error: io::Error) {
-    let name = str::from_utf8(path).unwrap_or_default();
-    let _ = eprintln!(rt; "{name}: {error}");
+// Whether a file was read to its end, or as far as the buffer reaches; a file that cannot be read is told on standard error. What standard error does not
+// take can be told nowhere.
+fn at_end(rt: &impl Eprint, read: io::Result<()>, path: &[u8]) -> bool
+    ensures { IsTrue result ↔ IsOk read }
+{
+    match read {
+        Ok(()) => true,
+        Err(error) => {
+            let name = str::from_utf8(path).unwrap_or_default();
+            let _ = eprintln!(rt; "{name}: {error}");
+            false
+        }
+    }
 }
