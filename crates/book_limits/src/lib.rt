@@ -1,9 +1,13 @@
 // Tries the limits of a book at their edges: one text within each limit, and one past it.
 // `print` and the functions that try something only print, and no contract can say what reached the output; those that put bytes into a text
 // are held to what the program prints.
+#![tactic(auto)]
+
 use model::BookRead;
 use model::limits::{MAX_BOOK_BYTES, MAX_DECLARED, MAX_NODES, MAX_RELATIONSHIPS, WORK_WORDS};
 use putting::bytes::{put_byte, put_bytes};
+use std::io;
+use std::io::Write;
 
 // Room for the longest text tried.
 const TEXT_BYTES: usize = 65600;
@@ -75,116 +79,127 @@ fn put_long_line(text: &mut [u8], bytes: usize) -> usize {
 }
 
 // Prints a number behind a space.
-fn print(n: u64) {
-    io::write_all(1, b" ");
-    io::print_decimal(1, n);
+fn print(out: &mut impl Write, n: u64) -> io::Result<()> {
+    write!(out, " {n}")
 }
 
 // Reads the first n bytes of a text and prints what the service answers.
-fn try_book(name: &[u8], text: &[u8], n: usize, work: &mut [u32]) {
-    io::write_all(1, name);
+fn try_book(
+    out: &mut impl Write,
+    name: &[u8],
+    text: &[u8],
+    n: usize,
+    work: &mut [u32],
+) -> io::Result<()> {
+    out.write_all(name)?;
     if text.len() < n {
-        return;
+        return Ok(());
     }
     match service::read_book(&text[0..n], work) {
         BookRead::Counts(nodes, relationships, entries) => {
-            io::write_all(1, b": counts");
-            print(nodes as u64);
-            print(relationships as u64);
-            print(entries as u64);
+            out.write_all(b": counts")?;
+            print(out, nodes as u64)?;
+            print(out, relationships as u64)?;
+            print(out, entries as u64)?;
         }
         BookRead::Refused(refusal) => {
-            io::write_all(1, b": refused");
-            print(refusal.number as u64);
-            print(refusal.text as u64);
-            print(refusal.line as u64);
+            out.write_all(b": refused")?;
+            print(out, refusal.number as u64)?;
+            print(out, refusal.text as u64)?;
+            print(out, refusal.line as u64)?;
         }
     }
-    io::write_all(1, b"\n");
+    out.write_all(b"\n")
 }
 
 // As many lines of one form.
-fn try_lines(name: &[u8], count: usize, before: &[u8], behind: &[u8]) {
+fn try_lines(
+    out: &mut impl Write,
+    name: &[u8],
+    count: usize,
+    before: &[u8],
+    behind: &[u8],
+) -> io::Result<()> {
     let mut space = [0u8; TEXT_BYTES];
     let text: &mut [u8] = &mut space;
     let mut work = [0u32; WORK_WORDS];
     let n = put_lines(text, 0, count, before, behind);
-    try_book(name, text, n, &mut work);
+    try_book(out, name, text, n, &mut work)
 }
 
 // As many relationships.
-fn try_relationships(name: &[u8], count: usize) {
+fn try_relationships(out: &mut impl Write, name: &[u8], count: usize) -> io::Result<()> {
     let mut space = [0u8; TEXT_BYTES];
     let text: &mut [u8] = &mut space;
     let mut work = [0u32; WORK_WORDS];
     let n = put_relationships(text, count);
-    try_book(name, text, n, &mut work);
+    try_book(out, name, text, n, &mut work)
 }
 
 // 2,048 entries, and what a last line adds.
-fn try_entries(name: &[u8], last: &[u8]) {
+fn try_entries(out: &mut impl Write, name: &[u8], last: &[u8]) -> io::Result<()> {
     let mut space = [0u8; TEXT_BYTES];
     let text: &mut [u8] = &mut space;
     let mut work = [0u32; WORK_WORDS];
     let all = put_entries(text);
     let n = put_bytes(last, text, all);
-    try_book(name, text, n, &mut work);
+    try_book(out, name, text, n, &mut work)
 }
 
 // As many bytes.
-fn try_bytes(name: &[u8], bytes: usize) {
+fn try_bytes(out: &mut impl Write, name: &[u8], bytes: usize) -> io::Result<()> {
     let mut space = [0u8; TEXT_BYTES];
     let text: &mut [u8] = &mut space;
     let mut work = [0u32; WORK_WORDS];
     let n = put_long_line(text, bytes);
-    try_book(name, text, n, &mut work);
+    try_book(out, name, text, n, &mut work)
 }
 
 // A whole number.
-fn try_number(name: &[u8], digits: &[u8]) {
+fn try_number(out: &mut impl Write, name: &[u8], digits: &[u8]) -> io::Result<()> {
     let mut space = [0u8; TEXT_BYTES];
     let text: &mut [u8] = &mut space;
     let mut work = [0u32; WORK_WORDS];
     let opened = put_bytes(b"(vattr rate int)\n(node a (rate ", text, 0);
     let numbered = put_bytes(digits, text, opened);
     let n = put_bytes(b"))\n", text, numbered);
-    try_book(name, text, n, &mut work);
+    try_book(out, name, text, n, &mut work)
 }
 
 // A working memory that is one word short.
-fn try_memory(name: &[u8]) {
+fn try_memory(out: &mut impl Write, name: &[u8]) -> io::Result<()> {
     let text = [0u8; TEXT_BYTES];
     let mut work = [0u32; WORK_WORDS - 1];
-    try_book(name, &text, 0, &mut work);
+    try_book(out, name, &text, 0, &mut work)
 }
 
-fn try_names() {
-    try_lines(b"32 vattr", MAX_DECLARED, b"(vattr a", b" int)\n");
-    try_lines(b"33 vattr", MAX_DECLARED + 1, b"(vattr a", b" int)\n");
-    try_lines(b"32 eattr", MAX_DECLARED, b"(eattr a", b" str)\n");
-    try_lines(b"33 eattr", MAX_DECLARED + 1, b"(eattr a", b" str)\n");
-    try_lines(b"32 label", MAX_DECLARED, b"(label a", b")\n");
-    try_lines(b"33 label", MAX_DECLARED + 1, b"(label a", b")\n");
+fn try_names(out: &mut impl Write) -> io::Result<()> {
+    try_lines(out, b"32 vattr", MAX_DECLARED, b"(vattr a", b" int)\n")?;
+    try_lines(out, b"33 vattr", MAX_DECLARED + 1, b"(vattr a", b" int)\n")?;
+    try_lines(out, b"32 eattr", MAX_DECLARED, b"(eattr a", b" str)\n")?;
+    try_lines(out, b"33 eattr", MAX_DECLARED + 1, b"(eattr a", b" str)\n")?;
+    try_lines(out, b"32 label", MAX_DECLARED, b"(label a", b")\n")?;
+    try_lines(out, b"33 label", MAX_DECLARED + 1, b"(label a", b")\n")
 }
 
-fn try_numbers() {
-    try_number(b"9223372036854775807", b"9223372036854775807");
-    try_number(b"9223372036854775808", b"9223372036854775808");
-    try_number(b"-9223372036854775808", b"-9223372036854775808");
-    try_number(b"-9223372036854775809", b"-9223372036854775809");
+fn try_numbers(out: &mut impl Write) -> io::Result<()> {
+    try_number(out, b"9223372036854775807", b"9223372036854775807")?;
+    try_number(out, b"9223372036854775808", b"9223372036854775808")?;
+    try_number(out, b"-9223372036854775808", b"-9223372036854775808")?;
+    try_number(out, b"-9223372036854775809", b"-9223372036854775809")
 }
 
 // Tries every limit.
-pub fn run() {
-    try_lines(b"256 nodes", MAX_NODES, b"(node n", b")\n");
-    try_lines(b"257 nodes", MAX_NODES + 1, b"(node n", b")\n");
-    try_relationships(b"1024 relationships", MAX_RELATIONSHIPS);
-    try_relationships(b"1025 relationships", MAX_RELATIONSHIPS + 1);
-    try_entries(b"2048 entries", b"");
-    try_entries(b"2049 entries", b"(node m (a0000 1))\n");
-    try_names();
-    try_bytes(b"65536 bytes", MAX_BOOK_BYTES);
-    try_bytes(b"65537 bytes", MAX_BOOK_BYTES + 1);
-    try_numbers();
-    try_memory(b"16383 words");
+pub fn run(out: &mut impl Write) -> io::Result<()> {
+    try_lines(out, b"256 nodes", MAX_NODES, b"(node n", b")\n")?;
+    try_lines(out, b"257 nodes", MAX_NODES + 1, b"(node n", b")\n")?;
+    try_relationships(out, b"1024 relationships", MAX_RELATIONSHIPS)?;
+    try_relationships(out, b"1025 relationships", MAX_RELATIONSHIPS + 1)?;
+    try_entries(out, b"2048 entries", b"")?;
+    try_entries(out, b"2049 entries", b"(node m (a0000 1))\n")?;
+    try_names(out)?;
+    try_bytes(out, b"65536 bytes", MAX_BOOK_BYTES)?;
+    try_bytes(out, b"65537 bytes", MAX_BOOK_BYTES + 1)?;
+    try_numbers(out)?;
+    try_memory(out, b"16383 words")
 }

@@ -1,3 +1,4 @@
--- Why what is printed lies in its text.
+-- Why what is printed lies in its text, and what is printed of a short text.
+pub mod PutLaws
 pub mod RequestLaws
 pub mod WrittenLaws

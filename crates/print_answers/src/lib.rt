@@ -1,114 +1,132 @@
-// Printing the answers of the readers and of the query writer, for the cases of the gate. These functions only print: no contract can say what reached the
-// output. What a refusal is made of is proved in the crate list_lines.
+// Printing the answers of the readers and of the query writer, for the cases of the gate. Of these functions the one that prints a refusal says what it gives
+// the writer; the others say nothing of it. What a refusal is made of is proved in the crate list_lines.
+#![tactic(auto)]
+
+ghost use Rattle.std.specs.Prelude.{OnOk};
+ghost use Rattle.std.specs.Io.KnownBytes.{Appends};
+ghost use Rattle.model.specs.Printed.{refusal_text};
+ghost use Rattle.model.specs.Answers.{refusal_of};
 ghost use Rattle.text.specs.Parts.{HasPart};
 ghost use Rattle.print_answers.specs.Identities.{IdentitiesInside};
 
-use libc::STDOUT_FILENO;
 use model::limits::{MAX_IDENTITIES, MAX_QUERY_BYTES, WORK_WORDS};
 use model::{BookRead, Identity, Refusal, RequestRead, RulesRead, TextWritten, Verdict};
 use service::read_book;
+use std::io;
+use std::io::Write;
 use text::parts::part_of;
 
 // Room for a refusal, which has at most 38 bytes.
 const LINE_BYTES: usize = 38;
 
 // Prints what the book reader answers: the counts of nodes, relationships and entries.
-pub fn print_book(book: &[u8]) {
+pub fn print_book(out: &mut impl Write, book: &[u8]) -> io::Result<()> {
     let mut work = [0u32; WORK_WORDS];
     match read_book(book, &mut work) {
         BookRead::Counts(nodes, relationships, entries) => {
-            print_number(b"(book ", nodes);
-            print_number(b" ", relationships);
-            print_number(b" ", entries);
-            io::write_all(STDOUT_FILENO, b")\n");
+            writeln!(out, "(book {nodes} {relationships} {entries})")
         }
-        BookRead::Refused(refusal) => print_refused(b"book ", refusal),
+        BookRead::Refused(refusal) => print_refused(out, b"book ", refusal),
     }
 }
 
 // Prints what the rules reader answers: the counts of categories and policies.
-pub fn print_rules(book: &[u8], rules: &[u8]) {
+pub fn print_rules(out: &mut impl Write, book: &[u8], rules: &[u8]) -> io::Result<()> {
     let mut work = [0u32; WORK_WORDS];
     match service::read_rules(book, rules, &mut work) {
-        RulesRead::Counts(categories, policies) => {
-            print_number(b"(rules ", categories);
-            print_number(b" ", policies);
-            io::write_all(STDOUT_FILENO, b")\n");
-        }
-        RulesRead::Refused(refusal) => print_refused(b"rules ", refusal),
+        RulesRead::Counts(categories, policies) => writeln!(out, "(rules {categories} {policies})"),
+        RulesRead::Refused(refusal) => print_refused(out, b"rules ", refusal),
     }
 }
 
 // Prints what the request reader answers: the category's number, and the identities.
-pub fn print_request(book: &[u8], rules: &[u8], request: &[u8]) {
+pub fn print_request(
+    out: &mut impl Write,
+    book: &[u8],
+    rules: &[u8],
+    request: &[u8],
+) -> io::Result<()> {
     let mut work = [0u32; WORK_WORDS];
     let read = service::read_request(book, rules, request, &mut work);
     let verdict = read.verdict;
     match verdict {
-        Verdict::Accepted => print_accepted(request, read),
-        Verdict::Refused(refusal) => print_refused(b"request ", refusal),
+        Verdict::Accepted => print_accepted(out, request, read),
+        Verdict::Refused(refusal) => print_refused(out, b"request ", refusal),
     }
 }
 
 // Prints an accepted request.
-fn print_accepted(request: &[u8], read: RequestRead)
+fn print_accepted(out: &mut impl Write, request: &[u8], read: RequestRead) -> io::Result<()>
     requires { IdentitiesInside request.now read.identities read.count }
 {
     let identities = read.identities;
-    print_number(b"(request ", read.category);
-    print_identities(request, identities, read.count);
-    io::write_all(STDOUT_FILENO, b")\n");
+    print_number(out, b"(request ", read.category)?;
+    print_identities(out, request, identities, read.count)?;
+    out.write_all(b")\n")
 }
 
 // Prints so many identities.
-fn print_identities(request: &[u8], identities: [Identity; MAX_IDENTITIES], count: usize)
+fn print_identities(
+    out: &mut impl Write,
+    request: &[u8],
+    identities: [Identity; MAX_IDENTITIES],
+    count: usize,
+) -> io::Result<()>
     requires { IdentitiesInside request.now identities count }
 {
     for i in 0..count {
         let identity = identities[i];
-        print_identity(request, identity);
+        print_identity(out, request, identity)?;
     }
+    Ok(())
 }
 
 // Prints an actor and the number of its node.
-fn print_identity(request: &[u8], identity: Identity)
+fn print_identity(out: &mut impl Write, request: &[u8], identity: Identity) -> io::Result<()>
     requires { HasPart request.now identity.actor }
 {
     let actor = identity.actor;
-    io::write_all(STDOUT_FILENO, b" (");
-    io::write_all(STDOUT_FILENO, part_of(request, actor));
-    print_number(b" ", identity.node);
-    io::write_all(STDOUT_FILENO, b")");
+    out.write_all(b" (")?;
+    out.write_all(part_of(request, actor))?;
+    print_number(out, b" ", identity.node)?;
+    out.write_all(b")")
 }
 
 // Prints a number behind a text.
-fn print_number(before: &[u8], n: usize) {
-    io::write_all(STDOUT_FILENO, before);
-    io::print_decimal(STDOUT_FILENO, n as u64);
+fn print_number(out: &mut impl Write, before: &[u8], n: usize) -> io::Result<()> {
+    out.write_all(before)?;
+    write!(out, "{n}")
 }
 
 // Prints a refusal behind a reader's name.
-fn print_refused(name: &[u8], refusal: Refusal) {
-    io::write_all(STDOUT_FILENO, name);
-    print_refusal(refusal);
+fn print_refused(out: &mut impl Write, name: &[u8], refusal: Refusal) -> io::Result<()> {
+    out.write_all(name)?;
+    print_refusal(out, refusal)
 }
 
 // Prints what the query writer writes.
-pub fn print_written(book: &[u8], rules: &[u8], query: &[u8]) {
+pub fn print_written(
+    out: &mut impl Write,
+    book: &[u8],
+    rules: &[u8],
+    query: &[u8],
+) -> io::Result<()> {
     let mut work = [0u32; WORK_WORDS];
     let mut text = [0u8; MAX_QUERY_BYTES];
     match service::write_query(book, rules, query, &mut text, &mut work) {
         TextWritten::Length(length) => {
-            program_io::print_front(&text, length);
-            io::write_all(STDOUT_FILENO, b"\n");
+            program_io::print_front(out, &text, length)?;
+            out.write_all(b"\n")
         }
-        TextWritten::Refused(refusal) => print_refused(b"write ", refusal),
+        TextWritten::Refused(refusal) => print_refused(out, b"write ", refusal),
     }
 }
 
 // Prints a refusal.
-pub fn print_refusal(refusal: Refusal) {
+pub fn print_refusal<W: Write>(out: &mut W, refusal: Refusal) -> io::Result<()>
+    ensures { OnOk result (Appends (W.contents out.old) (W.contents out.new) (refusal_text (refusal_of refusal))) }
+{
     let mut line = [0u8; LINE_BYTES];
     let length = list_lines::put_refusal(refusal, &mut line, 0);
-    program_io::print_front(&line, length);
+    program_io::print_front(out, &line, length)
 }

@@ -1,15 +1,26 @@
-// What the programs share: reading texts from files, and printing. No contract can say what reached the output, so `print_front` promises nothing.
-ghost use Rattle.std.specs.Prelude.{◌≤◌, length};
+// What the programs share: reading texts from files, and printing. No contract can say what reached the system's output; `print_front` says what it gives a
+// writer whose bytes are known.
+#![tactic(auto)]
+
+ghost use Rattle.std.specs.Prelude.{◌≡◌, ◌≤◌, take, length, OnOk};
+ghost use Rattle.std.specs.Io.KnownBytes.{Appends};
+
+use std::io;
+use std::io::Write;
 
 pub mod files; // files.rt: texts from files
 
-use libc::STDOUT_FILENO;
-
-// Prints the first bytes of a text; an output that does not take them all is told on standard error.
-pub fn print_front(text: &[u8], n: usize)
+// Prints the first bytes of a text, or answers why the output does not take them all.
+pub fn print_front<W: Write>(out: &mut W, text: &[u8], n: usize) -> io::Result<()>
     requires { n ≤ length text.now }
+    ensures { OnOk result (Appends (W.contents out.old) (W.contents out.new) (take n text.now)) }
 {
-    if !io::write_all(STDOUT_FILENO, &text[0..n]) {
-        os::fail(b"standard output");
-    }
+    out.write_all(&text[..n])
+}
+
+// A buffer of zeros. Of its bytes nothing is said: a proof about a buffer of many bytes would count them out.
+pub fn room<const N: usize>() -> [u8; N]
+    ensures { length result ≡ N }
+{
+    [0; N]
 }

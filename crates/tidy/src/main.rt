@@ -1,21 +1,33 @@
 // The program of the tidy book: reads book.txt in the current folder, and prints the tidy book, or the refusal alone.
 // A file that cannot be read to its end is told on standard error, and no book is printed; so is an output that does not take the whole book.
+#![tactic(auto)]
+
+ghost use Rattle.std.specs.Prelude.{OnOk};
+ghost use Rattle.std.specs.Io.KnownBytes.{Appends};
+ghost use Rattle.model.specs.Printed.{printed_tidy};
+
+use anyhow::Context;
 use model::limits::MAX_BOOK_BYTES;
 use program_io::files;
 use program_io::files::BOOK_ROOM;
+use std::io;
+use std::io::Write;
 
-fn main() {
+fn main(rt: HostRuntime) -> anyhow::Result<()> {
     let mut book = [0u8; BOOK_ROOM];
-    let book_read = files::read_text(b"book.txt", &mut book);
+    let book_read = files::read_text(&rt, b"book.txt", &mut book);
     if book_read.whole {
         let book_length = book_read.length;
-        print_tidy(&book[..book_length]);
+        print_tidy(&mut io::writer(&rt), &book[..book_length]).context("standard output")?;
     }
+    Ok(())
 }
 
-// Prints the tidy book, or the refusal. No contract can say what reached the output.
-fn print_tidy(book: &[u8]) {
+// Prints the tidy book, or the refusal.
+fn print_tidy<W: Write>(out: &mut W, book: &[u8]) -> io::Result<()>
+    ensures { OnOk result (Appends (W.contents out.old) (W.contents out.new) (printed_tidy book.now)) }
+{
     let mut text = [0u8; MAX_BOOK_BYTES];
     let length = printed_books::tidy_text(book, &mut text);
-    program_io::print_front(&text, length);
+    program_io::print_front(out, &text, length)
 }

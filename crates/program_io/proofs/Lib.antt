@@ -1,0 +1,2 @@
+-- What the programs' proofs share.
+pub mod FrontLaws
