@@ -1,4 +1,6 @@
 // What services answer, made of what was read: counts or a length, or the refusal.
+#![tactic(auto)]
+
 ghost use Rattle.std.specs.Prelude.{◌≡◌};
 ghost use Rattle.answers.specs.Answered.{book_answered, rules_answered, writer_answered};
 

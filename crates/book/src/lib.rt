@@ -1,4 +1,6 @@
 // Reading a book into the working memory.
+#![tactic(auto)]
+
 use book_tables::BookCounts;
 use model::Refusal;
 

@@ -1,4 +1,6 @@
 // The attribute entries of one line of a book: their faults, and their words.
+#![tactic(auto)]
+
 ghost use Rattle.std.specs.Prelude.{◌≡◌, true, ◌≤◌, ◌<◌, length};
 ghost use Rattle.book_tables.specs.Layout.{book_words};
 ghost use Rattle.book_entries.specs.Faults.{entry_fault, lower};

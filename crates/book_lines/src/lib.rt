@@ -1,4 +1,6 @@
 // One line of a book: its form is read; then its faults are tested and it is added to the tables, by `book_steps`.
+#![tactic(auto)]
+
 pub mod forms;
 pub mod owners;
 pub mod pieces;

@@ -1,5 +1,7 @@
 // Look-ups over a loaded book: the value of an entry, whether it meets a requirement, the test of a requirement in one pass over entries, and the name of
 // a node.
+#![tactic(auto)]
+
 pub mod entries;
 pub mod meeting;
 pub mod names;

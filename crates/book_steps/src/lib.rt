@@ -1,4 +1,6 @@
 // One line more, after its form was read: the lowest of its faults 4 to 7, or its words in the tables.
+#![tactic(auto)]
+
 ghost use Rattle.std.specs.Prelude.{◌≡◌, List, ◌+◌, ◌*◌, ◌≤◌, ◌<◌, ◌||◌, leb, ltb};
 ghost use Rattle.model.specs.Values.{Entry};
 ghost use Rattle.model.specs.Answers.{name_at};

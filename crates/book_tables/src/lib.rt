@@ -1,4 +1,6 @@
 // The book in words: where each table stands in the working memory, and how much it holds.
+#![tactic(auto)]
+
 ghost use Rattle.std.specs.Prelude.{◌≡◌};
 ghost use Rattle.book_tables.specs.Stores.{no_counts};
 

@@ -1,4 +1,6 @@
 // The asked pattern: the query and every enforced policy, each with the actors of its own category, woven together.
+#![tactic(auto)]
+
 ghost use Rattle.std.specs.Prelude.{◌≤◌, length};
 ghost use Rattle.woven_tables.specs.Tables.{woven_words};
 ghost use Rattle.book_tables.specs.View.{book_at};

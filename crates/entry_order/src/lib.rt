@@ -1,4 +1,6 @@
 // The entries of a node or of a relationship by their attributes: one slot for each attribute that may be declared.
+#![tactic(auto)]
+
 ghost use Rattle.entry_order.specs.Slots.{Slotted, Slots};
 
 use book_lookup::entries::{ENTRY_COUNTS, ENTRY_TYPES};

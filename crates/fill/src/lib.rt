@@ -1,4 +1,6 @@
 // Stretches of lent words: clearing them.
+#![tactic(auto)]
+
 ghost use Rattle.std.specs.Prelude.{◌≡◌};
 ghost use Rattle.fill.specs.Filled.{filled};
 

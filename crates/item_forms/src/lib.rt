@@ -1,4 +1,6 @@
 // A form: where it opens, its pieces that are lists of a known form, and that nothing follows it but the ends of the lists that it stands in.
+#![tactic(auto)]
+
 ghost use Rattle.std.specs.Prelude.{◌≡◌};
 ghost use Rattle.item_forms.specs.Ends.{ends_after};
 ghost use Rattle.item_forms.specs.Forms.{claim_rest, claim_next, form_opens, form_closes};

@@ -1,4 +1,6 @@
 // Items and lists of the bracket texts, read by places: what stands at a place, and what follows it.
+#![tactic(auto)]
+
 pub mod read;
 
 // What the item at a place is, and where it ends; or that none can be read there. A whole number z is given as z + 2^63.

@@ -1,4 +1,6 @@
 // The later names of a book that is in words by the very names: which nodes have one, whether each can have its new name, and how long the new text is.
+#![tactic(auto)]
+
 ghost use Rattle.std.specs.Prelude.{◌≡◌, ◌||◌, ◌<◌, ltb};
 ghost use Rattle.model.specs.Book.{node_names};
 ghost use Rattle.book_tables.specs.View.{book_at};

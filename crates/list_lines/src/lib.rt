@@ -1,4 +1,6 @@
 // The text of a list: the header and the rows, or a refusal, put into a lent buffer.
+#![tactic(auto)]
+
 ghost use Rattle.std.specs.Prelude.{◌++◌, ◌*◌, ◌≤◌, length};
 ghost use Rattle.model.specs.Bytes.{bytes_of};
 ghost use Rattle.model.specs.Book.{node_names};

@@ -1,4 +1,6 @@
 // Plain data that the services' answers are made of. What each means is set out in specs/Answers.antt.
+#![tactic(auto)]
+
 ghost use Rattle.std.specs.Prelude.{◌≡◌};
 
 pub mod limits; // limits.rt: how much fits

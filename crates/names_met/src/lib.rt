@@ -1,5 +1,7 @@
 // The names met in a text, in a table of words: 256 heads of chains by the names' slots, a link for each name, and each name's word (its start and length).
 // A table of zeros has no name.
+#![tactic(auto)]
+
 ghost use Rattle.std.specs.Prelude.{◌≡◌, [], ◌∷◌, ◌++◌, ◌≤◌};
 ghost use Rattle.model.specs.Names.{mem};
 ghost use Rattle.model.specs.Answers.{name_at};

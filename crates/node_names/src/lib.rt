@@ -1,4 +1,6 @@
 // The service that gives the names of a book's nodes, so that the numbers of a row can be shown.
+#![tactic(auto)]
+
 ghost use Rattle.std.specs.Prelude.{◌≡◌, [], length, get_or};
 ghost use Rattle.model.specs.Book.{node_names};
 ghost use Rattle.model.specs.Service.{ones, book_service};

@@ -1,4 +1,6 @@
 // What every service starts with, the texts that it needs, read in the paper's order, or the first refusal; and what it ends with, a memory of all ones.
+#![tactic(auto)]
+
 ghost use Rattle.std.specs.Prelude.{◌≡◌, length};
 ghost use Rattle.model.specs.Refusal.{accepted};
 ghost use Rattle.model.specs.ReadBook.{read_book};

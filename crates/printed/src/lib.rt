@@ -1,4 +1,6 @@
 // What the list program prints: the list of the rows of four texts, or the refusal, in front of a lent buffer.
+#![tactic(auto)]
+
 ghost use Rattle.std.specs.Prelude.{◌≡◌};
 ghost use Rattle.model.specs.Refusal.{accepted};
 ghost use Rattle.model.specs.ReadBook.{read_book};

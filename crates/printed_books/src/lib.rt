@@ -1,4 +1,6 @@
 // What the programs print that write a book, the renaming and the tidy book: the book, or the refusal, in front of a lent buffer.
+#![tactic(auto)]
+
 ghost use Rattle.std.specs.Prelude.{◌≡◌, length};
 ghost use Rattle.model.specs.Bytes.{Bytes};
 ghost use Rattle.model.specs.Refusal.{Outcome};

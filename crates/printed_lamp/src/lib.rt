@@ -1,4 +1,6 @@
 // What the lamp program prints: yes, no or the refusal, in front of a lent buffer.
+#![tactic(auto)]
+
 ghost use Rattle.std.specs.Prelude.{◌≤◌};
 ghost use Rattle.model.specs.Printed.{printed_lamp};
 ghost use Rattle.list_lines.specs.Printing.{Prints};

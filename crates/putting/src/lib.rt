@@ -1,4 +1,6 @@
 // Putting texts into a lent buffer, one behind another, and whether a whole text fits.
+#![tactic(auto)]
+
 ghost use Rattle.std.specs.Prelude.{◌≡◌};
 ghost use Rattle.putting.specs.Whole.{too_long};
 

@@ -1,4 +1,6 @@
 // The pieces of a query text, read one after another: Match (v), -[e:id]->(v), <-[e:id]-(v), a condition, a returned name.
+#![tactic(auto)]
+
 pub mod parts;
 pub mod reading;
 pub mod spots;

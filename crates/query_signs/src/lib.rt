@@ -1,4 +1,6 @@
 // The signs of a query text, read one after another: words, numbers, text values, relation signs and marks.
+#![tactic(auto)]
+
 pub mod expected;
 pub mod kinds;
 pub mod marks;

@@ -1,4 +1,6 @@
 // What a piece of a query adds to the survey of its faults: names among the pieces before, what a book declares, and what is left of each limit.
+#![tactic(auto)]
+
 pub mod conditions;
 pub mod declared;
 pub mod links;

@@ -1,4 +1,6 @@
 // The query writer: a pattern's text into a lent buffer, or its refusal where the text does not fit.
+#![tactic(auto)]
+
 ghost use Rattle.model.specs.Answers.{pattern_in};
 ghost use Rattle.model.specs.Writing.{written_query};
 ghost use Rattle.book_tables.specs.View.{book_at};

@@ -1,4 +1,6 @@
 // The renaming of a stored book: of two node names that are equal but for case the later one gets `_b` at its end, wherever it names a node.
+#![tactic(auto)]
+
 ghost use Rattle.std.specs.Prelude.{◌≡◌, length};
 ghost use Rattle.model.specs.Renaming.{renamed_book};
 ghost use Rattle.model.specs.Service.{ones, rename_service};

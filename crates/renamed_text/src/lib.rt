@@ -1,4 +1,6 @@
 // The text of a book with `_b` behind the marked names wherever they name a node, and the line that declares a node. A line is read by its words alone.
+#![tactic(auto)]
+
 ghost use Rattle.std.specs.Prelude.{◌≡◌, ◌&&◌, List};
 ghost use Rattle.model.specs.Bytes.{bytes_of, same};
 ghost use Rattle.model.specs.Names.{Name};

@@ -1,4 +1,6 @@
 // The request: the form of its one line, its faults, and its identities as plain data.
+#![tactic(auto)]
+
 pub mod claims;
 pub mod faults;
 pub mod forms;

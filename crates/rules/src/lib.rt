@@ -1,4 +1,6 @@
 // The rules' lines: their forms, their faults, and what they add to the tables.
+#![tactic(auto)]
+
 pub mod categories;
 pub mod forms;
 pub mod load;

@@ -1,4 +1,6 @@
 // The rules in words: where each category and each policy stands in the working memory, the lower sets, and the stores.
+#![tactic(auto)]
+
 ghost use Rattle.std.specs.Prelude.{◌≡◌};
 
 pub mod lower;

@@ -1,5 +1,7 @@
 // The services that read texts, and the one that writes a query: each takes its texts and the lent buffers, and answers or refuses. The texts that a
 // service needs are read by `prepare`.
+#![tactic(auto)]
+
 ghost use Rattle.std.specs.Prelude.{◌≡◌, length};
 ghost use Rattle.model.specs.ReadBook.{read_book};
 ghost use Rattle.model.specs.Service.{ones, book_service, rules_service, query_service, request_service, writer_service};

@@ -1,4 +1,6 @@
 // Telling answers in numbers, for other languages: whether an answer is accepted, what it gives, and the three numbers of a refusal.
+#![tactic(auto)]
+
 ghost use Rattle.telling.specs.Told.{VerdictTold};
 
 use model::Verdict;

@@ -1,4 +1,6 @@
 // Telling what the readers of queries and requests answer: their counts and words.
+#![tactic(auto)]
+
 ghost use Rattle.telling_words.specs.Told.{QueryTold, RequestTold};
 
 use answer_words::conditions::ALL_CONDITION_WORDS;

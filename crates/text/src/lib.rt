@@ -1,4 +1,6 @@
 // Reading the lent texts by places: bytes, words, whole numbers, text values, lines. No text is copied; an answer names places.
+#![tactic(auto)]
+
 pub mod bytes;
 pub mod lines;
 pub mod numbers;

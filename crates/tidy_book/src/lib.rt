@@ -1,4 +1,6 @@
 // The tidy book: a book written anew, its lines by kind, its attributes in the order of their declarations, with one space between items and no other.
+#![tactic(auto)]
+
 ghost use Rattle.std.specs.Prelude.{◌≡◌, length};
 ghost use Rattle.model.specs.Tidy.{tidy_book};
 ghost use Rattle.model.specs.Service.{ones, tidy_service};

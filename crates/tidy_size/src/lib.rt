@@ -1,4 +1,6 @@
 // How many bytes the tidy text of a loaded book has, by arithmetic alone: no text is written to be counted.
+#![tactic(auto)]
+
 ghost use Rattle.std.specs.Prelude.{◌≡◌, length};
 ghost use Rattle.model.specs.Bytes.{Bytes};
 ghost use Rattle.model.specs.Tidy.{tidy_text};

@@ -1,4 +1,6 @@
 // The tidy text of a loaded book, put into a lent buffer: what is declared, the nodes, the relationships.
+#![tactic(auto)]
+
 ghost use Rattle.model.specs.Tidy.{tidy_text};
 ghost use Rattle.book_tables.specs.View.{book_at};
 ghost use Rattle.book_tables.specs.Fits.{Fits};

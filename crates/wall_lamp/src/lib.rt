@@ -1,5 +1,7 @@
 // The lamp on the wall panel: whether the list of the same texts has a row. It asks for the rows with no row word to put one in, so that the search ends at the
 // first that it finds.
+#![tactic(auto)]
+
 ghost use Rattle.model.specs.Demands.{LampCalled};
 
 use asking::{RowsAsked, ask};

@@ -1,4 +1,6 @@
 // Weaving: one text's pattern after another into the woven pattern, identities, and what is tied to one.
+#![tactic(auto)]
+
 ghost use Rattle.woven_tables.specs.Tables.{actors_at, woven_words};
 ghost use Rattle.weave.specs.Adding.{no_counts, TextReady, TextAdded, RestReady, RestAdded};
 ghost use Rattle.weave.specs.Identities.{identities_in, FinishReady, Finished};

@@ -1,4 +1,6 @@
 // The woven pattern in words: its tables, and storing the parts of one text's pattern in them.
+#![tactic(auto)]
+
 pub mod clauses;
 pub mod edges;
 pub mod names;

@@ -1,4 +1,6 @@
 // What the services that write a book have in common, the renaming and the tidy book: how they begin; and what they leave.
+#![tactic(auto)]
+
 ghost use Rattle.std.specs.Prelude.{length};
 ghost use Rattle.model.specs.ReadBook.{read_book_by};
 ghost use Rattle.model.specs.Service.{with_work};

@@ -3,7 +3,6 @@ use Prim.Native.Nat.{ℕ}
 use mathlib.Core.Path.{◌≡◌, sym, ap}
 use Rattle.model.specs.declared.Verdict.{Verdict}
 use Rattle.answers.specs.Answered.{book_answered}
-use borrow.Author.Rules.{rules}
 use Rattle.answers.proofs.of_book.Goals as goal
 
 -- by the verdict that is known

@@ -1,7 +1,6 @@
 -- `of_written` meets its contract, by what was written.
 use mathlib.Core.Path.{sym, ap}
 use Rattle.answers.specs.Answered.{writer_answered}
-use borrow.Author.Rules.{rules}
 use Rattle.answers.proofs.of_written.Goals as goal
 
 pub returns-in-Length : goal.returns-in-Length

@@ -5,7 +5,6 @@ use Rattle.model.specs.Names.{place}
 use Rattle.model.specs.Bytes.{Bytes}
 use mathlib.Core.Path.{ap, ◌∙◌}
 use native.Mathlib.Omega.{arith}
-use borrow.Author.Rules.{rules}
 use Rattle.book_entries.proofs.add_entry.Goals as goal
 
 pub overflow_add-end : goal.overflow_add-end

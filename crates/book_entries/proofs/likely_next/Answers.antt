@@ -4,7 +4,6 @@ use Rattle.book_tables.specs.Layout.{entries}
 use Prim.Native.Nat.{◌+◌, ◌-◌, ◌*◌}
 use borrow.Author.Tests.{eq-eqb, ne_eqb, lt-ltb, le-ltb}
 use native.Mathlib.Omega.{arith}
-use borrow.Author.Rules.{rules}
 use Rattle.book_entries.proofs.likely_next.Goals as goal
 
 pub returns-then-count-eq0 : goal.returns-then-count-eq0

@@ -1,6 +1,5 @@
 use borrow.Author.Tests.{lt-ltb, le-ltb}
 use native.Mathlib.Omega.{arith}
-use borrow.Author.Rules.{rules}
 use Rattle.book_entries.proofs.put_entry.Goals as goal
 
 pub value_words-said-requires : goal.value_words-said-requires

@@ -1,5 +1,4 @@
 use Rattle.book_steps.proofs.StepLaws.{attr_twice, attr_full, attr_fine}
-use borrow.Author.Rules.{rules}
 use Rattle.book_steps.proofs.add_attr.Goals as goal
 
 pub returns-then-find_attr-count : goal.returns-then-find_attr-count

@@ -1,5 +1,4 @@
 use Rattle.book_steps.proofs.StepLaws.{label_twice, label_full, label_fine}
-use borrow.Author.Rules.{rules}
 use Rattle.book_steps.proofs.add_label.Goals as goal
 
 pub returns-then-find_label-count : goal.returns-then-find_label-count

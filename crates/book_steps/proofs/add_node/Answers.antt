@@ -1,7 +1,6 @@
 use native.Mathlib.Omega.{arith}
 use mathlib.Core.Path.{sym, ◌∙◌}
 use Rattle.book_steps.proofs.OwnerLaws.{node_refused, node_fine, owner_room}
-use borrow.Author.Rules.{rules}
 use Rattle.book_steps.proofs.add_node.Goals as goal
 
 pub returns-then-fault-ne0 : goal.returns-then-fault-ne0

@@ -2,7 +2,6 @@ use mathlib.Core.Path.{sym, ◌∙◌}
 use native.Mathlib.Omega.{arith}
 use Rattle.book_steps.proofs.OwnerLaws.{owner_room}
 use Rattle.book_steps.proofs.RelLaws.{label_missing, from_missing, to_missing, rel_refused, rel_fine}
-use borrow.Author.Rules.{rules}
 use Rattle.book_steps.proofs.add_relationship.Goals as goal
 
 pub returns-then-counts-l : goal.returns-then-counts-l

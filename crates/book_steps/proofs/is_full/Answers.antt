@@ -1,5 +1,4 @@
 use borrow.Author.Tests.{le-leb, lt-leb}
-use borrow.Author.Rules.{rules}
 use Rattle.book_steps.proofs.is_full.Goals as goal
 
 pub returns-then-limit-count : goal.returns-then-limit-count

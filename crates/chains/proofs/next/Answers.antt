@@ -1,7 +1,6 @@
 -- `chains::next` meets its contract. Assumes nothing.
 use Prim.Native.Nat.{◌+◌}
 use native.Mathlib.Omega.{arith}
-use borrow.Author.Rules.{rules}
 use Rattle.chains.proofs.next.Goals as goal
 
 pub overflow_cast-result : goal.overflow_cast-result

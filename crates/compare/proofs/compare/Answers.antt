@@ -1,12 +1,9 @@
 -- `compare::compare` meets its contract. The loop's invariant: what is left of the two texts stands as the whole texts do.
 use Rattle.compare.proofs.CompareLaws.{compare_end, compare_shorter, compare_longer, compare_less, compare_greater, compare_step}
-use Rattle.model.specs.TextOrder.{byte_order}
 use Rattle.compare.specs.Compare.{order_of}
-use lib.ListN.{length, drop}
 use Prim.Native.Nat.{◌-◌}
-use mathlib.Core.Path.{◌≡◌, sym, ◌∙◌}
+use mathlib.Core.Path.{sym, ◌∙◌}
 use native.Mathlib.Omega.{arith}
-use borrow.Author.Rules.{rules}
 use Rattle.compare.proofs.compare.Goals as goal
 
 pub loop-i-init : goal.loop-i-init

@@ -2,7 +2,6 @@
 use Rattle.compare.proofs.CompareLaws.{name_by_length, name_by_first}
 use mathlib.Core.Path.{sym, ◌∙◌}
 use native.Mathlib.Omega.{arith}
-use borrow.Author.Rules.{rules}
 use Rattle.compare.proofs.is_name.Goals as goal
 
 pub returns-then-w-lt-SHORTEST : goal.returns-then-w-lt-SHORTEST

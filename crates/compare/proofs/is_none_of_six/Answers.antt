@@ -3,7 +3,6 @@ use Rattle.model.specs.Forms.{never_names}
 use Rattle.model.specs.Names.{mem}
 use Rattle.model.specs.Lists.{any}
 use mathlib.Core.Path.{sym, ◌∙◌}
-use borrow.Author.Rules.{rules}
 use Rattle.compare.proofs.is_none_of_six.Goals as goal
 
 pub returns-then-same_bytes : goal.returns-then-same_bytes

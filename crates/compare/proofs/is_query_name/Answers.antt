@@ -1,7 +1,6 @@
 -- `compare::is_query_name` meets its contract.
 use Rattle.compare.proofs.CompareLaws.{name_by_length}
 use native.Mathlib.Omega.{arith}
-use borrow.Author.Rules.{rules}
 use Rattle.compare.proofs.is_query_name.Goals as goal
 
 pub returns-then-w-lt-SHORTEST : goal.returns-then-w-lt-SHORTEST

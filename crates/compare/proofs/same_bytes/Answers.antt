@@ -1,12 +1,8 @@
 -- `compare::same_bytes` meets its contract. The loop's invariant: what is left of the two texts is the same exactly if the whole texts are.
 use Rattle.compare.proofs.CompareLaws.{same_lengths, row_same, row_differs}
-use Rattle.model.specs.Bytes.{same}
 use native.Mathlib.Omega.{arith}
-use lib.ListN.{length, drop}
-use Prim.Native.Nat.{◌-◌, ◌≤◌}
-use mathlib.Core.Path.{◌≡◌, refl, sym, ◌∙◌}
-use borrow.Author.Rules.{rules}
-use borrow.Author.Tests.{not-true, not-false}
+use Prim.Native.Nat.{◌-◌}
+use mathlib.Core.Path.{refl, sym, ◌∙◌}
 use Rattle.compare.proofs.same_bytes.Goals as goal
 
 pub returns-then-a-b : goal.returns-then-a-b

@@ -1,12 +1,9 @@
 -- `compare::same_from` meets its contract. The loop's invariant: what is left of the two texts is the same exactly if they are the same from the
 -- start on.
-use Rattle.compare.proofs.CompareLaws.{same_end, same_step, same_differs}
 use Rattle.model.specs.Bytes.{same}
-use native.Mathlib.Omega.{arith}
 use lib.ListN.{length, drop}
 use Prim.Native.Nat.{◌-◌}
-use mathlib.Core.Path.{◌≡◌, refl, sym, ◌∙◌}
-use borrow.Author.Rules.{rules}
+use mathlib.Core.Path.{◌≡◌}
 use Rattle.compare.proofs.same_from.Given as goal
 
 abbrev pub invariant-loop-i : goal.invariant-loop-i

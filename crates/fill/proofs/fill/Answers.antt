@@ -1,12 +1,11 @@
 -- `fill::fill` meets its contract. The loop's invariant: the words from `from` up to i are cleared. The measure is what is left of the list. Assumes nothing.
-use Prim.Native.Nat.{ℕ, ◌-◌, ◌≤◌, max}
-use mathlib.Core.Path.{◌≡◌, refl, ap, ◌∙◌}
+use Prim.Native.Nat.{ℕ, ◌-◌}
+use mathlib.Core.Path.{refl, ap, ◌∙◌}
 use mathlib.Core.List.{List}
 use native.Mathlib.Omega.{arith}
-use borrow.Author.Rules.{rules}
 use lib.ListN.{length, set, length-set}
 use Rattle.fill.specs.Filled.{cleared}
-use Rattle.fill.proofs.Filling.{filled_to, filled_none, filled_more, filled_all}
+use Rattle.fill.proofs.Filling.{filled_none, filled_more, filled_all}
 use Rattle.fill.proofs.fill.Goals as goal
 
 pub loop-i-init : goal.loop-i-init

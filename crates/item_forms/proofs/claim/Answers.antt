@@ -4,7 +4,6 @@ use Rattle.item_forms.proofs.PlacedLaws.{placed_at}
 use Rattle.item_forms.specs.Forms.{claim_head, claim_after, claim_next}
 use native.Mathlib.Omega.{arith}
 use mathlib.Core.Path.{sym, ap, ◌∙◌}
-use borrow.Author.Rules.{rules}
 use Rattle.item_forms.proofs.claim.Goals as goal
 
 pub returns-in_default : goal.returns-in_default

@@ -6,7 +6,6 @@ use Rattle.item_forms.specs.Forms.{claim_rest, claim_actor, claim_node}
 use native.Mathlib.Omega.{arith}
 use mathlib.Core.Bool.{false}
 use mathlib.Core.Path.{sym, ap, ◌∙◌}
-use borrow.Author.Rules.{rules}
 use Rattle.item_forms.proofs.claim_rest.Goals as goal
 
 pub returns-in_default : goal.returns-in_default

@@ -7,7 +7,6 @@ use Rattle.item_forms.specs.Forms.{entry_named, entry_valued, entry_next, entry_
 use native.Mathlib.Omega.{arith}
 use mathlib.Core.Bool.{true}
 use mathlib.Core.Path.{sym, ap, ◌∙◌}
-use borrow.Author.Rules.{rules}
 use Rattle.item_forms.proofs.entry.Goals as goal
 
 pub returns-in_default : goal.returns-in_default

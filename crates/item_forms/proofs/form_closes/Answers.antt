@@ -4,7 +4,6 @@ use mathlib.Core.Path.{sym, ap, ◌∙◌}
 use Rattle.text.specs.declared.End.{End}
 use Rattle.item_forms.specs.Ends.{ends_after}
 use Rattle.item_forms.specs.Pieces.{after_end}
-use borrow.Author.Rules.{rules}
 use Rattle.item_forms.proofs.form_closes.Goals as goal
 
 pub returns-in_default : goal.returns-in_default

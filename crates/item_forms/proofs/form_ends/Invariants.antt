@@ -1,12 +1,6 @@
 -- `item_forms::form_ends` meets its contract. The loop's invariant: what is left to close ends the form as the whole does.
-use Rattle.item_forms.proofs.FormLaws.{spaces_from_law, ends_on}
 use Rattle.item_forms.specs.Ends.{ends_after}
-use Rattle.item_forms.specs.Pieces.{after_end}
-use mathlib.Core.Path.{◌≡◌, refl, sym, ap, ◌∙◌}
-use lib.Dec.{leb}
-use lib.ListN.{length}
-use native.Mathlib.Omega.{arith}
-use borrow.Author.Rules.{rules}
+use mathlib.Core.Path.{◌≡◌}
 use Rattle.item_forms.proofs.form_ends.Given as goal
 
 abbrev pub invariant-loop-left : goal.invariant-loop-left

@@ -3,7 +3,6 @@ use Rattle.item_forms.proofs.FormLaws.{form_opens_law, form_shut}
 use Rattle.text.proofs.PlaceLaws.{peek_in}
 use native.Mathlib.Omega.{arith}
 use mathlib.Core.Path.{sym, ◌∙◌}
-use borrow.Author.Rules.{rules}
 use Rattle.item_forms.proofs.open_form.Goals as goal
 
 pub overflow_add-result : goal.overflow_add-result

@@ -1,6 +1,5 @@
 -- `later_names::is_stuck` meets its contract.
 use borrow.Author.Tests.{lt-ltb, le-ltb}
-use borrow.Author.Rules.{rules}
 use Rattle.later_names.proofs.is_stuck.Goals as goal
 
 pub returns-then-above-gt1 : goal.returns-then-above-gt1

@@ -1,10 +1,7 @@
 -- `later_names::later_marks` meets its contract. The loop's invariant: the marks of the nodes before it are set, and no others.
-use Prim.Native.Nat.{◌-◌, ◌≤◌}
+use Prim.Native.Nat.{◌-◌}
 use native.Mathlib.Omega.{arith}
-use borrow.Author.Rules.{rules}
-use Rattle.model.specs.Book.{node_names}
-use Rattle.book_tables.specs.View.{book_at}
-use Rattle.later_names.proofs.MarkLaws.{MarkedSoFar, marks_none, marks_more, marks_all, names_counted}
+use Rattle.later_names.proofs.MarkLaws.{marks_none, marks_more, marks_all, names_counted}
 use Rattle.later_names.proofs.later_marks.Goals as goal
 
 pub loop-node-init : goal.loop-node-init
@@ -18,8 +15,7 @@ bounds-marks-node c = omega (arith, c.requires.within.nodes, c.loop-node-test.tr
 
 pub loop-node-preserved : goal.loop-node-preserved
 loop-node-preserved c =
-    let l = c.loop-node in
-    (
+    let l = c.loop-node in (
       omega (arith, c.loop-node-test.true),
       marks_more _ l.marks l.node _ (omega (arith, c.requires.within.nodes, c.loop-node-test.true)) l.invariant.1 c.earlier_alike.ensures.later,
     )

@@ -1,10 +1,8 @@
 -- `later_names::later_marks` meets its contract. The loop's invariant: the marks of the nodes before it are set, and no others.
 use Prim.Native.Nat.{◌-◌, ◌≤◌}
-use native.Mathlib.Omega.{arith}
-use borrow.Author.Rules.{rules}
 use Rattle.model.specs.Book.{node_names}
 use Rattle.book_tables.specs.View.{book_at}
-use Rattle.later_names.proofs.MarkLaws.{MarkedSoFar, marks_none, marks_more, marks_all, names_counted}
+use Rattle.later_names.proofs.MarkLaws.{MarkedSoFar}
 use Rattle.later_names.proofs.later_marks.Given as goal
 
 abbrev pub invariant-loop-node : goal.invariant-loop-node

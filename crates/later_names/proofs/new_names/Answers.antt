@@ -3,9 +3,8 @@
 use Prim.Native.Nat.{◌+◌, ◌-◌, ◌*◌}
 use mathlib.Core.Path.{ap}
 use native.Mathlib.Omega.{arith}
-use borrow.Author.Rules.{rules}
 use Rattle.later_names.proofs.EndLaws.{ends_small}
-use Rattle.later_names.proofs.StuckLaws.{Going, going_first, going_other, going_later, going_stuck, going_over}
+use Rattle.later_names.proofs.StuckLaws.{going_first, going_other, going_later, going_stuck, going_over}
 use Rattle.later_names.proofs.new_names.Goals as goal
 use Rattle.later_names.proofs.new_names.Goals.{else-above-gt0, then-above-gt0+else-is_stuck}
 
@@ -63,11 +62,14 @@ pub loop-node-preserved : goal.loop-node-preserved
 loop-node-preserved c =
     let a = c.args in
     let there = c.loop-node-test.true in
-    elim c.if-above-gt0.branch [ then-above-gt0+else-is_stuck w ↦ rw w.size-is (going_later a.text.now a.words.now a.counts c.requires c.loop-node.node c.loop-node.size there c.loop-node.invariant _
-    c.earlier_alike-above.ensures w.if-above-gt0.true _
-    (ap (λ e. c.loop-node.size + 2 * (1 + e)) (c.count_ends-ends.ensures.each c.loop-node.node (omega (arith, c.requires.fits.within.nodes, there))))
-    _ w.is_stuck.ensures w.if-is_stuck.false) | else-above-gt0 w ↦ rw w.size-is (going_other a.text.now a.words.now a.counts c.requires c.loop-node.node c.loop-node.size there c.loop-node.invariant _
-    c.earlier_alike-above.ensures w.if-above-gt0.false) ]
+    elim c.if-above-gt0.branch [
+      | then-above-gt0+else-is_stuck w ↦ rw w.size-is (going_later a.text.now a.words.now a.counts c.requires c.loop-node.node c.loop-node.size there c.loop-node.invariant _
+          c.earlier_alike-above.ensures w.if-above-gt0.true _
+          (ap (λ e. c.loop-node.size + 2 * (1 + e)) (c.count_ends-ends.ensures.each c.loop-node.node (omega (arith, c.requires.fits.within.nodes, there))))
+          _ w.is_stuck.ensures w.if-is_stuck.false)
+      | else-above-gt0 w ↦ rw w.size-is (going_other a.text.now a.words.now a.counts c.requires c.loop-node.node c.loop-node.size there c.loop-node.invariant _
+          c.earlier_alike-above.ensures w.if-above-gt0.false)
+    ]
 
 pub returns : goal.returns
 returns c =

@@ -1,12 +1,7 @@
 -- `later_names::new_names` meets its contract. The loop's invariant: the later names of the nodes before it have their new ones, and the size is the length
 -- of the text with them.
-use Prim.Native.Nat.{◌+◌, ◌-◌, ◌*◌}
-use mathlib.Core.Path.{ap}
-use mathlib.Core.Logic.{⊎_elim}
-use native.Mathlib.Omega.{arith}
-use borrow.Author.Rules.{rules}
-use Rattle.later_names.proofs.EndLaws.{ends_small}
-use Rattle.later_names.proofs.StuckLaws.{Going, going_first, going_other, going_later, going_stuck, going_over}
+use Prim.Native.Nat.{◌-◌}
+use Rattle.later_names.proofs.StuckLaws.{Going}
 use Rattle.later_names.proofs.new_names.Given as goal
 
 abbrev pub invariant-loop-node : goal.invariant-loop-node

@@ -1,6 +1,5 @@
 use Rattle.putting.proofs.PuttingLaws.{puts_then, puts_keeps_length}
 use Rattle.list_lines.specs.Printing.{header_text}
-use borrow.Author.Rules.{rules}
 use Rattle.list_lines.proofs.put_header.Goals as goal
 
 pub shape_of-out : goal.shape_of-out

@@ -3,7 +3,6 @@ use Rattle.model.specs.Book.{node_names}
 use Rattle.book_tables.specs.View.{book_at}
 use Rattle.putting.proofs.PuttingLaws.{puts_then, puts_same}
 use Rattle.list_lines.proofs.RowLaws.{header_then_rows}
-use borrow.Author.Rules.{rules}
 use Rattle.list_lines.proofs.put_list.Goals as goal
 
 pub returns : goal.returns

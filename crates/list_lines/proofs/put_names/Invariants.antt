@@ -1,14 +1,9 @@
-use mathlib.Core.Path.{◌≡◌, ap}
 use Prim.Native.Nat.{◌≤◌, ◌-◌}
 use lib.ListN.{length}
-use native.Mathlib.Omega.{arith}
 use Rattle.model.specs.Book.{node_names}
 use Rattle.book_tables.specs.View.{book_at}
 use Rattle.putting.specs.Putting.{Puts}
-use Rattle.putting.proofs.PuttingLaws.{puts_same, puts_keeps_length}
 use Rattle.list_lines.specs.Printing.{names_text}
-use Rattle.list_lines.proofs.PrintingLaws.{names_more, no_names}
-use borrow.Author.Rules.{rules}
 use Rattle.list_lines.proofs.put_names.Given as goal
 
 abbrev pub invariant-loop-i : goal.invariant-loop-i

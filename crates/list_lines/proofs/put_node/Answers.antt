@@ -1,7 +1,6 @@
 use Rattle.putting.proofs.PuttingLaws.{puts_then, puts_same, puts_keeps_length}
 use Rattle.list_lines.specs.Printing.{name_in}
 use Rattle.list_lines.proofs.PrintingLaws.{no_name}
-use borrow.Author.Rules.{rules}
 use Rattle.list_lines.proofs.put_node.Goals as goal
 
 pub shape_of-out-then-node-counts : goal.shape_of-out-then-node-counts

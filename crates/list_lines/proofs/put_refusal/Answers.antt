@@ -1,7 +1,6 @@
 use Rattle.putting.proofs.PuttingLaws.{puts_then, puts_keeps_length}
 use Rattle.model.specs.Printed.{refusal_text}
 use Rattle.model.specs.Answers.{refusal_of}
-use borrow.Author.Rules.{rules}
 use Rattle.list_lines.proofs.put_refusal.Goals as goal
 
 pub shape_of-out : goal.shape_of-out

@@ -2,7 +2,6 @@ use Rattle.model.specs.Book.{node_names}
 use Rattle.book_tables.specs.View.{book_at}
 use Rattle.putting.proofs.PuttingLaws.{puts_then, puts_same, puts_keeps_length}
 use Rattle.list_lines.proofs.PrintingLaws.{row_text_law}
-use borrow.Author.Rules.{rules}
 use Rattle.list_lines.proofs.put_row.Goals as goal
 
 pub shape_of-out : goal.shape_of-out

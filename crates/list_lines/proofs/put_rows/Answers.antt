@@ -1,18 +1,14 @@
 -- `put_rows` meets its contract: the rows passed are put, and the next one begins at its number times the width.
-use Prim.Native.Nat.{◌≤◌, ◌<◌, ◌+◌, ◌-◌, ◌*◌}
-use mathlib.Core.Path.{◌≡◌, ap}
-use lib.ListN.{length, take}
+use Prim.Native.Nat.{◌≤◌, ◌<◌, ◌-◌}
+use mathlib.Core.Path.{ap}
 use native.Mathlib.Omega.{arith}
 use Rattle.model.specs.Book.{node_names}
-use Rattle.model.specs.Lists.{joined}
 use Rattle.model.specs.Printed.{row_text}
 use Rattle.book_tables.specs.View.{book_at}
 use Rattle.rows.specs.Buffer.{rows_in}
 use Rattle.rows.specs.BufferLaws.{length_rows_in}
-use Rattle.putting.specs.Putting.{Puts}
 use Rattle.putting.proofs.PuttingLaws.{puts_same, puts_keeps_length}
 use Rattle.list_lines.proofs.RowLaws.{no_rows, rows_more, rows_all, row_inside, row_part, next_row}
-use borrow.Author.Rules.{rules}
 use Rattle.list_lines.proofs.put_rows.Goals as goal
 
 pub loop-i-init : goal.loop-i-init

@@ -1,18 +1,13 @@
 -- `put_rows` meets its contract: the rows passed are put, and the next one begins at its number times the width.
-use Prim.Native.Nat.{◌≤◌, ◌<◌, ◌+◌, ◌-◌, ◌*◌}
-use mathlib.Core.Path.{◌≡◌, ap}
-use lib.ListN.{length, take}
-use native.Mathlib.Omega.{arith}
+use Prim.Native.Nat.{◌≤◌, ◌-◌, ◌*◌}
+use mathlib.Core.Path.{◌≡◌}
+use lib.ListN.{take}
 use Rattle.model.specs.Book.{node_names}
 use Rattle.model.specs.Lists.{joined}
 use Rattle.model.specs.Printed.{row_text}
 use Rattle.book_tables.specs.View.{book_at}
 use Rattle.rows.specs.Buffer.{rows_in}
-use Rattle.rows.specs.BufferLaws.{length_rows_in}
 use Rattle.putting.specs.Putting.{Puts}
-use Rattle.putting.proofs.PuttingLaws.{puts_same, puts_keeps_length}
-use Rattle.list_lines.proofs.RowLaws.{no_rows, rows_more, rows_all, row_inside, row_part, next_row}
-use borrow.Author.Rules.{rules}
 use Rattle.list_lines.proofs.put_rows.Given as goal
 
 abbrev pub invariant-loop-i : goal.invariant-loop-i

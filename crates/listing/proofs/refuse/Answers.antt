@@ -1,6 +1,5 @@
 -- A refusal of a list: the row words are filled.
 use Rattle.listing.proofs.ListingLaws.{lists_nothing}
-use borrow.Author.Rules.{rules}
 use Rattle.listing.proofs.refuse.Goals as goal
 
 pub returns : goal.returns

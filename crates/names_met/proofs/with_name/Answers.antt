@@ -5,7 +5,6 @@ use Prim.Native.Nat.{◌+◌, ◌-◌}
 use mathlib.Core.Path.{◌∙◌}
 use native.Mathlib.Omega.{arith}
 use lib.ListN.{length-set, take, drop}
-use borrow.Author.Rules.{rules}
 use Rattle.names_met.proofs.with_name.Goals as goal
 
 pub returns-then-n-ge-MAX_MET : goal.returns-then-n-ge-MAX_MET

@@ -1,7 +1,6 @@
 -- A byte of a name, or 0 past it.
 use mathlib.Core.Path.{sym}
 use lib.ListN.{get_or-eq_default}
-use borrow.Author.Rules.{rules}
 use Rattle.node_names.proofs.byte_at.Goals as goal
 
 pub returns-then-name-i : goal.returns-then-name-i

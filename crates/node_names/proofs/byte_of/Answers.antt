@@ -1,6 +1,5 @@
 -- One byte of the names: past the last node 0, else the node's own.
 use Rattle.node_names.proofs.NameLaws.{past_names, name_byte_law}
-use borrow.Author.Rules.{rules}
 use Rattle.node_names.proofs.byte_of.Goals as goal
 
 pub returns-then-counts-node : goal.returns-then-counts-node

@@ -2,11 +2,8 @@
 use Prim.Native.Nat.{ℕ, ◌-◌}
 use lib.ListN.{length-replicate}
 use native.Mathlib.Omega.{arith}
-use borrow.Author.Rules.{rules}
-use Rattle.model.specs.Book.{node_names}
-use Rattle.book_tables.specs.View.{book_at}
-use Rattle.node_names.specs.Names.{name_byte, name_bytes}
-use Rattle.book_tables.proofs.PutLaws.{PutSoFar, put_start, put_step, put_end}
+use Rattle.node_names.specs.Names.{name_bytes}
+use Rattle.book_tables.proofs.PutLaws.{put_start, put_step, put_end}
 use Rattle.node_names.proofs.bytes_of.Goals as goal
 
 pub loop-k-init : goal.loop-k-init

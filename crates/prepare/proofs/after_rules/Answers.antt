@@ -1,6 +1,5 @@
 -- The rules being read: the query is refused, or what the request gives.
 use Rattle.prepare.proofs.StepLaws.{query_refused, request_read_law}
-use borrow.Author.Rules.{rules}
 use Rattle.prepare.proofs.after_rules.Goals as goal
 
 pub returns-in-Refused : goal.returns-in-Refused

@@ -2,7 +2,6 @@
 use mathlib.Core.Path.{◌∙◌}
 use Rattle.model.specs.Service.{ones}
 use Rattle.fill.specs.FilledLaws.{filled_whole}
-use borrow.Author.Rules.{rules}
 use Rattle.prepare.proofs.clear.Goals as goal
 
 pub returns : goal.returns

@@ -1,6 +1,5 @@
 -- `book_or_refusal` meets its contract: the book stands in the buffer, or the refusal is put there.
 use Rattle.printed_books.proofs.FrontLaws.{book_printed_law, refusal_printed}
-use borrow.Author.Rules.{rules}
 use Rattle.printed_books.proofs.book_or_refusal.Goals as goal
 
 pub returns-in-Length : goal.returns-in-Length

@@ -1,7 +1,6 @@
 -- `put_query` meets its contract. Assumes nothing.
 use Rattle.query_writer.specs.Pieces.{pattern_text}
 use Rattle.putting.proofs.PuttingLaws.{puts_then}
-use borrow.Author.Rules.{rules}
 use Rattle.query_writer.proofs.put_query.Goals as goal
 
 pub put_returns-requires : goal.put_returns-requires

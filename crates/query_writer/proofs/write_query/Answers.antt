@@ -1,16 +1,10 @@
 -- `write_query` meets its contract: the text is counted into no bytes first, and written if it fits. Assumes nothing.
-use mathlib.Core.Path.{◌≡◌, sym, ◌∙◌}
+use mathlib.Core.Path.{sym, ◌∙◌}
 use native.Mathlib.Omega.{arith}
-use lib.ListN.{length-map}
-use Rattle.model.specs.Answers.{pattern_in}
-use Rattle.model.specs.Writing.{written_query}
-use Rattle.book_tables.specs.View.{book_at}
 use Rattle.putting.proofs.PuttingLaws.{puts_same}
 use Rattle.putting.proofs.WholeLaws.{refused, written_in_front, nothing_lent}
-use Rattle.query_writer.specs.Pieces.{pattern_text}
 use Rattle.query_writer.proofs.ModelLaws.{pattern_written}
 use Rattle.query_writer.proofs.InsideLaws.{pattern_inside}
-use borrow.Author.Rules.{rules}
 use Rattle.query_writer.proofs.write_query.Goals as goal
 
 pub put_query-length-requires : goal.put_query-length-requires

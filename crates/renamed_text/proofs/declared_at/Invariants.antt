@@ -1,15 +1,10 @@
 -- `renamed_text::declared_at` meets its contract. The loop's invariant: the line is that of the lines from `at` on, counted from `line`. Assumes nothing.
 use Prim.Native.Nat.{◌+◌, ◌-◌, ◌≤◌}
-use mathlib.Core.Path.{◌≡◌, refl, sym, ◌∙◌}
+use mathlib.Core.Path.{◌≡◌}
 use lib.ListN.{length}
-use native.Mathlib.Omega.{arith}
-use borrow.Author.Rules.{rules}
-use Rattle.model.specs.Answers.{part_of}
 use Rattle.model.specs.Lines.{lines_of}
-use Rattle.model.specs.Renaming.{declares_node, declared_at}
-use Rattle.text.specs.Lines.{line_at}
-use Rattle.text.proofs.LineReads.{line_forward, line_inside}
-use Rattle.renamed_text.proofs.DeclaredLaws.{line_from, declared_here, declared_later, declared_nowhere}
+use Rattle.model.specs.Renaming.{declared_at}
+use Rattle.renamed_text.proofs.DeclaredLaws.{line_from}
 use Rattle.renamed_text.proofs.declared_at.Given as goal
 
 abbrev pub invariant-loop-at : goal.invariant-loop-at

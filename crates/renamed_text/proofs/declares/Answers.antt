@@ -1,7 +1,6 @@
 -- `renamed_text::declares` meets its contract. Assumes nothing.
 use mathlib.Core.Path.{◌≡◌, sym, ◌∙◌}
 use mathlib.Core.Bool.{true, false}
-use borrow.Author.Rules.{rules}
 use Rattle.model.specs.Bytes.{bytes_of, same}
 use Rattle.model.specs.Answers.{part_of}
 use Rattle.model.specs.Renaming.{first_word}

@@ -1,18 +1,14 @@
 -- `renamed_text::put_renamed` meets its contract. The loop's invariant: once what waits and the lines left are put, the buffer holds what it is to hold.
 -- Assumes nothing.
-use Prim.Native.Nat.{◌-◌, ◌≤◌}
-use mathlib.Core.Path.{◌≡◌, ap, ◌∙◌}
-use lib.ListN.{length, drop}
+use Prim.Native.Nat.{◌-◌}
+use mathlib.Core.Path.{ap, ◌∙◌}
 use native.Mathlib.Omega.{arith}
 use borrow.Author.Rules.{rules}
 use Rattle.model.specs.Answers.{part_of}
-use Rattle.model.specs.Lines.{lines_of}
 use Rattle.model.specs.Book.{node_names}
 use Rattle.book_tables.specs.View.{book_at}
 use Rattle.putting.specs.Putting.{with_text}
 use Rattle.renamed_text.specs.Marks.{marked_in}
-use Rattle.renamed_text.specs.Renamed.{lines_by}
-use Rattle.renamed_text.specs.Progress.{to_come}
 use Rattle.renamed_text.proofs.TextLaws.{renamed_by, all_to_come, rest_put}
 use Rattle.renamed_text.proofs.put_renamed.Goals as goal
 

@@ -1,7 +1,6 @@
 -- What is told of a verdict, accepted or refused.
 use Rattle.telling.specs.Told.{accepting, of_refusal}
 use Rattle.telling.proofs.ToldLaws.{tells}
-use borrow.Author.Rules.{rules}
 use Rattle.telling.proofs.tell.Goals as goal
 
 pub returns-in-Accepted : goal.returns-in-Accepted

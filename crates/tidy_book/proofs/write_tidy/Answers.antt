@@ -1,7 +1,6 @@
 -- `write_tidy` leaves what the service leaves: 14 for a tidy book that is too long for a book or for the buffer, or the tidy book.
 use Rattle.tidy_book.proofs.TidyLaws.{read_short, refused_too_long, tidy_written}
 use Rattle.putting.proofs.PuttingLaws.{puts_keeps_length}
-use borrow.Author.Rules.{rules}
 use mathlib.Core.Path.{sym, ◌∙◌}
 use Rattle.tidy_book.proofs.write_tidy.Goals as goal
 

@@ -1,6 +1,5 @@
 -- `tidy_size::tidy_size` meets its contract: the tidy text is the lines of five tables, and each size is that of one table's lines. Assumes nothing.
 use native.Mathlib.Omega.{arith}
-use borrow.Author.Rules.{rules}
 use Rattle.book_tables.specs.declared.Owner.TheVariants.{Node, Relationship}
 use Rattle.tidy_size.proofs.TidyLaws.{tidy_length}
 use Rattle.tidy_size.proofs.tidy_size.Goals as goal

@@ -1,5 +1,4 @@
 -- `put_tidy` meets its contract. Assumes nothing.
-use borrow.Author.Rules.{rules}
 use Rattle.book_tables.specs.declared.Owner.TheVariants.{Node, Relationship}
 use Rattle.putting.proofs.PuttingLaws.{puts_then, puts_same}
 use Rattle.tidy_text.specs.Pieces.{book_text}

@@ -1,7 +1,6 @@
 -- `lamp` meets its contract, by what asking with no row word gives.
 use Rattle.asking.proofs.AnswerLaws.{told_found, told_full, told_refused}
 use Rattle.wall_lamp.proofs.LampLaws.{lamp_no, lamp_yes, lamp_refused}
-use borrow.Author.Rules.{rules}
 use Rattle.wall_lamp.proofs.lamp.Goals as goal
 
 pub returns-in-Found : goal.returns-in-Found

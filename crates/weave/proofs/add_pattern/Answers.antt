@@ -1,9 +1,8 @@
 -- `add_pattern` meets its contract: vertices first, then each limit, then the rest. Assumes nothing.
 use Rattle.weave.proofs.OneText.{passed_by_vertices, passed_by_edges, passed_by_exclusions, passed_by_requirements, number_low, text_woven}
 use Rattle.woven_tables.specs.Tables.{actors_at}
-use Rattle.model.proofs.Places.{length_map}
 use native.Mathlib.Omega.{arith}
-use mathlib.Core.Path.{sym, ◌∙◌}
+use mathlib.Core.Path.{◌∙◌}
 use Rattle.weave.proofs.add_pattern.Goals as goal
 
 pub add_vertices-numbered-requires : goal.add_vertices-numbered-requires

@@ -8,33 +8,30 @@ pub overflow_add-before : goal.overflow_add-before
 overflow_add-before c = omega (arith, c.requires.0.room_clauses)
 
 pub add_edges-requires : goal.add_edges-requires
-add_edges-requires c =
-    (
-      edges_ready c.args.k c.args.base c.args.pattern c.args.numbers c.args.counts
-          c.requires.0,
-      c.requires.1,
-    )
+add_edges-requires c = (
+  edges_ready c.args.k c.args.base c.args.pattern c.args.numbers c.args.counts
+      c.requires.0,
+  c.requires.1,
+)
 
 pub add_clauses-requires : goal.add_clauses-requires
-add_clauses-requires c =
-    (
-      clauses_ready c.args.k c.args.base c.args.pattern c.args.numbers c.args.counts
-          c.requires.0,
-      omega (arith, c.requires.1, c.add_edges.auto.words),
-    )
+add_clauses-requires c = (
+  clauses_ready c.args.k c.args.base c.args.pattern c.args.numbers c.args.counts
+      c.requires.0,
+  omega (arith, c.requires.1, c.add_edges.auto.words),
+)
 
 pub add_returns-requires : goal.add_returns-requires
-add_returns-requires c =
-    (
-      returns_ready c.args.k c.args.base c.args.pattern c.args.numbers c.args.counts
-          c.requires.0,
-      omega (
-        arith,
-        c.requires.1,
-        c.add_edges.auto.words,
-        c.add_clauses.auto.words,
-      ),
-    )
+add_returns-requires c = (
+  returns_ready c.args.k c.args.base c.args.pattern c.args.numbers c.args.counts
+      c.requires.0,
+  omega (
+    arith,
+    c.requires.1,
+    c.add_edges.auto.words,
+    c.add_clauses.auto.words,
+  ),
+)
 
 pub shape_of-words-then-k-eq0 : goal.shape_of-words-then-k-eq0
 shape_of-words-then-k-eq0 c =

@@ -6,7 +6,6 @@ use Rattle.model.specs.ReadBook.{read_book_by}
 use Rattle.book_tables.specs.Alike.{alike}
 use Rattle.book.specs.Loaded.{Loaded}
 use Rattle.written_book.proofs.LeavesLaws.{memory_short, memory_whole, all_ones}
-use borrow.Author.Rules.{rules}
 use Rattle.written_book.proofs.load_whole.Goals as goal
 
 pub returns-then-work-lt-WORK_WORDS : goal.returns-then-work-lt-WORK_WORDS

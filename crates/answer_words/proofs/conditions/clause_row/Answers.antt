@@ -1,7 +1,6 @@
 -- The words of a condition, case by case.
 use mathlib.Core.Path.{sym, ap, ◌∙◌}
 use Rattle.answer_words.specs.Words.{condition_row}
-use borrow.Author.Rules.{rules}
 use Rattle.answer_words.proofs.conditions.clause_row.Goals as goal
 
 pub returns-in-Excluded : goal.returns-in-Excluded

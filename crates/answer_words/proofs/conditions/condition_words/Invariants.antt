@@ -1,10 +1,7 @@
 -- All words of the conditions. The loop's invariant: what is put so far is each place's word. The measure is what is left of them.
 use Prim.Native.Nat.{◌-◌}
-use mathlib.Core.Path.{refl}
-use native.Mathlib.Omega.{arith}
-use borrow.Author.Rules.{rules}
-use Rattle.book_tables.proofs.PutLaws.{PutSoFar, put_start, put_step, put_end}
-use Rattle.answer_words.specs.Words.{row_word, condition_word, condition_words}
+use Rattle.book_tables.proofs.PutLaws.{PutSoFar}
+use Rattle.answer_words.specs.Words.{condition_word}
 use Rattle.answer_words.proofs.conditions.condition_words.Given as goal
 
 abbrev pub invariant-loop-k : goal.invariant-loop-k

@@ -1,7 +1,6 @@
 -- A relation's number, case by case.
 use mathlib.Core.Path.{sym, ap}
 use Rattle.answer_words.specs.Words.{relation_word}
-use borrow.Author.Rules.{rules}
 use Rattle.answer_words.proofs.conditions.relation_word.Goals as goal
 
 pub returns-in-Equal : goal.returns-in-Equal

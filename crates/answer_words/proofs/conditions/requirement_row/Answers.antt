@@ -1,6 +1,5 @@
 -- The words of a requirement: its relation's number and its value's words behind the rest.
 use Rattle.answer_words.proofs.RowLaws.{row_of_requirement}
-use borrow.Author.Rules.{rules}
 use Rattle.answer_words.proofs.conditions.requirement_row.Goals as goal
 
 pub returns : goal.returns

@@ -2,7 +2,6 @@
 use Rattle.answer_words.proofs.RowLaws.{row_of_true, row_of_false}
 use mathlib.Core.Path.{sym, ap}
 use Rattle.answer_words.specs.Words.{value_row}
-use borrow.Author.Rules.{rules}
 use Rattle.answer_words.proofs.conditions.value_row.Goals as goal
 
 pub returns-in-Number : goal.returns-in-Number

@@ -1,6 +1,5 @@
 -- One word of the edges: past the last 0, else of its row.
 use Rattle.answer_words.proofs.RowLaws.{past_rows, in_row}
-use borrow.Author.Rules.{rules}
 use Rattle.answer_words.proofs.patterns.edge_word.Goals as goal
 
 pub returns-then-count-k : goal.returns-then-count-k

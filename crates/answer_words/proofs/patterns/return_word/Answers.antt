@@ -1,6 +1,5 @@
 -- One Return name's vertex: past the last 0.
 use Rattle.answer_words.proofs.RowLaws.{past_returns, in_returns}
-use borrow.Author.Rules.{rules}
 use Rattle.answer_words.proofs.patterns.return_word.Goals as goal
 
 pub returns-then-count-k : goal.returns-then-count-k

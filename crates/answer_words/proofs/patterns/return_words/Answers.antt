@@ -2,8 +2,7 @@
 use Prim.Native.Nat.{◌-◌}
 use mathlib.Core.Path.{refl}
 use native.Mathlib.Omega.{arith}
-use borrow.Author.Rules.{rules}
-use Rattle.book_tables.proofs.PutLaws.{PutSoFar, put_start, put_step, put_end}
+use Rattle.book_tables.proofs.PutLaws.{put_start, put_step, put_end}
 use Rattle.answer_words.specs.Words.{return_word, return_words}
 use Rattle.answer_words.proofs.patterns.return_words.Goals as goal
 

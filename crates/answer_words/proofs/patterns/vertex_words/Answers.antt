@@ -2,8 +2,7 @@
 use Prim.Native.Nat.{◌-◌}
 use mathlib.Core.Path.{refl}
 use native.Mathlib.Omega.{arith}
-use borrow.Author.Rules.{rules}
-use Rattle.book_tables.proofs.PutLaws.{PutSoFar, put_start, put_step, put_end}
+use Rattle.book_tables.proofs.PutLaws.{put_start, put_step, put_end}
 use Rattle.answer_words.specs.Words.{row_word, vertex_word, vertex_words}
 use Rattle.answer_words.proofs.patterns.vertex_words.Goals as goal
 

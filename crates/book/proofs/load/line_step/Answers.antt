@@ -1,6 +1,5 @@
 use Rattle.book.proofs.LoadLaws.{line_open, line_closed, line_asked}
 use Rattle.model.specs.Answers.{part_of}
-use borrow.Author.Rules.{rules}
 use Rattle.book.proofs.load.line_step.Goals as goal
 
 pub returns-then-text-to : goal.returns-then-text-to

@@ -1,5 +1,4 @@
 use Rattle.model.specs.ReadBook.{read_book}
-use borrow.Author.Rules.{rules}
 use Rattle.book.proofs.load.load.Goals as goal
 
 pub returns : goal.returns

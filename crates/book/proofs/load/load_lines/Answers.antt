@@ -2,29 +2,26 @@ use Rattle.model.specs.Answers.{refusal_of}
 use Rattle.model.specs.Refusal.{refusal}
 use Rattle.book.proofs.LoadLaws.{empty_is, empty_fits, step_refuses, step_adds, filled_ones}
 use Rattle.text.proofs.LineReads.{line_forward, line_inside, lines_fault, lines_known, lines_over}
-use Rattle.book_tables.specs.Fits.{Fits}
 use Rattle.book_tables.specs.View.{book_at}
 use Rattle.model.specs.ReadBook.{book_step}
 use Rattle.book_tables.specs.Alike.{alike}
-use Rattle.model.specs.Book.{Book, empty_book}
+use Rattle.model.specs.Book.{Book}
 use Rattle.model.specs.Lines.{read_lines, lines_of}
-use lib.ListN.{length, drop}
-use mathlib.Core.Path.{◌≡◌, refl, sym, ap, ◌∙◌}
-use Prim.Native.Nat.{◌+◌, ◌-◌, ◌≤◌}
+use mathlib.Core.Path.{refl, sym, ap, ◌∙◌}
+use Prim.Native.Nat.{◌-◌}
 use borrow.Author.Rules.{rules}
 use native.Mathlib.Omega.{arith}
 use Rattle.book.proofs.load.load_lines.Goals as goal
 
 pub loop-at-init : goal.loop-at-init
-loop-at-init c =
-    (
-      refl,
-      rw (c.no_counts-counts.ensures, c.clear_chains.ensures) (empty_fits c.args.text.now c.args.words.now c.requires.1),
-      omega arith,
-      omega arith,
-      ap (λ (b : Book). read_lines 1 (book_step (alike c.args.rule)) 1 b (lines_of c.args.text.now))
-          (ap (book_at c.args.text.now _) c.no_counts-counts.ensures ∙ empty_is c.args.text.now _),
-    )
+loop-at-init c = (
+  refl,
+  rw (c.no_counts-counts.ensures, c.clear_chains.ensures) (empty_fits c.args.text.now c.args.words.now c.requires.1),
+  omega arith,
+  omega arith,
+  ap (λ (b : Book). read_lines 1 (book_step (alike c.args.rule)) 1 b (lines_of c.args.text.now))
+      (ap (book_at c.args.text.now _) c.no_counts-counts.ensures ∙ empty_is c.args.text.now _),
+)
 
 pub line_step-requires : goal.line_step-requires
 line_step-requires c =
@@ -39,14 +36,13 @@ line_step-requires c =
 
 pub returns-in-Fault : goal.returns-in-Fault
 unfolding refusal refusal_of
-returns-in-Fault c =
-    (
-      sym c.loop-at.invariant.4 ∙ lines_fault c.args.text.now c.loop-at.at _ c.line_end-to.ensures
-          c.loop-at-test.true 1 (book_step (alike c.args.rule)) c.loop-at.line _ _
-          (step_refuses c.args.text.now _ _ _ _ c.in-Fault.is c.line_step.ensures),
-      filled_ones _ _
-          c.fill.ensures,
-    )
+returns-in-Fault c = (
+  sym c.loop-at.invariant.4 ∙ lines_fault c.args.text.now c.loop-at.at _ c.line_end-to.ensures
+      c.loop-at-test.true 1 (book_step (alike c.args.rule)) c.loop-at.line _ _
+      (step_refuses c.args.text.now _ _ _ _ c.in-Fault.is c.line_step.ensures),
+  filled_ones _ _
+      c.fill.ensures,
+)
 
 pub overflow_add-at : goal.overflow_add-at
 overflow_add-at c =
@@ -80,9 +76,8 @@ loop-at-preserved c =
     )
 
 pub returns : goal.returns
-returns c =
-    (
-      sym c.loop-at.invariant.4 ∙ lines_over c.args.text.now c.loop-at.at 1 (book_step (alike c.args.rule))
-          c.loop-at.line _ c.loop-at-test.false,
-      c.loop-at.invariant.1,
-    )
+returns c = (
+  sym c.loop-at.invariant.4 ∙ lines_over c.args.text.now c.loop-at.at 1 (book_step (alike c.args.rule))
+      c.loop-at.line _ c.loop-at-test.false,
+  c.loop-at.invariant.1,
+)

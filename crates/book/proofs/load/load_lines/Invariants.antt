@@ -1,18 +1,12 @@
-use Rattle.model.specs.Answers.{refusal_of}
-use Rattle.model.specs.Refusal.{refusal}
-use Rattle.book.proofs.LoadLaws.{empty_is, empty_fits, step_refuses, step_adds, filled_ones}
-use Rattle.text.proofs.LineReads.{line_forward, line_inside, lines_fault, lines_known, lines_over}
 use Rattle.book_tables.specs.Fits.{Fits}
 use Rattle.book_tables.specs.View.{book_at}
 use Rattle.model.specs.ReadBook.{book_step}
 use Rattle.book_tables.specs.Alike.{alike}
-use Rattle.model.specs.Book.{Book, empty_book}
+use Rattle.model.specs.Book.{empty_book}
 use Rattle.model.specs.Lines.{read_lines, lines_of}
 use lib.ListN.{length, drop}
-use mathlib.Core.Path.{◌≡◌, refl, sym, ap, ◌∙◌}
+use mathlib.Core.Path.{◌≡◌}
 use Prim.Native.Nat.{◌+◌, ◌-◌, ◌≤◌}
-use borrow.Author.Rules.{rules}
-use native.Mathlib.Omega.{arith}
 use Rattle.book.proofs.load.load_lines.Given as goal
 
 abbrev pub invariant-loop-at : goal.invariant-loop-at

@@ -3,7 +3,6 @@ use Rattle.book_lines.proofs.LineSteps.{attr_stands, attr_step, attr_broken}
 use Rattle.book_lines.proofs.PieceLaws.{moved_asked}
 use Rattle.book_tables.specs.Owners.{declares}
 use native.Mathlib.Omega.{arith}
-use borrow.Author.Rules.{rules}
 use Rattle.book_lines.proofs.forms.attr_line.Goals as goal
 
 pub moved-requires : goal.moved-requires

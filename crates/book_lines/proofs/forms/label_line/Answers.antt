@@ -3,7 +3,6 @@ use Rattle.book_lines.proofs.LineSteps.{label_broken, label_open, label_step}
 use Rattle.book_lines.proofs.PieceLaws.{moved_asked}
 use Rattle.item_forms.proofs.PlacedLaws.{placed_at}
 use native.Mathlib.Omega.{arith}
-use borrow.Author.Rules.{rules}
 use Rattle.book_lines.proofs.forms.label_line.Goals as goal
 
 pub overflow_add-name : goal.overflow_add-name

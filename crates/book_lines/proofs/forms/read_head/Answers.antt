@@ -2,7 +2,6 @@
 use Rattle.book_lines.proofs.LineLaws.{step_broken, headed, headless}
 use Rattle.item_forms.proofs.PlacedLaws.{placed_at}
 use native.Mathlib.Omega.{arith}
-use borrow.Author.Rules.{rules}
 use Rattle.book_lines.proofs.forms.read_head.Goals as goal
 
 pub overflow_add-word : goal.overflow_add-word

@@ -1,5 +1,4 @@
 use Rattle.book_lines.proofs.LineLaws.{step_broken, opens_at, opens_none}
-use borrow.Author.Rules.{rules}
 use Rattle.book_lines.proofs.forms.read_line.Goals as goal
 
 pub returns-in-At : goal.returns-in-At

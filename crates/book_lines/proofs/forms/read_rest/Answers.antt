@@ -1,6 +1,5 @@
 use Rattle.book_lines.proofs.LineLaws.{step_broken, form_other}
 use Rattle.book_lines.specs.Forms.{line_of}
-use borrow.Author.Rules.{rules}
 use Rattle.book_lines.proofs.forms.read_rest.Goals as goal
 
 pub returns-in-Attr : goal.returns-in-Attr

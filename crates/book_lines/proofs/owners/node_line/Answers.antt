@@ -4,7 +4,6 @@ use Rattle.book_lines.proofs.PieceLaws.{moved_asked}
 use Rattle.item_forms.proofs.PlacedLaws.{placed_at}
 use Rattle.book_tables.proofs.AgreeLaws.{fits_kept}
 use native.Mathlib.Omega.{arith}
-use borrow.Author.Rules.{rules}
 use Rattle.book_lines.proofs.owners.node_line.Goals as goal
 
 pub overflow_add-name : goal.overflow_add-name

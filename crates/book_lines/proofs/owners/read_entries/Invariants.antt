@@ -1,14 +1,7 @@
 -- `book_lines::owners::read_entries` meets its contract.
-use Rattle.book_lines.specs.Entries.{shift}
-use Rattle.book_lines.proofs.EntryForms.{Reading, entry_stands, reading_starts, reading_on, reading_ends, reading_spoilt, reading_broken}
-use Rattle.book_lines.proofs.PieceLaws.{ends_moved}
-use Rattle.book_tables.proofs.ValueLaws.{ends_later}
-use Rattle.book_tables.proofs.AgreeLaws.{fits_kept}
-use Rattle.book_tables.proofs.OwnerLaws.{attr_table}
+use Rattle.book_lines.proofs.EntryForms.{Reading}
 use lib.ListN.{length}
 use Prim.Native.Nat.{◌-◌}
-use native.Mathlib.Omega.{arith}
-use borrow.Author.Rules.{rules}
 use Rattle.book_lines.proofs.owners.read_entries.Given as goal
 
 abbrev pub invariant-loop-name : goal.invariant-loop-name

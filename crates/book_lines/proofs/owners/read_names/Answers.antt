@@ -2,7 +2,6 @@
 use Rattle.book_lines.proofs.LineSteps.{names_first, names_second, names_third, names_all}
 use Rattle.item_forms.proofs.PlacedLaws.{placed_at}
 use native.Mathlib.Omega.{arith}
-use borrow.Author.Rules.{rules}
 use Rattle.book_lines.proofs.owners.read_names.Goals as goal
 
 pub overflow_add-label : goal.overflow_add-label

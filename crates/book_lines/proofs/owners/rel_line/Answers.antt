@@ -2,7 +2,6 @@ use Rattle.book_lines.proofs.LineSteps.{rel_broken, names_got, rel_spoilt, rel_s
 use Rattle.book_lines.proofs.PieceLaws.{moved_asked}
 use Rattle.book_tables.proofs.AgreeLaws.{fits_kept}
 use native.Mathlib.Omega.{arith}
-use borrow.Author.Rules.{rules}
 use Rattle.book_lines.proofs.owners.rel_line.Goals as goal
 
 pub read_entries-requires : goal.read_entries-requires

@@ -3,7 +3,6 @@ use Rattle.book_tables.specs.ValueWords.{EndsBefore}
 use Rattle.book_lines.specs.Entries.{shift}
 use mathlib.Core.Path.{sym, ap, subst}
 use native.Mathlib.Omega.{arith}
-use borrow.Author.Rules.{rules}
 use Rattle.book_lines.proofs.owners.shifted.Goals as goal
 
 pub overflow_add-result : goal.overflow_add-result

@@ -1,6 +1,5 @@
 use Rattle.book_lines.specs.Forms.{kind_read}
 use mathlib.Core.Path.{sym, ◌∙◌}
-use borrow.Author.Rules.{rules}
 use Rattle.book_lines.proofs.pieces.kind_of.Goals as goal
 
 pub returns-then-same_bytes : goal.returns-then-same_bytes

@@ -3,7 +3,6 @@ use Rattle.item_forms.proofs.PlacedLaws.{placed_at}
 use Rattle.book_lines.specs.Forms.{kind_piece}
 use mathlib.Core.Path.{sym, ap, ◌∙◌}
 use native.Mathlib.Omega.{arith}
-use borrow.Author.Rules.{rules}
 use Rattle.book_lines.proofs.pieces.next_kind.Goals as goal
 
 pub part_of-requires : goal.part_of-requires

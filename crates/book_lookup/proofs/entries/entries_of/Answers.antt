@@ -1,5 +1,4 @@
 -- `book_lookup::entries::entries_of` meets its contract. Assumes nothing.
-use borrow.Author.Rules.{rules}
 use Rattle.book_tables.specs.View.{word_at}
 use mathlib.Core.Path.{ap}
 use Prim.Native.Nat.{◌+◌}

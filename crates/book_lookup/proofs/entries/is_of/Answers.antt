@@ -1,7 +1,6 @@
 -- `book_lookup::entries::is_of` meets its contract. Assumes nothing.
 use Prim.Native.Nat.{◌+◌, ◌*◌}
 use native.Mathlib.Omega.{arith}
-use borrow.Author.Rules.{rules}
 use Rattle.book_tables.specs.Layout.{entries}
 use Rattle.book_lookup.proofs.entries.is_of.Goals as goal
 

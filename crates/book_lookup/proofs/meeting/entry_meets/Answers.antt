@@ -1,7 +1,6 @@
 -- `book_lookup::meeting::entry_meets` meets its contract. Assumes nothing.
 use mathlib.Core.Path.{ap, subst, ◌∙◌}
 use native.Mathlib.Omega.{arith}
-use borrow.Author.Rules.{rules}
 use Rattle.model.specs.Answers.{relation_of, value_of}
 use Rattle.model.specs.Graph.{in_relation}
 use Rattle.model.specs.Values.{str}

@@ -1,6 +1,5 @@
 -- `book_lookup::meeting::entry_meets_number` meets its contract. Assumes nothing.
 use mathlib.Core.Path.{sym, ◌∙◌}
-use borrow.Author.Rules.{rules}
 use Rattle.model.specs.Answers.{relation_of}
 use Rattle.model.specs.Graph.{in_relation}
 use Rattle.book_lookup.proofs.ValueLaws.{kind_ints, number_unmet}

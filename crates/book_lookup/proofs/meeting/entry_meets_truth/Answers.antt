@@ -1,7 +1,6 @@
 -- `book_lookup::meeting::entry_meets_truth` meets its contract. Assumes nothing.
 use mathlib.Core.Path.{sym}
 use native.Mathlib.Omega.{arith}
-use borrow.Author.Rules.{rules}
 use Rattle.model.specs.Answers.{relation_of}
 use Rattle.model.specs.Graph.{in_relation}
 use Rattle.book_lookup.proofs.ValueLaws.{kind_bools, truth_unmet}

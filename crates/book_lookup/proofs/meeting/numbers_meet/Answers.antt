@@ -1,5 +1,4 @@
 -- `book_lookup::meeting::numbers_meet` meets its contract. Assumes nothing.
-use borrow.Author.Rules.{rules}
 use Rattle.model.specs.Answers.{relation_of}
 use Rattle.model.specs.Graph.{compares}
 use Rattle.book_lookup.proofs.meeting.numbers_meet.Goals as goal

@@ -1,5 +1,4 @@
 -- `book_lookup::meeting::same_meets` meets its contract. Assumes nothing.
-use borrow.Author.Rules.{rules}
 use Rattle.model.specs.Answers.{relation_of}
 use Rattle.model.specs.Graph.{same_or_not}
 use Rattle.book_lookup.proofs.meeting.same_meets.Goals as goal

@@ -1,6 +1,5 @@
 -- `book_lookup::meeting::texts_meet` meets its contract. Assumes nothing.
 use mathlib.Core.Path.{sym, ap, ◌∙◌}
-use borrow.Author.Rules.{rules}
 use Rattle.model.specs.Answers.{relation_of}
 use Rattle.model.specs.TextOrder.{by_order}
 use Rattle.model.proofs.TextRelations.{less_as_numbers, equal_as_numbers, greater_as_numbers}

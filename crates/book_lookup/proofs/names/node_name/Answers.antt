@@ -2,7 +2,6 @@
 use Prim.Native.Nat.{◌+◌}
 use mathlib.Core.Path.{sym, ◌∙◌}
 use native.Mathlib.Omega.{arith}
-use borrow.Author.Rules.{rules}
 use Rattle.book_tables.proofs.NameLaws.{name_slice}
 use Rattle.book_tables.specs.Layout.{node_names}
 use Rattle.book_lookup.proofs.FoundLaws.{node_named}

@@ -21,6 +21,9 @@ pub returns : goal.returns
 returns c =
     let a = c.args in
     let asked = c.requires.0 in
-    let told = rw c.entries_of-entries.ensures at c.test_entries.ensures in record { met = told.met
+    let told = rw c.entries_of-entries.ensures at c.test_entries.ensures in record {
+      met = told.met
           ∙ ap (λ v. meets v (relation_of a.relation) (value_of a.text.now a.value))
-          (owner_sought a.book.now a.words.now a.counts asked.fits a.attribute a.owner a.number asked.owned asked.declared); looked = told.looked ∙ owner_looked_law a.book.now a.words.now a.counts asked.fits a.attribute a.owner a.number asked.owned asked.declared }
+          (owner_sought a.book.now a.words.now a.counts asked.fits a.attribute a.owner a.number asked.owned asked.declared);
+      looked = told.looked ∙ owner_looked_law a.book.now a.words.now a.counts asked.fits a.attribute a.owner a.number asked.owned asked.declared;
+    }

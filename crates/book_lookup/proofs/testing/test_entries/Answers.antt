@@ -1,11 +1,9 @@
 -- `book_lookup::testing::test_entries` meets its contract. The loop's invariant: what is sought among all the entries is sought among those from `i` on.
 -- The measure is the number of entries left. Assumes nothing.
-use Prim.Native.Nat.{ℕ, ◌+◌, ◌-◌, ◌≤◌}
+use Prim.Native.Nat.{ℕ, ◌+◌, ◌-◌}
 use mathlib.Core.Path.{◌≡◌, refl, sym, ◌∙◌}
 use native.Mathlib.Omega.{arith}
-use borrow.Author.Rules.{rules}
 use Rattle.book_tables.specs.View.{start_part, count_part}
-use Rattle.book_lookup.specs.Entries.{seek}
 use Rattle.model.specs.Answers.{relation_of, value_of}
 use mathlib.Core.Bool.{false}
 use Rattle.book_lookup.proofs.SeekLaws.{seek_begins, seek_passes, seek_finds, seek_ends}

@@ -1,13 +1,9 @@
 -- `book_lookup::testing::test_entries` meets its contract. The loop's invariant: what is sought among all the entries is sought among those from `i` on.
 -- The measure is the number of entries left. Assumes nothing.
-use Prim.Native.Nat.{ℕ, ◌+◌, ◌-◌, ◌≤◌}
-use mathlib.Core.Path.{◌≡◌, refl, sym, ◌∙◌}
-use native.Mathlib.Omega.{arith}
-use borrow.Author.Rules.{rules}
+use Prim.Native.Nat.{◌+◌, ◌-◌, ◌≤◌}
+use mathlib.Core.Path.{◌≡◌}
 use Rattle.book_tables.specs.View.{start_part, count_part}
 use Rattle.book_lookup.specs.Entries.{seek}
-use Rattle.book_lookup.proofs.SeekLaws.{seek_begins, seek_passes, seek_finds, seek_ends}
-use Rattle.book_lookup.proofs.FoundLaws.{found_answer, absent_answer}
 use Rattle.book_lookup.proofs.testing.test_entries.Given as goal
 
 abbrev pub invariant-loop-i : goal.invariant-loop-i

@@ -1,5 +1,4 @@
 -- `book_lookup::values::number_of` meets its contract. Assumes nothing.
-use borrow.Author.Rules.{rules}
 use Rattle.book_lookup.proofs.ValueLaws.{number_value}
 use Rattle.book_lookup.proofs.values.number_of.Goals as goal
 

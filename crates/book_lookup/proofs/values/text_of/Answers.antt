@@ -1,7 +1,6 @@
 -- `book_lookup::values::text_of` meets its contract. Assumes nothing.
 use mathlib.Core.Path.{sym, ap, ◌∙◌}
 use native.Mathlib.Omega.{arith}
-use borrow.Author.Rules.{rules}
 use Rattle.model.specs.Values.{str}
 use Rattle.book_lookup.proofs.ValueLaws.{text_value, part_between}
 use Rattle.book_lookup.proofs.values.text_of.Goals as goal

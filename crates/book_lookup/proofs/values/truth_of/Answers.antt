@@ -1,5 +1,4 @@
 -- `book_lookup::values::truth_of` meets its contract. Assumes nothing.
-use borrow.Author.Rules.{rules}
 use Rattle.book_lookup.proofs.ValueLaws.{truth_value}
 use Rattle.book_lookup.proofs.values.truth_of.Goals as goal
 

@@ -1,9 +1,6 @@
 -- `book_tables::names::find_alike` meets its contract. The loop's invariant: no node of the slot before the entry is taken for the name. Assumes nothing.
-use Rattle.book_tables.proofs.Walks.{NodeWalk, nodes_first, nodes_inside, nodes_next, nodes_fall, node_found, node_absent}
-use Rattle.chains.proofs.SlotLaws.{slot_small}
+use Rattle.book_tables.proofs.Walks.{NodeWalk}
 use Prim.Native.Nat.{◌-◌}
-use native.Mathlib.Omega.{arith}
-use borrow.Author.Rules.{rules}
 use Rattle.book_tables.proofs.names.find_alike.Given as goal
 
 abbrev pub invariant-loop-entry : goal.invariant-loop-entry

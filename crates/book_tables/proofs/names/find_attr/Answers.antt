@@ -1,6 +1,5 @@
 use mathlib.Core.Path.{ap, sym, ◌∙◌}
 use native.Mathlib.Omega.{arith}
-use borrow.Author.Rules.{rules}
 use Rattle.model.specs.Names.{place}
 use Rattle.book_tables.proofs.OwnerLaws.{owner_names, attr_table}
 use Rattle.book_tables.proofs.names.find_attr.Goals as goal

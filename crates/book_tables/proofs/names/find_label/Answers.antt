@@ -1,5 +1,4 @@
 use Rattle.book_tables.specs.View.{book_at}
-use borrow.Author.Rules.{rules}
 use Rattle.book_tables.proofs.names.find_label.Goals as goal
 
 pub returns : goal.returns

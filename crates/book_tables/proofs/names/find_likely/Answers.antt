@@ -3,7 +3,6 @@ use Rattle.book_tables.proofs.NameLaws.{found_only}
 use Rattle.book_tables.specs.View.{name_of}
 use native.Mathlib.Omega.{arith}
 use mathlib.Core.Path.{sym, ◌∙◌}
-use borrow.Author.Rules.{rules}
 use Rattle.book_tables.proofs.names.find_likely.Goals as goal
 
 pub is_named-requires : goal.is_named-requires

@@ -1,15 +1,11 @@
 -- `book_tables::names::find_name` meets its contract. The loop's invariant: no name before i is the name. Assumes nothing.
-use Rattle.book_tables.proofs.NameLaws.{found_name, found_none}
-use Rattle.book_tables.proofs.ListedLaws.{scan_none, scan_on}
 use Rattle.book_tables.specs.View.{name_of}
 use Rattle.book_tables.specs.Listed.{listed}
 use Rattle.model.specs.Lists.{any}
 use Rattle.model.specs.Bytes.{same}
-use native.Mathlib.Omega.{arith}
 use mathlib.Core.Bool.{false}
-use mathlib.Core.Path.{◌≡◌, sym, ◌∙◌}
+use mathlib.Core.Path.{◌≡◌}
 use Prim.Native.Nat.{◌≤◌, ◌-◌}
-use borrow.Author.Rules.{rules}
 use Rattle.book_tables.proofs.names.find_name.Given as goal
 
 abbrev pub invariant-loop-i : goal.invariant-loop-i

@@ -1,4 +1,3 @@
-use borrow.Author.Rules.{rules}
 use Rattle.book_tables.proofs.names.is_alike.Goals as goal
 
 pub returns-in-Exact : goal.returns-in-Exact

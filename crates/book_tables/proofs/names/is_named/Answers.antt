@@ -4,7 +4,6 @@ use Rattle.book_tables.specs.View.{word_at}
 use Rattle.book_tables.specs.Alike.{alike}
 use native.Mathlib.Omega.{arith}
 use mathlib.Core.Path.{ap, ◌∙◌}
-use borrow.Author.Rules.{rules}
 use Rattle.book_tables.proofs.names.is_named.Goals as goal
 
 pub overflow_cast-word : goal.overflow_cast-word

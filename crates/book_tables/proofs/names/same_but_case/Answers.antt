@@ -1,11 +1,7 @@
-use borrow.Author.Rules.{rules}
 use Prim.Native.Nat.{◌-◌}
-use mathlib.Core.Path.{◌≡◌, refl, sym, ◌∙◌}
-use mathlib.Core.List.{map}
+use mathlib.Core.Path.{refl, sym, ◌∙◌}
 use native.Mathlib.Omega.{arith}
-use lib.ListN.{length, drop}
-use Rattle.model.specs.Bytes.{same}
-use Rattle.model.specs.Names.{lowered, same_but_case}
+use Rattle.model.specs.Names.{same_but_case}
 use Rattle.book_tables.proofs.AlikeLaws.{case_lengths, case_over, case_step, case_differs}
 use Rattle.book_tables.proofs.names.same_but_case.Goals as goal
 

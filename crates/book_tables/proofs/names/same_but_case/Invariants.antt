@@ -1,12 +1,9 @@
-use borrow.Author.Rules.{rules}
 use Prim.Native.Nat.{◌-◌}
-use mathlib.Core.Path.{◌≡◌, refl, sym, ◌∙◌}
+use mathlib.Core.Path.{◌≡◌}
 use mathlib.Core.List.{map}
-use native.Mathlib.Omega.{arith}
 use lib.ListN.{length, drop}
 use Rattle.model.specs.Bytes.{same}
 use Rattle.model.specs.Names.{lowered, same_but_case}
-use Rattle.book_tables.proofs.AlikeLaws.{case_lengths, case_over, case_step, case_differs}
 use Rattle.book_tables.proofs.names.same_but_case.Given as goal
 
 abbrev pub invariant-loop-i : goal.invariant-loop-i

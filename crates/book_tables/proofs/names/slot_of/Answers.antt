@@ -4,7 +4,6 @@ use Rattle.chains.specs.Slots.{slot_of}
 use Rattle.chains.proofs.SlotLaws.{slot_small}
 use Rattle.book_tables.specs.View.{name_in}
 use mathlib.Core.Path.{ap, ◌∙◌}
-use borrow.Author.Rules.{rules}
 use Rattle.book_tables.proofs.names.slot_of.Goals as goal
 
 pub returns : goal.returns

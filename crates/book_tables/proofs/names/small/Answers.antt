@@ -1,6 +1,5 @@
 use borrow.Author.Tests.{lt-leb, le-leb}
 use Rattle.model.specs.Names.{lowered}
-use borrow.Author.Rules.{rules}
 use Rattle.book_tables.proofs.names.small.Goals as goal
 
 pub returns-then-b-lt65 : goal.returns-then-b-lt65

@@ -1,4 +1,3 @@
-use borrow.Author.Rules.{rules}
 use Rattle.book_tables.proofs.owners.more_owners.Goals as goal
 
 pub returns-in-Node : goal.returns-in-Node

@@ -1,8 +1,7 @@
 -- `book_tables::relationships::is_related` meets its contract. The loop's invariant: no relationship from the node before the entry is the one.
 -- Assumes nothing.
-use Rattle.book_tables.proofs.Walks.{RelWalk, rels_first, rels_inside, rels_next, rels_fall, rel_found, rel_absent}
+use Rattle.book_tables.proofs.Walks.{rels_first, rels_inside, rels_next, rels_fall, rel_found, rel_absent}
 use native.Mathlib.Omega.{arith}
-use borrow.Author.Rules.{rules}
 use Rattle.book_tables.proofs.relationships.is_related.Goals as goal
 
 pub loop-entry-init : goal.loop-entry-init

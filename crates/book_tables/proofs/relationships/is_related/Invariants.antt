@@ -1,8 +1,6 @@
 -- `book_tables::relationships::is_related` meets its contract. The loop's invariant: no relationship from the node before the entry is the one.
 -- Assumes nothing.
-use Rattle.book_tables.proofs.Walks.{RelWalk, rels_first, rels_inside, rels_next, rels_fall, rel_found, rel_absent}
-use native.Mathlib.Omega.{arith}
-use borrow.Author.Rules.{rules}
+use Rattle.book_tables.proofs.Walks.{RelWalk}
 use Rattle.book_tables.proofs.relationships.is_related.Given as goal
 
 abbrev pub invariant-loop-entry : goal.invariant-loop-entry

@@ -5,7 +5,6 @@ use Rattle.book_tables.specs.Stores.{without_chains}
 use Prim.Native.Nat.{ℕ}
 use mathlib.Core.List.{List}
 use mathlib.Core.Path.{ap, ◌∙◌}
-use borrow.Author.Rules.{rules}
 use Rattle.book_tables.proofs.stores.clear_chains.Goals as goal
 
 pub returns : goal.returns

@@ -1,7 +1,6 @@
 use native.Mathlib.Omega.{arith}
 use lib.ListN.{length-set}
 use Rattle.book_tables.specs.Stores.{with_attr}
-use borrow.Author.Rules.{rules}
 use Rattle.book_tables.proofs.stores.store_attr.Goals as goal
 
 pub bounds-words-offset-2 : goal.bounds-words-offset-2

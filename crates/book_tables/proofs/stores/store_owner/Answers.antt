@@ -2,7 +2,6 @@ use mathlib.Core.Path.{◌∙◌}
 use native.Mathlib.Omega.{arith}
 use lib.ListN.{length-set}
 use Rattle.book_tables.specs.Stores.{owner_stored, with_owner}
-use borrow.Author.Rules.{rules}
 use Rattle.book_tables.proofs.stores.store_owner.Goals as goal
 
 pub bounds-words-entries : goal.bounds-words-entries

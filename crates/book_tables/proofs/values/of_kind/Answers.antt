@@ -1,5 +1,4 @@
 use Rattle.book_tables.proofs.ValueLaws.{number_kind, text_kind, truth_kind}
-use borrow.Author.Rules.{rules}
 use Rattle.book_tables.proofs.values.of_kind.Goals as goal
 
 pub returns-in-Number : goal.returns-in-Number

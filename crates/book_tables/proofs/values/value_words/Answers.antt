@@ -2,7 +2,6 @@ use Rattle.book_tables.proofs.ValueLaws.{says_number, says_text, says_true, says
 use Rattle.book_tables.specs.ValueWords.{EndsBefore}
 use mathlib.Core.Path.{subst}
 use native.Mathlib.Omega.{arith}
-use borrow.Author.Rules.{rules}
 use Rattle.book_tables.proofs.values.value_words.Goals as goal
 
 pub overflow_cast-result-in-Text : goal.overflow_cast-result-in-Text

@@ -2,7 +2,6 @@
 use lib.Bits.{and_le_r}
 use Prim.Native.Nat.{◌+◌, ◌*◌}
 use Rattle.chains.proofs.SlotLaws.{eight_of}
-use borrow.Author.Rules.{rules}
 use Rattle.chains.proofs.slots.eight.Goals as goal
 
 pub returns : goal.returns

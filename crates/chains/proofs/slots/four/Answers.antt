@@ -1,6 +1,5 @@
 -- `chains::slots::four` meets its contract. Assumes nothing.
 use lib.Bits.{and_le_r}
-use borrow.Author.Rules.{rules}
 use Rattle.chains.proofs.slots.four.Goals as goal
 
 pub returns : goal.returns

@@ -1,7 +1,6 @@
 -- `chains::slots::four_bytes` meets its contract: the lower five bits of four bytes are those of each. Assumes nothing.
 use native.Mathlib.Omega.{arith}
 use Rattle.chains.proofs.SlotLaws.{four_of}
-use borrow.Author.Rules.{rules}
 use Rattle.chains.proofs.slots.four_bytes.Goals as goal
 
 pub returns : goal.returns

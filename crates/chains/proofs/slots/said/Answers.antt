@@ -4,7 +4,6 @@ use mathlib.Core.Path.{ap, ap₂, ◌∙◌}
 use native.Mathlib.Omega.{arith}
 use Rattle.chains.specs.Slots.{eight_at}
 use Rattle.chains.proofs.SlotLaws.{said_few, said_four, said_eight, said_more}
-use borrow.Author.Rules.{rules}
 use Rattle.chains.proofs.slots.said.Goals as goal
 
 pub returns-then-n-lt4 : goal.returns-then-n-lt4

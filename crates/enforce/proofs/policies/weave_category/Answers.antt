@@ -2,7 +2,6 @@
 use Prim.Native.Nat.{◌+◌, ◌*◌, ◌≤◌}
 use mathlib.Core.Path.{sym, subst, ◌∙◌}
 use native.Mathlib.Omega.{arith}
-use borrow.Author.Tests.{not-true, not-false}
 use Rattle.enforce.proofs.TextLaws.{not_enforced, without_policy, few_texts}
 use Rattle.enforce.proofs.ClearLaws.{rules_short}
 use Rattle.enforce.proofs.HeldLaws.{held_on, policy_ready, policy_held, policy_passed}

@@ -1,13 +1,10 @@
 -- `enforce::policies::weave_policies` meets its contract. The loop's invariant: the texts of the categories below are woven. Assumes nothing.
 use Prim.Native.Nat.{◌-◌, ◌≤◌}
-use mathlib.Core.Path.{◌≡◌, refl, subst, ◌∙◌}
-use native.Mathlib.Omega.{arith}
+use mathlib.Core.Path.{◌≡◌}
 use lib.ListN.{length}
 use Rattle.book_tables.specs.View.{book_at}
 use Rattle.enforce.specs.Texts.{texts_below}
 use Rattle.enforce.specs.Ready.{Held}
-use Rattle.enforce.specs.Woven.{CategoryWoven}
-use Rattle.enforce.proofs.TextLaws.{first_text}
 use borrow.Author.Rules.{rules}
 use Rattle.enforce.proofs.policies.weave_policies.Given as goal
 

@@ -1,5 +1,4 @@
 -- `hifmuneth_lamp` tells what the service answers.
-use borrow.Author.Rules.{rules}
 use Rattle.hifmuneth.proofs.lamp.hifmuneth_lamp.Goals as goal
 
 pub returns : goal.returns

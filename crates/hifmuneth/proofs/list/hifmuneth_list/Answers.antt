@@ -1,5 +1,4 @@
 -- `hifmuneth_list` tells what the service answers.
-use borrow.Author.Rules.{rules}
 use Rattle.hifmuneth.proofs.list.hifmuneth_list.Goals as goal
 
 pub returns : goal.returns

@@ -1,5 +1,4 @@
 -- `hifmuneth_read_book` tells what the service answers.
-use borrow.Author.Rules.{rules}
 use Rattle.hifmuneth.proofs.read_book.hifmuneth_read_book.Goals as goal
 
 pub returns : goal.returns

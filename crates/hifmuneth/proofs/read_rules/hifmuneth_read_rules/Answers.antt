@@ -1,5 +1,4 @@
 -- `hifmuneth_read_rules` tells what the service answers.
-use borrow.Author.Rules.{rules}
 use Rattle.hifmuneth.proofs.read_rules.hifmuneth_read_rules.Goals as goal
 
 pub returns : goal.returns

@@ -1,8 +1,7 @@
 -- `hifmuneth_tidy_book` tells what the service answers.
-use borrow.Author.Rules.{rules}
 use Rattle.hifmuneth.proofs.tidying.hifmuneth_tidy_book.Goals as goal
 
 pub returns : goal.returns
 returns c =
     let r = c.tidy_book-written in
-    (rw r.ensures.0 at c.tell_length.ensures, r.ensures.1)
+    record { answer = rw r.ensures.answer at c.tell_length.ensures; written = r.ensures.text; cleared = r.ensures.cleared }

@@ -1,7 +1,6 @@
 -- `item_forms::pieces::close_list` meets its contract.
 use Rattle.item_forms.specs.Pieces.{close_next, close_after}
 use mathlib.Core.Path.{sym, ap, ◌∙◌}
-use borrow.Author.Rules.{rules}
 use Rattle.item_forms.proofs.pieces.close_list.Goals as goal
 
 pub returns-in-Item : goal.returns-in-Item

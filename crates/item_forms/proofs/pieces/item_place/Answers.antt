@@ -1,7 +1,6 @@
 -- `item_forms::pieces::item_place` meets its contract.
 use Rattle.item_forms.specs.Pieces.{item_place}
 use mathlib.Core.Path.{sym, ap}
-use borrow.Author.Rules.{rules}
 use Rattle.item_forms.proofs.pieces.item_place.Goals as goal
 
 pub returns-in-Item : goal.returns-in-Item

@@ -1,7 +1,6 @@
 -- `item_forms::pieces::name_places` meets its contract.
 use Rattle.item_forms.specs.Pieces.{name_places}
 use mathlib.Core.Path.{sym, ap}
-use borrow.Author.Rules.{rules}
 use Rattle.item_forms.proofs.pieces.name_places.Goals as goal
 
 pub returns-in-Name : goal.returns-in-Name

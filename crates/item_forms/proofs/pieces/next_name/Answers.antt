@@ -3,7 +3,6 @@ use Rattle.item_forms.proofs.PieceTests.{word_of_law, at_name, name_yes, name_no
 use Rattle.item_forms.specs.Pieces.{after_end, name_piece, name_next, name_after}
 use native.Mathlib.Omega.{arith}
 use mathlib.Core.Path.{sym, ap, ◌∙◌}
-use borrow.Author.Rules.{rules}
 use Rattle.item_forms.proofs.pieces.next_name.Goals as goal
 
 pub returns-in_default : goal.returns-in_default

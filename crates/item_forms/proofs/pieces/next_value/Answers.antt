@@ -2,7 +2,6 @@
 use Rattle.item_forms.proofs.PieceTests.{no_value, at_value}
 use Rattle.item_forms.specs.Pieces.{item_place}
 use mathlib.Core.Path.{sym, ap, ◌∙◌}
-use borrow.Author.Rules.{rules}
 use Rattle.item_forms.proofs.pieces.next_value.Goals as goal
 
 pub returns-in_default : goal.returns-in_default

@@ -4,7 +4,6 @@ use Rattle.item_forms.specs.Pieces.{open_next, open_after}
 use Rattle.text.proofs.PlaceLaws.{peek_in}
 use native.Mathlib.Omega.{arith}
 use mathlib.Core.Path.{sym, ap, ◌∙◌}
-use borrow.Author.Rules.{rules}
 use Rattle.item_forms.proofs.pieces.open_list.Goals as goal
 
 pub overflow_add-result : goal.overflow_add-result

@@ -1,7 +1,6 @@
 -- `item_forms::pieces::quoted_end` meets its contract.
 use Rattle.item_forms.specs.Pieces.{quoted_end}
 use mathlib.Core.Path.{sym, ap}
-use borrow.Author.Rules.{rules}
 use Rattle.item_forms.proofs.pieces.quoted_end.Goals as goal
 
 pub returns-in-Word : goal.returns-in-Word

@@ -5,7 +5,6 @@ use Rattle.item_forms.specs.Pieces.{value_piece}
 use Rattle.model.specs.Answers.{part_of}
 use native.Mathlib.Omega.{arith}
 use mathlib.Core.Path.{refl, sym, ap, ◌∙◌}
-use borrow.Author.Rules.{rules}
 use Rattle.item_forms.proofs.pieces.value.Goals as goal
 
 pub slice_bounds-same_bytes-count : goal.slice_bounds-same_bytes-count

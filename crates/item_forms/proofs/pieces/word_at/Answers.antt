@@ -2,7 +2,6 @@
 use Rattle.item_forms.specs.Pieces.{word_of}
 use Rattle.model.specs.Words.{is_letter}
 use mathlib.Core.Path.{sym, ap, ◌∙◌}
-use borrow.Author.Rules.{rules}
 use Rattle.item_forms.proofs.pieces.word_at.Goals as goal
 
 pub returns-then-is_letter : goal.returns-then-is_letter

@@ -1,6 +1,5 @@
 -- `item_forms::places::next_name` meets its contract.
 use mathlib.Core.Path.{ap, ◌∙◌}
-use borrow.Author.Rules.{rules}
 use Rattle.item_forms.specs.Pieces.{name_places}
 use Rattle.item_forms.proofs.PlacedLaws.{told_name}
 use Rattle.item_forms.proofs.places.next_name.Goals as goal

@@ -5,7 +5,6 @@ use Rattle.item_forms.specs.Pieces.{item_place, quoted_end, after_end}
 use native.Mathlib.Omega.{arith}
 use mathlib.Core.Bool.{false}
 use mathlib.Core.Path.{sym, ap, ◌∙◌}
-use borrow.Author.Rules.{rules}
 use Rattle.item_forms.proofs.places.next_quoted.Goals as goal
 
 pub returns-in_default : goal.returns-in_default

@@ -4,7 +4,6 @@ use Rattle.item_forms.proofs.PlacedLaws.{told_word}
 use Rattle.item_forms.specs.Pieces.{item_place, after_end}
 use native.Mathlib.Omega.{arith}
 use mathlib.Core.Path.{sym, ap, ◌∙◌}
-use borrow.Author.Rules.{rules}
 use Rattle.item_forms.proofs.places.next_word.Goals as goal
 
 pub returns-in_default : goal.returns-in_default

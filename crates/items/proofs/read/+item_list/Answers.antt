@@ -6,9 +6,8 @@ use Rattle.items.proofs.ReadLaws.{end_read_law, read_deep, read_opened, read_pla
 use Rattle.items.specs.declared.ItemRead.TheVariants.{List}
 use Rattle.items.specs.Rest.{rest_at}
 use Rattle.items.specs.Reads.{on_end, end_read}
-use Rattle.text.proofs.PlaceLaws.{peek_in}
 use Rattle.model.specs.Items.{item_at}
-use Prim.Native.Nat.{◌≤◌, ◌-◌, ℕ}
+use Prim.Native.Nat.{◌-◌, ℕ}
 use lib.Dec.{eqb}
 use lib.ListN.{drop}
 use native.Mathlib.Omega.{arith}

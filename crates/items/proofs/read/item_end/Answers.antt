@@ -1,7 +1,6 @@
 -- `items::read::item_end` meets its contract.
 use Rattle.items.specs.Reads.{end_read}
 use mathlib.Core.Path.{sym, ap}
-use borrow.Author.Rules.{rules}
 use Rattle.items.proofs.read.item_end.Goals as goal
 
 pub returns-in-Word : goal.returns-in-Word

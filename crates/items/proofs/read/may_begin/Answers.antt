@@ -1,5 +1,4 @@
 -- `items::read::may_begin` meets its contract.
-use borrow.Author.Rules.{rules}
 use Rattle.items.proofs.read.may_begin.Goals as goal
 
 pub returns : goal.returns

@@ -1,7 +1,6 @@
 -- `items::read::number_read` meets its contract.
 use Rattle.items.specs.Reads.{on_number}
 use mathlib.Core.Path.{sym, ap}
-use borrow.Author.Rules.{rules}
 use Rattle.items.proofs.read.number_read.Goals as goal
 
 pub returns-in-Number : goal.returns-in-Number

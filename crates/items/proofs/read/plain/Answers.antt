@@ -7,7 +7,6 @@ use lib.Dec.{eqb}
 use Prim.Native.Nat.{ℕ}
 use mathlib.Core.Bool.{◌||◌}
 use mathlib.Core.Path.{sym, ap, ◌∙◌}
-use borrow.Author.Rules.{rules}
 use Rattle.items.proofs.read.plain.Goals as goal
 
 pub returns-then-is_letter : goal.returns-then-is_letter

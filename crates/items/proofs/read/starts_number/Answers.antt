@@ -1,6 +1,5 @@
 -- `items::read::starts_number` meets its contract.
 use mathlib.Core.Path.{sym, ◌∙◌}
-use borrow.Author.Rules.{rules}
 use Rattle.items.proofs.read.starts_number.Goals as goal
 
 pub returns-then-is_digit : goal.returns-then-is_digit

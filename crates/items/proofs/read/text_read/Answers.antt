@@ -2,7 +2,6 @@
 use Rattle.items.specs.declared.ItemRead.TheVariants.{Text}
 use Rattle.items.specs.Reads.{on_end}
 use mathlib.Core.Path.{sym, ap}
-use borrow.Author.Rules.{rules}
 use Rattle.items.proofs.read.text_read.Goals as goal
 
 pub returns-in-At : goal.returns-in-At

@@ -2,14 +2,9 @@
 use Prim.Native.Nat.{◌-◌}
 use mathlib.Core.Path.{ap}
 use native.Mathlib.Omega.{arith}
-use borrow.Author.Rules.{rules}
-use Rattle.chains.specs.Slots.{slot_of}
-use Rattle.model.specs.Names.{same_but_case}
-use Rattle.book_tables.specs.Layout.{node_names as nodesAt}
-use Rattle.book_tables.specs.View.{name_of, node_slot}
 use Rattle.later_names.specs.Ends.{one}
 use Rattle.later_names.proofs.NumberLaws.{node_named}
-use Rattle.later_names.proofs.WalkLaws.{Counting, walk_first, walk_next, walk_falls, walk_two, walk_over}
+use Rattle.later_names.proofs.WalkLaws.{walk_first, walk_next, walk_falls, walk_two, walk_over}
 use Rattle.later_names.proofs.above.earlier_alike.Goals as goal
 use Rattle.later_names.proofs.above.earlier_alike.Goals.{else-is_named, then-is_named+else-found-gt0}
 
@@ -30,11 +25,10 @@ overflow_add-other c =
     omega (arith, c.requires.1, c.requires.0.within.nodes, c.loop-entry.invariant.inside)
 
 pub is_named-requires : goal.is_named-requires
-is_named-requires c =
-    (
-      omega (arith, c.requires.1, c.requires.0.room, c.requires.0.within.nodes, c.loop-entry.invariant.inside),
-      c.requires.0.nodes.inside (c.loop-entry.entry - 1) (omega (arith, c.requires.1, c.loop-entry.invariant.inside, c.loop-entry-test.true)),
-    )
+is_named-requires c = (
+  omega (arith, c.requires.1, c.requires.0.room, c.requires.0.within.nodes, c.loop-entry.invariant.inside),
+  c.requires.0.nodes.inside (c.loop-entry.entry - 1) (omega (arith, c.requires.1, c.loop-entry.invariant.inside, c.loop-entry-test.true)),
+)
 
 pub returns-then-found-gt0 : goal.returns-then-found-gt0
 returns-then-found-gt0 c =

@@ -1,7 +1,6 @@
 -- `later_names::longer::is_taken` meets its contract.
 use mathlib.Core.Path.{sym, ap, ◌∙◌}
 use lib.ListN.{length, length-append}
-use borrow.Author.Rules.{rules}
 use Rattle.model.specs.Renaming.{suffix}
 use Rattle.later_names.proofs.StuckLaws.{too_long_law, found_taken}
 use Rattle.later_names.proofs.longer.is_taken.Goals as goal

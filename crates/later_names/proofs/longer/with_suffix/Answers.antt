@@ -2,8 +2,7 @@
 use Prim.Native.Nat.{ℕ, ◌-◌}
 use native.Mathlib.Omega.{arith}
 use lib.ListN.{length-replicate}
-use borrow.Author.Rules.{rules}
-use Rattle.later_names.proofs.SuffixLaws.{Copied, copied_none, copied_more, copied_end}
+use Rattle.later_names.proofs.SuffixLaws.{copied_none, copied_more, copied_end}
 use Rattle.later_names.proofs.longer.with_suffix.Goals as goal
 
 pub loop-i-init : goal.loop-i-init

@@ -3,7 +3,6 @@ use native.Mathlib.Omega.{arith}
 use mathlib.Core.Path.{sym, ap, ◌∙◌}
 use Rattle.item_forms.specs.Pieces.{item_place}
 use Rattle.name_lists.proofs.Heads.{placed_at, headed_none, headed_no_word, headed_is, headed_other}
-use borrow.Author.Rules.{rules}
 use Rattle.name_lists.proofs.places.headed.Goals as goal
 
 pub returns-in_default : goal.returns-in_default

@@ -1,5 +1,5 @@
 -- `name_lists::scans::count_names` meets its contract. Assumes nothing.
-use Prim.Native.Nat.{◌+◌, ◌≤◌, ◌-◌}
+use Prim.Native.Nat.{◌+◌, ◌-◌}
 use mathlib.Core.List.{List}
 use mathlib.Core.Path.{sym, ◌∙◌}
 use native.Mathlib.Omega.{arith}
@@ -7,8 +7,6 @@ use lib.ListN.{length}
 use Rattle.model.specs.Bytes.{Bytes}
 use Rattle.name_lists.proofs.Heads.{placed_at}
 use Rattle.name_lists.proofs.Behind.{left_next, left_done, left_over}
-use Rattle.name_lists.specs.Names.{Left}
-use borrow.Author.Rules.{rules}
 use Rattle.name_lists.proofs.scans.count_names.Goals as goal
 
 pub loop-i-init : goal.loop-i-init

@@ -2,12 +2,9 @@
 use Prim.Native.Nat.{◌-◌}
 use mathlib.Core.Path.{sym, ◌∙◌}
 use native.Mathlib.Omega.{arith}
-use lib.ListN.{length}
 use Rattle.model.specs.Names.{twice}
 use Rattle.name_lists.proofs.Heads.{placed_at, twice_found, twice_other, twice_none}
 use Rattle.name_lists.proofs.Behind.{left_start, left_next, left_found, left_done, left_over}
-use Rattle.name_lists.specs.Names.{Left}
-use borrow.Author.Rules.{rules}
 use Rattle.name_lists.proofs.scans.has_again.Goals as goal
 
 pub loop-i-init : goal.loop-i-init

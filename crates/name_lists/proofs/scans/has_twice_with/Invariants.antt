@@ -1,12 +1,8 @@
 -- `name_lists::scans::has_twice_with` meets its contract. The loop's invariant: the table has the names before the place. Assumes nothing.
 use Prim.Native.Nat.{◌-◌}
-use mathlib.Core.Path.{◌≡◌, refl, sym, ◌∙◌}
-use native.Mathlib.Omega.{arith}
+use mathlib.Core.Path.{◌≡◌}
 use lib.ListN.{length}
-use Rattle.name_lists.proofs.Heads.{placed_at}
-use Rattle.name_lists.proofs.Behind.{left_over}
-use Rattle.name_lists.proofs.Again.{MetBefore, met_start, met_done, met_again, met_more}
-use borrow.Author.Rules.{rules}
+use Rattle.name_lists.proofs.Again.{MetBefore}
 use Rattle.name_lists.proofs.scans.has_twice_with.Given as goal
 
 abbrev pub invariant-loop-i : goal.invariant-loop-i

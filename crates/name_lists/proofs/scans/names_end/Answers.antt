@@ -1,14 +1,11 @@
 -- `name_lists::scans::names_end` meets its contract.
 use Prim.Native.Nat.{◌-◌}
 use mathlib.Core.Bool.{false}
-use mathlib.Core.Path.{◌≡◌, refl, sym, ◌∙◌}
+use mathlib.Core.Path.{refl, sym, ◌∙◌}
 use native.Mathlib.Omega.{arith}
-use lib.ListN.{length}
 use Rattle.item_forms.proofs.EndLaws.{ends_shut}
 use Rattle.name_lists.proofs.Heads.{placed_at}
 use Rattle.name_lists.proofs.Behind.{end_step, end_over, names_nowhere, names_shut, names_past}
-use Rattle.name_lists.specs.Names.{names_behind, names_end}
-use borrow.Author.Rules.{rules}
 use Rattle.name_lists.proofs.scans.names_end.Goals as goal
 
 pub returns-in_default : goal.returns-in_default

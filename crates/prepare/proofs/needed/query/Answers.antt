@@ -1,7 +1,6 @@
 -- A query that is needed is read, and another passes.
 use Rattle.book_tables.specs.View.{book_at}
 use Rattle.prepare.proofs.NeededLaws.{query_needed, query_not_needed}
-use borrow.Author.Rules.{rules}
 use Rattle.prepare.proofs.needed.query.Goals as goal
 
 pub returns-then-needed : goal.returns-then-needed

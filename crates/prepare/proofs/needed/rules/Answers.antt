@@ -1,7 +1,6 @@
 -- Rules that are needed are loaded, and others are none.
 use Rattle.book_tables.specs.View.{book_at}
 use Rattle.prepare.proofs.NeededLaws.{rules_needed, rules_not_needed}
-use borrow.Author.Rules.{rules}
 use Rattle.prepare.proofs.needed.rules.Goals as goal
 
 pub returns-then-needed : goal.returns-then-needed

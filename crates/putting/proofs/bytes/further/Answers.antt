@@ -1,7 +1,6 @@
 -- `further` meets its contract. Assumes nothing.
 use mathlib.Core.Path.{sym}
 use Rattle.putting.proofs.PuttingLaws.{further_on, further_past}
-use borrow.Author.Rules.{rules}
 use Rattle.putting.proofs.bytes.further.Goals as goal
 
 pub returns-then-at-lt-LAST_PLACE : goal.returns-then-at-lt-LAST_PLACE

@@ -2,7 +2,6 @@
 use mathlib.Core.Path.{sym}
 use Rattle.putting.proofs.PuttingLaws.{puts_same}
 use Rattle.putting.proofs.ListingLaws.{before_first, before_next}
-use borrow.Author.Rules.{rules}
 use Rattle.putting.proofs.bytes.put_before.Goals as goal
 
 pub returns-then-i-eq0 : goal.returns-then-i-eq0

@@ -4,7 +4,6 @@ use mathlib.Core.List.{[], ◌∷◌}
 use lib.ListN.{set}
 use Rattle.putting.specs.Putting.{Puts}
 use Rattle.putting.proofs.PuttingLaws.{puts_byte, puts_no_room}
-use borrow.Author.Rules.{rules}
 use Rattle.putting.proofs.bytes.put_byte.Goals as goal
 
 pub returns-then-at-out : goal.returns-then-at-out

@@ -1,9 +1,6 @@
 -- `put_bytes` meets its contract. The loop's invariant: the first i bytes are put. Assumes nothing.
-use Prim.Native.Nat.{◌≤◌, ◌-◌}
-use lib.ListN.{length, take}
+use Prim.Native.Nat.{◌-◌}
 use native.Mathlib.Omega.{arith}
-use borrow.Author.Rules.{rules}
-use Rattle.putting.specs.Putting.{Puts}
 use Rattle.putting.proofs.PuttingLaws.{puts_nothing, puts_more, puts_all, puts_keeps_length}
 use Rattle.putting.proofs.bytes.put_bytes.Goals as goal
 

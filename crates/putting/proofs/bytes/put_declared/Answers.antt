@@ -3,7 +3,6 @@ use Prim.Native.Nat.{◌+◌}
 use native.Mathlib.Omega.{arith}
 use Rattle.model.specs.Answers.{name_at}
 use Rattle.book_tables.specs.View.{name_in, name_of}
-use borrow.Author.Rules.{rules}
 use Rattle.putting.proofs.bytes.put_declared.Goals as goal
 
 pub overflow_cast-word : goal.overflow_cast-word

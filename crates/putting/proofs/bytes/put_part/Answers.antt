@@ -1,6 +1,5 @@
 -- `put_part` meets its contract. Assumes nothing.
 use Rattle.putting.proofs.PuttingLaws.{puts_same}
-use borrow.Author.Rules.{rules}
 use Rattle.putting.proofs.bytes.put_part.Goals as goal
 
 pub returns : goal.returns

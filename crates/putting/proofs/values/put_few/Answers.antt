@@ -3,7 +3,6 @@ use mathlib.Core.Logic.{⊎_elim}
 use native.Mathlib.Omega.{arith}
 use Rattle.putting.proofs.PuttingLaws.{puts_nothing, puts_same, puts_keeps_length}
 use Rattle.putting.proofs.ValueLaws.{no_digits, one_digit, last_digit, two_digits}
-use borrow.Author.Rules.{rules}
 use Rattle.putting.proofs.values.put_few.Goals as goal
 
 pub returns-then-most-eq0 : goal.returns-then-most-eq0

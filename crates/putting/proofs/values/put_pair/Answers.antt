@@ -1,7 +1,6 @@
 -- `put_pair` meets its contract. Assumes nothing.
 use native.Mathlib.Omega.{arith}
 use Rattle.putting.proofs.PuttingLaws.{puts_then, puts_keeps_length}
-use borrow.Author.Rules.{rules}
 use Rattle.putting.proofs.values.put_pair.Goals as goal
 
 pub overflow_cast-n : goal.overflow_cast-n

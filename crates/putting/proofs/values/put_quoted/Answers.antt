@@ -2,7 +2,6 @@
 use Rattle.model.specs.Answers.{name_at}
 use Rattle.model.specs.Writing.{value_text}
 use Rattle.putting.proofs.PuttingLaws.{puts_then}
-use borrow.Author.Rules.{rules}
 use Rattle.putting.proofs.values.put_quoted.Goals as goal
 
 pub returns : goal.returns

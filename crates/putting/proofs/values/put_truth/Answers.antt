@@ -1,7 +1,6 @@
 -- `put_truth` meets its contract. Assumes nothing.
 use Rattle.putting.proofs.PuttingLaws.{puts_same}
 use Rattle.putting.proofs.ValueLaws.{true_text, false_text}
-use borrow.Author.Rules.{rules}
 use Rattle.putting.proofs.values.put_truth.Goals as goal
 
 pub returns-then-truth : goal.returns-then-truth

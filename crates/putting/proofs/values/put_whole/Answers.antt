@@ -1,7 +1,6 @@
 -- `put_whole` meets its contract. Assumes nothing.
 use Rattle.putting.proofs.PuttingLaws.{puts_then, puts_same}
 use Rattle.putting.proofs.ValueLaws.{not_negative, negative}
-use borrow.Author.Rules.{rules}
 use Rattle.putting.proofs.values.put_whole.Goals as goal
 
 pub returns-then-n-ge-BIAS : goal.returns-then-n-ge-BIAS

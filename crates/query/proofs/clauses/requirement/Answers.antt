@@ -1,13 +1,12 @@
 -- `requirement` meets its contract. Assumes nothing.
-use mathlib.Core.Path.{◌≡◌, sym, ap₂, ◌∙◌}
+use mathlib.Core.Path.{◌≡◌, ap₂}
 use native.Mathlib.Omega.{arith}
-use lib.ListN.{length, length-map}
+use lib.ListN.{length}
 use Rattle.model.specs.Answers.{name_at}
 use Rattle.model.specs.declared.Condition.TheVariants.{OfVertex, OfEdge}
 use Rattle.query.specs.Vertices.{names_of}
 use Rattle.query.specs.Clauses.{demand_in}
 use Rattle.query.proofs.VertexLaws.{names_counted, place_known, place_new}
-use borrow.Author.Rules.{rules}
 use Rattle.query.proofs.clauses.requirement.Goals as goal
 
 pub returns-then-v-found : goal.returns-then-v-found

@@ -1,6 +1,5 @@
 -- `requirement_of` meets its contract. Assumes nothing.
 use Rattle.model.specs.Answers.{name_at}
-use borrow.Author.Rules.{rules}
 use Rattle.query.proofs.clauses.requirement_of.Goals as goal
 
 pub returns : goal.returns

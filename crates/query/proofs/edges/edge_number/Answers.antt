@@ -1,13 +1,12 @@
 -- `edge_number` meets its contract. The loop's invariant: none of the first k edges has the name. Assumes nothing.
-use Prim.Native.Nat.{◌-◌, ◌≤◌}
+use Prim.Native.Nat.{◌-◌}
 use mathlib.Core.Path.{◌≡◌, sym, ◌∙◌}
 use native.Mathlib.Omega.{arith}
-use lib.ListN.{length, length-map}
+use lib.ListN.{length}
 use Rattle.model.specs.Answers.{name_at}
 use Rattle.model.specs.PlainData.{no_edge}
 use Rattle.model.specs.declared.Edge.{Edge}
-use Rattle.query.proofs.VertexLaws.{NoneNamed, number_start, number_on, number_found, number_none}
-use borrow.Author.Rules.{rules}
+use Rattle.query.proofs.VertexLaws.{number_start, number_on, number_found, number_none}
 use Rattle.query.proofs.edges.edge_number.Goals as goal
 
 pub loop-k-init : goal.loop-k-init

@@ -3,7 +3,6 @@ use mathlib.Core.Path.{ap, ◌∙◌}
 use Rattle.model.specs.Names.{place}
 use Rattle.model.specs.Answers.{name_at}
 use Rattle.book_tables.specs.View.{book_at}
-use borrow.Author.Rules.{rules}
 use Rattle.query.proofs.edges.edge_of.Goals as goal
 
 pub returns-then-points : goal.returns-then-points

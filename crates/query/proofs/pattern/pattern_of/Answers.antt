@@ -1,14 +1,12 @@
 -- `pattern_of` meets its contract. The loop's invariant: what is found so far is what the pieces before the place name. Assumes nothing.
 use native.Mathlib.Omega.{arith}
-use lib.ListN.{length}
 use mathlib.Core.Path.{subst, sym}
 use Rattle.book_tables.specs.View.{book_at}
-use Rattle.query_survey.specs.Names.{found_at}
 use Rattle.query.specs.PatternRead.{PatternRead}
 use Rattle.query.proofs.ArrayLaws.{fewer_pieces}
 use Rattle.query.proofs.VertexLaws.{vertices_inside}
 use Rattle.query.proofs.EdgeLaws.{edges_inside}
-use Rattle.query.proofs.WalkLaws.{PatternSoFar, here_inside, pattern_start, pattern_end, start_own, start_on, link_own, link_room, link_on, differ_room, differ_on, asks_room, asks_on, returned_room, returned_on}
+use Rattle.query.proofs.WalkLaws.{here_inside, pattern_start, pattern_end, start_own, start_on, link_own, link_room, link_on, differ_room, differ_on, asks_room, asks_on, returned_room, returned_on}
 use Rattle.query.proofs.pattern.pattern_of.Goals as goal
 
 pub loop-x-init : goal.loop-x-init

@@ -1,13 +1,6 @@
 -- `pattern_of` meets its contract. The loop's invariant: what is found so far is what the pieces before the place name. Assumes nothing.
-use native.Mathlib.Omega.{arith}
 use lib.ListN.{length}
-use mathlib.Core.Path.{subst, sym}
-use Rattle.book_tables.specs.View.{book_at}
 use Rattle.query_survey.specs.Names.{found_at}
-use Rattle.query.specs.PatternRead.{PatternRead}
-use Rattle.query.proofs.ArrayLaws.{fewer_pieces}
-use Rattle.query.proofs.VertexLaws.{vertices_inside}
-use Rattle.query.proofs.EdgeLaws.{edges_inside}
 use Rattle.query.proofs.WalkLaws.{PatternSoFar}
 use Rattle.query.proofs.pattern.pattern_of.Given as goal
 

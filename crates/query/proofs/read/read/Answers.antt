@@ -2,7 +2,6 @@
 use mathlib.Core.Path.{sym, ◌∙◌}
 use Rattle.book_tables.specs.View.{book_at}
 use Rattle.query.proofs.ReadLaws.{too_long_law, bad_byte}
-use borrow.Author.Rules.{rules}
 use Rattle.query.proofs.read.read.Goals as goal
 
 pub read_allowed-requires : goal.read_allowed-requires

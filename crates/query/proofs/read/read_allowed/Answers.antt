@@ -1,7 +1,6 @@
 -- `read_allowed` meets its contract. Assumes nothing.
 use Rattle.book_tables.specs.View.{book_at}
 use Rattle.query.proofs.ReadLaws.{query_clear, query_refused}
-use borrow.Author.Rules.{rules}
 use Rattle.query.proofs.read.read_allowed.Goals as goal
 
 pub returns-then-fault-eq0 : goal.returns-then-fault-eq0

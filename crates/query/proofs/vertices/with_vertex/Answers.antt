@@ -1,7 +1,6 @@
 -- `with_vertex` meets its contract. Assumes nothing.
 use mathlib.Core.Path.{refl}
 use native.Mathlib.Omega.{arith}
-use borrow.Author.Rules.{rules}
 use Rattle.query.proofs.vertices.with_vertex.Goals as goal
 
 pub returns-then-number-n : goal.returns-then-number-n

@@ -1,13 +1,9 @@
 -- `query_faults::walk::fault_with` meets its contract. Assumes nothing.
-use mathlib.Core.Path.{◌≡◌, refl, ap, subst, ◌∙◌}
+use mathlib.Core.Path.{refl, ap, subst, ◌∙◌}
 use native.Mathlib.Omega.{arith}
-use lib.ListN.{length}
 use Rattle.query_pieces.specs.Steps.{StepInside}
-use Rattle.query_survey.specs.Names.{found_at}
-use Rattle.book_tables.specs.View.{book_at}
 use Rattle.query_survey.specs.Survey.{verdict}
-use Rattle.query_faults.proofs.WalkLaws.{Walked, walked_start, walked_end, walked_below, walked_less, walked_undeclared, walked_on}
-use borrow.Author.Rules.{rules}
+use Rattle.query_faults.proofs.WalkLaws.{walked_start, walked_end, walked_below, walked_less, walked_undeclared, walked_on}
 use Rattle.query_faults.proofs.walk.fault_with.Goals as goal
 
 pub loop-x-init : goal.loop-x-init
@@ -15,13 +11,12 @@ loop-x-init c =
     (rw (c.text_start-place.ensures, c.nothing_seen-survey.ensures) (walked_start _ _ _ _ _ _ c.requires.1 c.requires.2 c.requires.3), refl, refl, refl)
 
 pub piece_passed-t-requires : goal.piece_passed-t-requires
-piece_passed-t-requires c =
-    (
-      c.requires.0,
-      record { vertex_names_law = c.loop-x.invariant.0.vertex_names_law; edge_names_law = c.loop-x.invariant.0.edge_names_law },
-      c.loop-x.invariant.0.return_names,
-      subst (StepInside c.args.s.now) c.in-Found.is c.next_piece.ensures.inside,
-    )
+piece_passed-t-requires c = (
+  c.requires.0,
+  record { vertex_names_law = c.loop-x.invariant.0.vertex_names_law; edge_names_law = c.loop-x.invariant.0.edge_names_law },
+  c.loop-x.invariant.0.return_names,
+  subst (StepInside c.args.s.now) c.in-Found.is c.next_piece.ensures.inside,
+)
 
 pub shape_of-vertices-then-t : goal.shape_of-vertices-then-t
 shape_of-vertices-then-t c =
@@ -50,15 +45,14 @@ loop-x-smaller c =
     walked_less _ _ _ _ _ _ _ _ c.loop-x.invariant.0 _ c.next_piece.ensures _ c.in-Found.is
 
 pub loop-x-preserved : goal.loop-x-preserved
-loop-x-preserved c =
-    (
-      walked_on _ _ _ _ _ _ _ _ c.loop-x.invariant.0 _ c.next_piece.ensures _ c.in-Found.is _ _ _ _
-          c.piece_passed-t.ensures,
-      omega (arith, c.vertices-1.given, c.loop-x.invariant.1),
-      omega
-          (arith, c.edges-1.given, c.loop-x.invariant.2),
-      omega (arith, c.returned-1.given, c.loop-x.invariant.3),
-    )
+loop-x-preserved c = (
+  walked_on _ _ _ _ _ _ _ _ c.loop-x.invariant.0 _ c.next_piece.ensures _ c.in-Found.is _ _ _ _
+      c.piece_passed-t.ensures,
+  omega (arith, c.vertices-1.given, c.loop-x.invariant.1),
+  omega
+      (arith, c.edges-1.given, c.loop-x.invariant.2),
+  omega (arith, c.returned-1.given, c.loop-x.invariant.3),
+)
 
 pub shape_of-vertices-in-None : goal.shape_of-vertices-in-None
 shape_of-vertices-in-None c = c.loop-x.invariant.1

@@ -1,13 +1,9 @@
 -- `query_faults::walk::fault_with` meets its contract. Assumes nothing.
-use mathlib.Core.Path.{◌≡◌, refl, ap, subst, ◌∙◌}
-use native.Mathlib.Omega.{arith}
+use mathlib.Core.Path.{◌≡◌}
 use lib.ListN.{length}
-use Rattle.query_pieces.specs.Steps.{StepInside}
 use Rattle.query_survey.specs.Names.{found_at}
 use Rattle.book_tables.specs.View.{book_at}
-use Rattle.query_survey.specs.Survey.{verdict}
-use Rattle.query_faults.proofs.WalkLaws.{Walked, walked_start, walked_end, walked_below, walked_less, walked_undeclared, walked_on}
-use borrow.Author.Rules.{rules}
+use Rattle.query_faults.proofs.WalkLaws.{Walked}
 use Rattle.query_faults.proofs.walk.fault_with.Given as goal
 
 abbrev pub invariant-loop-x : goal.invariant-loop-x

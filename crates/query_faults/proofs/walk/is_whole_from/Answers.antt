@@ -1,10 +1,7 @@
 use native.Mathlib.Omega.{arith}
 use lib.ListN.{length}
-use Rattle.query_survey.specs.Names.{found_at}
-use Rattle.query_pieces.specs.Steps.{walk_at}
 use Rattle.query_survey.proofs.ScanLaws.{step_list, step_whole, step_ends}
-use mathlib.Core.Path.{◌≡◌, refl, sym, ap, ◌∙◌}
-use borrow.Author.Rules.{rules}
+use mathlib.Core.Path.{refl, sym, ap, ◌∙◌}
 use Rattle.query_faults.proofs.walk.is_whole_from.Goals as goal
 
 pub loop-x-init : goal.loop-x-init

@@ -1,6 +1,5 @@
 -- `query_faults::walk::link_passed` meets its contract. Assumes nothing.
 use Rattle.query_faults.proofs.BehindLaws.{behind_link}
-use borrow.Author.Rules.{rules}
 use Rattle.query_faults.proofs.walk.link_passed.Goals as goal
 
 pub returns : goal.returns

@@ -2,7 +2,6 @@
 use mathlib.Core.Path.{subst}
 use Rattle.query_pieces.specs.Steps.{piece_of, PieceInside}
 use Rattle.query_faults.proofs.BehindLaws.{behind_start, behind_linked, behind_asks, behind_return, behind_is}
-use borrow.Author.Rules.{rules}
 use Rattle.query_faults.proofs.walk.piece_passed.Goals as goal
 
 pub start_seen-r-requires : goal.start_seen-r-requires

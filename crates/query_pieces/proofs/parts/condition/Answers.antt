@@ -13,7 +13,6 @@ use Rattle.model.specs.Answers.{name_at}
 use native.Mathlib.Omega.{arith}
 use mathlib.Core.Bool.{true, false}
 use mathlib.Core.Path.{ap, subst, ◌∙◌}
-use borrow.Author.Rules.{rules}
 use Rattle.query_pieces.proofs.parts.condition.Goals as goal
 
 pub returns-in_default : goal.returns-in_default

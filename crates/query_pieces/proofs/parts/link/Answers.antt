@@ -13,7 +13,6 @@ use Rattle.query_signs.specs.Reads.{signs_from, standings_from}
 use native.Mathlib.Omega.{arith}
 use mathlib.Core.Bool.{true, false}
 use mathlib.Core.Path.{sym, ap, subst, ◌∙◌}
-use borrow.Author.Rules.{rules}
 use Rattle.query_pieces.proofs.parts.link.Goals as goal
 
 pub returns-in_default : goal.returns-in_default

@@ -8,7 +8,6 @@ use Rattle.query_pieces.specs.Walk.{or_stopped}
 use native.Mathlib.Omega.{arith}
 use mathlib.Core.Bool.{false}
 use mathlib.Core.Path.{ap, subst, ◌∙◌}
-use borrow.Author.Rules.{rules}
 use Rattle.query_pieces.proofs.parts.returned.Goals as goal
 
 pub returns-in_default : goal.returns-in_default

@@ -9,7 +9,6 @@ use Rattle.query_signs.specs.Expected.{NameInside}
 use native.Mathlib.Omega.{arith}
 use mathlib.Core.Bool.{true, false}
 use mathlib.Core.Path.{ap, subst, ◌∙◌}
-use borrow.Author.Rules.{rules}
 use Rattle.query_pieces.proofs.parts.vertex.Goals as goal
 
 pub returns-in_default : goal.returns-in_default

@@ -4,7 +4,6 @@ use Rattle.query_pieces.specs.Walk.{stopped}
 use Rattle.query_signs.specs.Reads.{ReadInside, NextSign}
 use mathlib.Core.Bool.{Bool}
 use mathlib.Core.Path.{sym, ap, subst, ◌∙◌}
-use borrow.Author.Rules.{rules}
 use Rattle.query_pieces.proofs.reading.next_piece.Goals as goal
 
 pub returns-then-s-blanks_end : goal.returns-then-s-blanks_end

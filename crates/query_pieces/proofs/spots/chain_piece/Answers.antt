@@ -2,7 +2,6 @@ use Rattle.query_pieces.proofs.PartLaws.{step_stopped}
 use Rattle.query_pieces.proofs.SpotLaws.{step_same, chain_link, no_link_law, chain_where, chain_match, chain_return, chain_none}
 use mathlib.Core.Path.{sym, ap, ◌∙◌}
 use Rattle.query_pieces.specs.Steps.{arrow_behind}
-use borrow.Author.Rules.{rules}
 use Rattle.query_pieces.proofs.spots.chain_piece.Goals as goal
 
 pub returns-then-arrow-ne-NONE : goal.returns-then-arrow-ne-NONE

@@ -1,7 +1,6 @@
 use Rattle.query_pieces.specs.Steps.{spot_of}
 use Rattle.query_pieces.specs.Walk.{ends_well}
 use mathlib.Core.Path.{sym, ap}
-use borrow.Author.Rules.{rules}
 use Rattle.query_pieces.proofs.spots.ends_well.Goals as goal
 
 pub returns-in-AtStart : goal.returns-in-AtStart

@@ -1,7 +1,6 @@
 use Rattle.query_pieces.proofs.PartLaws.{step_stopped}
 use Rattle.query_pieces.proofs.SpotLaws.{step_same, first_match, first_none}
 use mathlib.Core.Path.{sym, ◌∙◌}
-use borrow.Author.Rules.{rules}
 use Rattle.query_pieces.proofs.spots.first_piece.Goals as goal
 
 pub returns-then-is_word : goal.returns-then-is_word

@@ -1,6 +1,5 @@
 use Rattle.query_pieces.specs.Steps.{chain_at}
 use mathlib.Core.Path.{sym, ap}
-use borrow.Author.Rules.{rules}
 use Rattle.query_pieces.proofs.spots.in_chain.Goals as goal
 
 pub returns-in-AtStart : goal.returns-in-AtStart

@@ -3,7 +3,6 @@ use Rattle.model.specs.Answers.{name_at}
 use Rattle.model.specs.Signs.{is_word}
 use Rattle.model.specs.Bytes.{same}
 use mathlib.Core.Path.{sym, ap, subst, ◌∙◌}
-use borrow.Author.Rules.{rules}
 use Rattle.query_pieces.proofs.spots.is_word.Goals as goal
 
 pub part_of-requires : goal.part_of-requires

@@ -1,5 +1,4 @@
 use Rattle.query_pieces.proofs.SpotLaws.{step_same, by_spot}
-use borrow.Author.Rules.{rules}
 use Rattle.query_pieces.proofs.spots.piece_by.Goals as goal
 
 pub returns-in-AtStart : goal.returns-in-AtStart

@@ -1,7 +1,6 @@
 use Rattle.query_pieces.proofs.PartLaws.{step_stopped}
 use Rattle.query_pieces.proofs.SpotLaws.{step_same, return_comma, return_none}
 use mathlib.Core.Path.{sym, ◌∙◌}
-use borrow.Author.Rules.{rules}
 use Rattle.query_pieces.proofs.spots.return_piece.Goals as goal
 
 pub returns-then-mark_code-eq-COMMA : goal.returns-then-mark_code-eq-COMMA

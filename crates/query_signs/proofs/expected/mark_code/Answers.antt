@@ -1,6 +1,5 @@
 use Rattle.query_signs.specs.Expected.{code_of}
 use mathlib.Core.Path.{sym, ap}
-use borrow.Author.Rules.{rules}
 use Rattle.query_signs.proofs.expected.mark_code.Goals as goal
 
 pub returns-in-Word : goal.returns-in-Word

@@ -5,7 +5,6 @@ use Rattle.query_signs.proofs.SignLaws.{none_left, mark_small}
 use Rattle.query_signs.specs.Marks.{mark_got}
 use native.Mathlib.Omega.{arith}
 use mathlib.Core.Path.{sym, ap, ◌∙◌}
-use borrow.Author.Rules.{rules}
 use Rattle.query_signs.proofs.expected.mark_next.Goals as goal
 
 pub returns-then-s-at : goal.returns-then-s-at

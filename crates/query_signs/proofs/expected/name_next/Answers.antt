@@ -3,9 +3,7 @@ use Rattle.query_signs.proofs.FrontLaws.{name_other, name_long, name_within, nam
 use Rattle.model.specs.Answers.{part_of}
 use Rattle.model.specs.Words.{is_letter}
 use native.Mathlib.Omega.{arith}
-use borrow.Author.Tests.{not-true, not-false}
 use mathlib.Core.Path.{sym, ap, ◌∙◌}
-use borrow.Author.Rules.{rules}
 use Rattle.query_signs.proofs.expected.name_next.Goals as goal
 
 pub returns-then-not-is_letter : goal.returns-then-not-is_letter

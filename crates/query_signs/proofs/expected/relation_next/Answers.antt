@@ -2,7 +2,6 @@ use Rattle.query_signs.proofs.ExpectLaws.{relation_end, relation_met}
 use Rattle.query_signs.specs.Expected.{RelationNext, relation_or}
 use Prim.Native.Nat.{ℕ}
 use mathlib.Core.Path.{sym, ap, subst, ◌∙◌}
-use borrow.Author.Rules.{rules}
 use Rattle.query_signs.proofs.expected.relation_next.Goals as goal
 
 pub returns-in_default : goal.returns-in_default

@@ -2,7 +2,6 @@ use Rattle.query_signs.specs.Expected.{truth_or}
 use Rattle.model.specs.Answers.{name_at}
 use Rattle.model.specs.Bytes.{same, bytes_of}
 use mathlib.Core.Path.{sym, ap, ◌∙◌}
-use borrow.Author.Rules.{rules}
 use Rattle.query_signs.proofs.expected.truth_or.Goals as goal
 
 pub returns-then-same_bytes : goal.returns-then-same_bytes

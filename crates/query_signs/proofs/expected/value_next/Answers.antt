@@ -4,7 +4,6 @@ use Rattle.query_signs.specs.Expected.{ValueNext}
 use Rattle.query_signs.specs.declared.Sign.{Sign}
 use Rattle.query_signs.specs.declared.SignRead.TheVariants.{Found}
 use mathlib.Core.Path.{sym, ap, subst, ◌∙◌}
-use borrow.Author.Rules.{rules}
 use Rattle.query_signs.proofs.expected.value_next.Goals as goal
 
 pub returns-in_default : goal.returns-in_default

@@ -1,7 +1,5 @@
 -- `query_signs::kinds::adjoins` meets its contract.
-use borrow.Author.Tests.{not-true, not-false}
 use mathlib.Core.Path.{sym, ◌∙◌}
-use borrow.Author.Rules.{rules}
 use Rattle.query_signs.proofs.kinds.adjoins.Goals as goal
 
 pub returns-then-not-touches : goal.returns-then-not-touches

@@ -1,12 +1,9 @@
 use Rattle.query_signs.specs.Reads.{is_blank}
 use Rattle.text.proofs.PlaceLaws.{test_in, past_step, past_stop}
-use Rattle.text.specs.Places.{past, peek_at}
 use mathlib.Core.Bool.{true}
 use native.Mathlib.Omega.{arith}
-use lib.ListN.{length}
 use Prim.Native.Nat.{◌-◌}
-use mathlib.Core.Path.{◌≡◌, refl, sym, ap, ◌∙◌}
-use borrow.Author.Rules.{rules}
+use mathlib.Core.Path.{refl, sym, ap, ◌∙◌}
 use Rattle.query_signs.proofs.kinds.blanks_end.Goals as goal
 
 pub loop-i-init : goal.loop-i-init

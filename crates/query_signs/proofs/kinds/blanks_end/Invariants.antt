@@ -1,12 +1,8 @@
 use Rattle.query_signs.specs.Reads.{is_blank}
-use Rattle.text.proofs.PlaceLaws.{test_in, past_step, past_stop}
-use Rattle.text.specs.Places.{past, peek_at}
-use mathlib.Core.Bool.{true}
-use native.Mathlib.Omega.{arith}
+use Rattle.text.specs.Places.{past}
 use lib.ListN.{length}
 use Prim.Native.Nat.{◌-◌}
-use mathlib.Core.Path.{◌≡◌, refl, sym, ap, ◌∙◌}
-use borrow.Author.Rules.{rules}
+use mathlib.Core.Path.{◌≡◌}
 use Rattle.query_signs.proofs.kinds.blanks_end.Given as goal
 
 abbrev pub invariant-loop-i : goal.invariant-loop-i

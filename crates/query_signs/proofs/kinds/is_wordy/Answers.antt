@@ -1,6 +1,5 @@
 use Rattle.query_signs.specs.Reads.{is_wordy}
 use mathlib.Core.Path.{sym, ap}
-use borrow.Author.Rules.{rules}
 use Rattle.query_signs.proofs.kinds.is_wordy.Goals as goal
 
 pub returns-in-Word : goal.returns-in-Word

@@ -1,6 +1,5 @@
 use Rattle.query_signs.proofs.SignLaws.{number_digit, number_none, number_minus}
 use mathlib.Core.Path.{sym, ◌∙◌}
-use borrow.Author.Rules.{rules}
 use Rattle.query_signs.proofs.kinds.starts_number.Goals as goal
 
 pub returns-then-is_digit : goal.returns-then-is_digit

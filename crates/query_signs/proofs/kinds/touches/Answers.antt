@@ -1,5 +1,4 @@
 -- `query_signs::kinds::touches` meets its contract.
-use borrow.Author.Tests.{not-true, not-false}
 use Rattle.query_signs.proofs.kinds.touches.Goals as goal
 
 pub returns-then-not-close : goal.returns-then-not-close

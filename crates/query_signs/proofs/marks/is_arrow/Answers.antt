@@ -1,5 +1,5 @@
 use Rattle.query_signs.specs.Marks.{is_arrow}
-use borrow.Author.Tests.{eq-eqb, ne_eqb, not-true, not-false}
+use borrow.Author.Tests.{eq-eqb, ne_eqb}
 use Rattle.query_signs.proofs.marks.is_arrow.Goals as goal
 
 pub returns-then-not-chain : goal.returns-then-not-chain

@@ -2,7 +2,6 @@ use Rattle.query_signs.proofs.MarkLaws.{peek_bound, mark_arrow, mark_pair, mark_
 use native.Mathlib.Omega.{arith}
 use Prim.Native.Nat.{◌+◌}
 use mathlib.Core.Path.{sym, ◌∙◌}
-use borrow.Author.Rules.{rules}
 use Rattle.query_signs.proofs.marks.mark_at.Goals as goal
 
 pub overflow_mul-pair : goal.overflow_mul-pair

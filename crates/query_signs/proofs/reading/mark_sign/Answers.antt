@@ -1,6 +1,5 @@
 use Rattle.query_signs.proofs.SignLaws.{mark_found, mark_missing, mark_small}
 use native.Mathlib.Omega.{arith}
-use borrow.Author.Rules.{rules}
 use Rattle.query_signs.proofs.reading.mark_sign.Goals as goal
 
 pub returns-then-m-eq-NONE : goal.returns-then-m-eq-NONE

@@ -3,7 +3,6 @@ use Rattle.query_signs.specs.declared.SignRead.{SignRead}
 use Rattle.query_signs.proofs.SignLaws.{none_left, sign_none, sign_close}
 use Rattle.query_signs.specs.Reads.{got_of, ReadPartAt, first_of}
 use mathlib.Core.Path.{sym, ap, ◌∙◌, subst}
-use borrow.Author.Rules.{rules}
 use Rattle.query_signs.proofs.reading.next_sign.Goals as goal
 
 pub returns-then-s-at : goal.returns-then-s-at

@@ -1,6 +1,5 @@
 use Rattle.query_signs.proofs.SignLaws.{whole_found, whole_none}
 use mathlib.Core.Path.{sym, ◌∙◌}
-use borrow.Author.Rules.{rules}
 use Rattle.query_signs.proofs.reading.number_sign.Goals as goal
 
 pub returns-in_default : goal.returns-in_default

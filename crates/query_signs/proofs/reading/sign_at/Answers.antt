@@ -1,7 +1,6 @@
 use Rattle.query_signs.proofs.SignLaws.{sign_word, sign_whole, sign_text, sign_mark}
 use Rattle.model.specs.Words.{is_letter}
 use mathlib.Core.Path.{sym, ap, ◌∙◌}
-use borrow.Author.Rules.{rules}
 use Rattle.query_signs.proofs.reading.sign_at.Goals as goal
 
 pub returns-then-is_letter : goal.returns-then-is_letter

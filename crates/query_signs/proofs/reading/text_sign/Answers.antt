@@ -2,7 +2,6 @@ use Rattle.query_signs.proofs.PlacedLaws.{text_part}
 use Rattle.query_signs.proofs.SignLaws.{text_found, text_none, text_behind}
 use native.Mathlib.Omega.{arith}
 use mathlib.Core.Path.{sym, ◌∙◌}
-use borrow.Author.Rules.{rules}
 use Rattle.query_signs.proofs.reading.text_sign.Goals as goal
 
 pub returns-in_default : goal.returns-in_default

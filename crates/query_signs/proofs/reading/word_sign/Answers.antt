@@ -1,7 +1,6 @@
 use Rattle.query_signs.proofs.PlacedLaws.{word_part}
 use Rattle.query_signs.proofs.SignLaws.{word_found, word_none, end_behind}
 use mathlib.Core.Path.{sym, ◌∙◌}
-use borrow.Author.Rules.{rules}
 use Rattle.query_signs.proofs.reading.word_sign.Goals as goal
 
 pub returns-in_default : goal.returns-in_default

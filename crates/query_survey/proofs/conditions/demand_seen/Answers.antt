@@ -1,5 +1,4 @@
 use Rattle.query_survey.proofs.SeenLaws.{demand_is}
-use borrow.Author.Rules.{rules}
 use Rattle.query_survey.proofs.conditions.demand_seen.Goals as goal
 
 pub returns : goal.returns

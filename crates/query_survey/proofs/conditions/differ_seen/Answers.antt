@@ -2,7 +2,6 @@ use mathlib.Core.Bool.{true}
 use Rattle.model.specs.Choice.{pick}
 use Rattle.query_survey.proofs.SeenLaws.{differ_is}
 use mathlib.Core.Path.{ap, ◌∙◌}
-use borrow.Author.Rules.{rules}
 use Rattle.query_survey.proofs.conditions.differ_seen.Goals as goal
 
 pub returns : goal.returns

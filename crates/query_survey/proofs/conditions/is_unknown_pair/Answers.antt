@@ -1,4 +1,3 @@
-use borrow.Author.Rules.{rules}
 use Rattle.query_survey.proofs.conditions.is_unknown_pair.Goals as goal
 
 pub returns-then-stands_before : goal.returns-then-stands_before

@@ -2,7 +2,6 @@ use mathlib.Core.Bool.{not, true}
 use Rattle.model.specs.Choice.{pick}
 use Rattle.query_survey.proofs.SeenLaws.{return_is}
 use mathlib.Core.Path.{ap, ◌∙◌}
-use borrow.Author.Rules.{rules}
 use Rattle.query_survey.proofs.conditions.return_seen.Goals as goal
 
 pub returns : goal.returns

@@ -3,7 +3,6 @@ use native.Mathlib.Omega.{arith}
 use Rattle.model.specs.Answers.{name_at, relation_of, value_of}
 use Rattle.book_tables.proofs.OwnerLaws.{attr_table}
 use Rattle.query_survey.proofs.DeclaredLaws.{attr_in, attr_out}
-use borrow.Author.Rules.{rules}
 use Rattle.query_survey.proofs.declared.attr_seen.Goals as goal
 
 pub overflow_add-offset-then-k-tables : goal.overflow_add-offset-then-k-tables

@@ -3,7 +3,6 @@ use Rattle.model.specs.Answers.{relation_of}
 use Rattle.model.specs.ReadQuery.{has_relation}
 use Rattle.model.specs.Values.{bools}
 use mathlib.Core.Path.{sym, ap}
-use borrow.Author.Rules.{rules}
 use Rattle.query_survey.proofs.declared.is_equality.Goals as goal
 
 pub returns-in-Equal : goal.returns-in-Equal

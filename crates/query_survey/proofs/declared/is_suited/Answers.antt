@@ -2,7 +2,6 @@ use mathlib.Core.Path.{sym, ◌∙◌}
 use native.Mathlib.Omega.{arith}
 use Rattle.model.specs.Answers.{relation_of, value_of}
 use Rattle.query_survey.proofs.DeclaredLaws.{suits_ordered, suits_same, suits_none}
-use borrow.Author.Rules.{rules}
 use Rattle.query_survey.proofs.declared.is_suited.Goals as goal
 
 pub returns-then-kind-le-STR : goal.returns-then-kind-le-STR

@@ -3,7 +3,6 @@ use Rattle.book_tables.specs.View.{book_at}
 use Rattle.model.specs.Answers.{name_at}
 use Rattle.model.specs.Names.{place}
 use mathlib.Core.Path.{ap, ◌∙◌}
-use borrow.Author.Rules.{rules}
 use Rattle.query_survey.proofs.declared.label_known.Goals as goal
 
 pub returns : goal.returns

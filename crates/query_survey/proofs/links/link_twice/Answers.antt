@@ -7,7 +7,6 @@ use mathlib.Core.List.{[], ◌∷◌, ◌++◌}
 use mathlib.Core.Bool.{◌||◌}
 use Rattle.book_tables.proofs.MemberLaws.{mem_end}
 use Rattle.query_survey.proofs.SeenLaws.{stays_seen, by_test}
-use borrow.Author.Rules.{rules}
 use Rattle.query_survey.proofs.links.link_twice.Goals as goal
 
 pub returns-then-before : goal.returns-then-before

@@ -5,7 +5,6 @@ use Rattle.model.specs.Names.{mem}
 use Rattle.model.specs.Answers.{name_at}
 use mathlib.Core.Bool.{not}
 use Rattle.query_survey.proofs.SeenLaws.{stays_zero}
-use borrow.Author.Rules.{rules}
 use Rattle.query_survey.proofs.links.vertices_left.Goals as goal
 
 pub returns-then-left-eq0 : goal.returns-then-left-eq0

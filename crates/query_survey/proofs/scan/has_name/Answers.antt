@@ -3,7 +3,6 @@ use Rattle.query_pieces.specs.Steps.{piece_of}
 use Rattle.model.specs.Answers.{name_at}
 use Rattle.query_survey.specs.Names.{OfInside}
 use mathlib.Core.Path.{subst, ◌∙◌}
-use borrow.Author.Rules.{rules}
 use Rattle.query_survey.proofs.scan.has_name.Goals as goal
 
 pub same_part-requires : goal.same_part-requires

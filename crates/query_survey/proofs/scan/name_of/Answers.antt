@@ -2,7 +2,6 @@ use Rattle.query_survey.specs.Names.{name_in}
 use Rattle.query_survey.specs.declared.Which.{Which}
 use Rattle.query_pieces.specs.Steps.{piece_of}
 use mathlib.Core.Path.{sym, ap, ◌∙◌}
-use borrow.Author.Rules.{rules}
 use Rattle.query_survey.proofs.scan.name_of.Goals as goal
 
 pub returns-in-Vertex : goal.returns-in-Vertex

@@ -4,7 +4,6 @@ use Rattle.query_pieces.specs.Steps.{piece_of, PieceInside}
 use Rattle.query_pieces.specs.declared.Piece.{Piece}
 use mathlib.Core.Path.{sym, ap, subst, ◌∙◌}
 use Rattle.query_survey.proofs.ScanLaws.{linked_return}
-use borrow.Author.Rules.{rules}
 use Rattle.query_survey.proofs.scan.return_of.Goals as goal
 
 pub returns-in-Start : goal.returns-in-Start

@@ -1,7 +1,6 @@
 use Rattle.model.specs.Answers.{name_at}
 use Rattle.model.specs.Bytes.{same}
 use mathlib.Core.Path.{ap, ◌∙◌}
-use borrow.Author.Rules.{rules}
 use Rattle.query_survey.proofs.scan.same_part.Goals as goal
 
 pub returns : goal.returns

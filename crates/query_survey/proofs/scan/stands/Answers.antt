@@ -5,9 +5,8 @@ use Rattle.model.specs.Answers.{name_at}
 use Rattle.model.specs.Names.{mem}
 use lib.ListN.{take}
 use native.Mathlib.Omega.{arith}
-use Prim.Native.Nat.{◌-◌, ◌≤◌}
+use Prim.Native.Nat.{◌-◌}
 use mathlib.Core.Path.{◌≡◌, sym, ap, subst, ◌∙◌}
-use borrow.Author.Rules.{rules}
 use Rattle.query_survey.proofs.scan.stands.Goals as goal
 
 pub loop-i-init : goal.loop-i-init
@@ -37,15 +36,14 @@ returns-then-has_name c =
     c.in-Found.x c.in-Found.is) (sym c.has_name.ensures ∙ c.if-has_name.true)) ∙ c.loop-i.invariant.1
 
 pub loop-i-preserved : goal.loop-i-preserved
-loop-i-preserved c =
-    (
-      omega arith,
-      sym (stands_on (name_at c.args.s.now c.args.name) c.args.which c.args.count c.loop-i.i
-          c.loop-i-test.true (piece_of c.args.s.now c.in-Found.x.piece)
-          (found_at c.args.s.now c.loop-i.place) (found_at c.args.s.now c.in-Found.x.next)
-          (step_list c.args.s.now c.loop-i.place c.next_piece.result c.next_piece.ensures
-          c.in-Found.x c.in-Found.is) (sym c.has_name.ensures ∙ c.if-has_name.false)) ∙ c.loop-i.invariant.1,
-    )
+loop-i-preserved c = (
+  omega arith,
+  sym (stands_on (name_at c.args.s.now c.args.name) c.args.which c.args.count c.loop-i.i
+      c.loop-i-test.true (piece_of c.args.s.now c.in-Found.x.piece)
+      (found_at c.args.s.now c.loop-i.place) (found_at c.args.s.now c.in-Found.x.next)
+      (step_list c.args.s.now c.loop-i.place c.next_piece.result c.next_piece.ensures
+      c.in-Found.x c.in-Found.is) (sym c.has_name.ensures ∙ c.if-has_name.false)) ∙ c.loop-i.invariant.1,
+)
 
 pub returns : goal.returns
 returns c =

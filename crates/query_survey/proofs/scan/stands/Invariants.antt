@@ -1,13 +1,9 @@
-use Rattle.query_survey.proofs.ScanLaws.{step_list, step_none, stands_on, stands_here, stands_none, stands_end}
 use Rattle.query_survey.specs.Names.{names_in, found_at}
-use Rattle.query_pieces.specs.Steps.{piece_of, StepInside}
 use Rattle.model.specs.Answers.{name_at}
 use Rattle.model.specs.Names.{mem}
 use lib.ListN.{take}
-use native.Mathlib.Omega.{arith}
 use Prim.Native.Nat.{◌-◌, ◌≤◌}
-use mathlib.Core.Path.{◌≡◌, sym, ap, subst, ◌∙◌}
-use borrow.Author.Rules.{rules}
+use mathlib.Core.Path.{◌≡◌}
 use Rattle.query_survey.proofs.scan.stands.Given as goal
 
 abbrev pub invariant-loop-i : goal.invariant-loop-i

@@ -4,7 +4,6 @@ use Rattle.model.specs.Names.{mem}
 use Rattle.model.specs.Answers.{name_at}
 use Rattle.query_survey.proofs.SeenLaws.{stays_seen, by_left}
 use mathlib.Core.Path.{◌∙◌}
-use borrow.Author.Rules.{rules}
 use Rattle.query_survey.proofs.table.seen_before.Goals as goal
 
 pub returns-then-before : goal.returns-then-before

@@ -5,7 +5,6 @@ use Rattle.query_pieces.specs.declared.Place.{Place}
 use Rattle.query_survey.specs.Names.{names_in, found_at}
 use Rattle.model.specs.Names.{mem}
 use Rattle.model.specs.Answers.{name_at}
-use borrow.Author.Rules.{rules}
 use Rattle.query_survey.proofs.table.stands_before.Goals as goal
 
 pub is_listed-requires : goal.is_listed-requires

@@ -1,6 +1,4 @@
-use borrow.Author.Tests.{not-true, not-false}
 use Rattle.query_survey.specs.Survey.{verdict}
-use borrow.Author.Rules.{rules}
 use Rattle.query_survey.proofs.tallies.fault_at_end.Goals as goal
 
 pub returns-then-not-whole : goal.returns-then-not-whole

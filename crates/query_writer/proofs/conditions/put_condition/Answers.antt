@@ -1,11 +1,9 @@
 -- `put_condition` meets its contract, by the condition's kind. Assumes nothing.
-use mathlib.Core.Path.{◌≡◌, sym, ap, subst}
+use mathlib.Core.Path.{sym, ap, subst}
 use native.Mathlib.Omega.{arith}
 use Rattle.query_writer.specs.Pieces.{vertex_at, edge_at, condition_piece}
-use Rattle.model.specs.declared.Condition.{Condition}
 use Rattle.query_writer.specs.Inside.{ConditionInside}
 use Rattle.putting.proofs.PuttingLaws.{puts_same}
-use borrow.Author.Rules.{rules}
 use Rattle.query_writer.proofs.conditions.put_condition.Goals as goal
 
 pub offset_bounds-vertices-u : goal.offset_bounds-vertices-u

@@ -1,11 +1,10 @@
 -- `put_conditions` meets its contract. The loop's invariant: the first i are put. Assumes nothing.
-use Prim.Native.Nat.{◌≤◌, ◌-◌}
+use Prim.Native.Nat.{◌-◌}
 use mathlib.Core.Path.{◌≡◌, ap}
 use lib.ListN.{length}
 use native.Mathlib.Omega.{arith}
 use borrow.Author.Rules.{rules}
 use Rattle.model.specs.Bytes.{bytes_of}
-use Rattle.putting.specs.Putting.{Puts}
 use Rattle.model.specs.PlainData.{no_clause}
 use Rattle.query_writer.specs.Pieces.{condition_piece, conditions_text}
 use Rattle.putting.proofs.PuttingLaws.{puts_same, puts_then, puts_keeps_length}

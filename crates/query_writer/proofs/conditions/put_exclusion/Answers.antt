@@ -1,6 +1,5 @@
 -- `put_exclusion` meets its contract. Assumes nothing.
 use Rattle.putting.proofs.PuttingLaws.{puts_then}
-use borrow.Author.Rules.{rules}
 use Rattle.query_writer.proofs.conditions.put_exclusion.Goals as goal
 
 pub returns : goal.returns

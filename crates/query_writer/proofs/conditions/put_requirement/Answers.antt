@@ -2,7 +2,6 @@
 use Rattle.model.specs.Writing.{demand_text}
 use Rattle.query_writer.specs.Pieces.{requirement_piece}
 use Rattle.putting.proofs.PuttingLaws.{puts_then}
-use borrow.Author.Rules.{rules}
 use Rattle.query_writer.proofs.conditions.put_requirement.Goals as goal
 
 pub put_value-requires : goal.put_value-requires

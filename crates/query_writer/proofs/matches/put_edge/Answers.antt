@@ -1,7 +1,6 @@
 -- `put_edge` meets its contract. Assumes nothing.
 use Rattle.query_writer.specs.Pieces.{vertex_at, edge_piece}
 use Rattle.putting.proofs.PuttingLaws.{puts_then, puts_keeps_length}
-use borrow.Author.Rules.{rules}
 use Rattle.query_writer.proofs.matches.put_edge.Goals as goal
 
 pub put_declared-at-requires : goal.put_declared-at-requires

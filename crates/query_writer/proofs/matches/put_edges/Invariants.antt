@@ -1,16 +1,7 @@
 -- `put_edges` meets its contract. The loop's invariant: the first i are put. Assumes nothing.
 use Prim.Native.Nat.{◌≤◌, ◌-◌}
-use mathlib.Core.Path.{◌≡◌, sym, ap}
-use mathlib.Core.List.{◌++◌}
-use lib.ListN.{length, get_or}
-use native.Mathlib.Omega.{arith}
-use borrow.Author.Rules.{rules}
-use Rattle.model.specs.Bytes.{bytes_of}
 use Rattle.putting.specs.Putting.{Puts}
-use Rattle.model.specs.PlainData.{no_edge}
-use Rattle.query_writer.specs.Pieces.{edge_piece, edges_text}
-use Rattle.putting.proofs.PuttingLaws.{puts_same, puts_keeps_length}
-use Rattle.putting.proofs.ListingLaws.{puts_none, puts_one_more, before_all}
+use Rattle.query_writer.specs.Pieces.{edges_text}
 use Rattle.query_writer.proofs.matches.put_edges.Given as goal
 
 abbrev pub invariant-loop-i : goal.invariant-loop-i

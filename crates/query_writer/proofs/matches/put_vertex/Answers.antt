@@ -1,7 +1,6 @@
 -- `put_vertex` meets its contract. Assumes nothing.
 use Rattle.query_writer.specs.Pieces.{vertex_piece}
 use Rattle.putting.proofs.PuttingLaws.{puts_then}
-use borrow.Author.Rules.{rules}
 use Rattle.query_writer.proofs.matches.put_vertex.Goals as goal
 
 pub returns : goal.returns

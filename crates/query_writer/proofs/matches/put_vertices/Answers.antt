@@ -1,12 +1,11 @@
 -- `put_vertices` meets its contract. The loop's invariant: the first i are put. Assumes nothing.
-use Prim.Native.Nat.{◌≤◌, ◌-◌}
+use Prim.Native.Nat.{◌-◌}
 use mathlib.Core.Path.{◌≡◌, ap}
 use mathlib.Core.List.{[]}
 use lib.ListN.{length}
 use native.Mathlib.Omega.{arith}
 use borrow.Author.Rules.{rules}
 use Rattle.model.specs.Bytes.{bytes_of}
-use Rattle.putting.specs.Putting.{Puts}
 use Rattle.model.specs.PlainData.{no_part}
 use Rattle.query_writer.specs.Pieces.{vertex_piece, vertices_text}
 use Rattle.putting.proofs.PuttingLaws.{puts_same, puts_keeps_length}

@@ -1,6 +1,5 @@
 -- `put_return` meets its contract. Assumes nothing.
 use Rattle.putting.proofs.PuttingLaws.{puts_then}
-use borrow.Author.Rules.{rules}
 use Rattle.query_writer.proofs.returns.put_return.Goals as goal
 
 pub returns : goal.returns

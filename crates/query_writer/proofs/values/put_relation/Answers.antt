@@ -3,7 +3,6 @@ use mathlib.Core.Path.{sym, ap}
 use Rattle.model.specs.Answers.{relation_of}
 use Rattle.model.specs.Writing.{relation_text}
 use Rattle.putting.proofs.PuttingLaws.{puts_same}
-use borrow.Author.Rules.{rules}
 use Rattle.query_writer.proofs.values.put_relation.Goals as goal
 
 pub returns-in-Equal : goal.returns-in-Equal

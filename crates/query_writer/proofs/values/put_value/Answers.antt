@@ -4,7 +4,6 @@ use lib.ListN.{length}
 use Rattle.model.specs.PlainData.{ValueWithin}
 use Rattle.putting.proofs.PuttingLaws.{puts_same}
 use Rattle.query_writer.proofs.ValueLaws.{number_value, text_value, truth_value}
-use borrow.Author.Rules.{rules}
 use Rattle.query_writer.proofs.values.put_value.Goals as goal
 
 pub put_quoted-requires : goal.put_quoted-requires

@@ -1,11 +1,7 @@
 -- `renamed_text::blocks::copy` meets its contract. The loop's invariant: the first i bytes are put. Assumes nothing.
 use Prim.Native.Nat.{◌+◌, ◌-◌, ◌≤◌}
 use lib.ListN.{length, take}
-use native.Mathlib.Omega.{arith}
-use borrow.Author.Rules.{rules}
 use Rattle.putting.specs.Putting.{Puts}
-use Rattle.putting.proofs.PuttingLaws.{puts_keeps_length}
-use Rattle.renamed_text.proofs.BlockLaws.{none_stored, one_stored, all_stored}
 use Rattle.renamed_text.proofs.blocks.copy.Given as goal
 
 abbrev pub invariant-loop-i : goal.invariant-loop-i

@@ -1,6 +1,5 @@
 -- `renamed_text::blocks::put_block` meets its contract. Assumes nothing.
 use native.Mathlib.Omega.{arith}
-use borrow.Author.Rules.{rules}
 use Rattle.renamed_text.proofs.BlockLaws.{none_kept}
 use Rattle.renamed_text.proofs.blocks.put_block.Goals as goal
 

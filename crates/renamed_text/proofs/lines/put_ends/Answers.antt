@@ -1,7 +1,6 @@
 -- `renamed_text::lines::put_ends` meets its contract. Assumes nothing.
 use mathlib.Core.Path.{refl}
 use mathlib.Core.Bool.{false}
-use borrow.Author.Rules.{rules}
 use Rattle.renamed_text.specs.Marks.{marked_in}
 use Rattle.renamed_text.proofs.NameLaws.{goes_then, word_passed}
 use Rattle.renamed_text.proofs.lines.put_ends.Goals as goal

@@ -1,5 +1,4 @@
 -- `renamed_text::lines::put_line` meets its contract. Assumes nothing.
-use borrow.Author.Rules.{rules}
 use Rattle.text.proofs.LineReads.{line_forward, line_inside}
 use Rattle.renamed_text.specs.Marks.{marked_in}
 use Rattle.renamed_text.proofs.LineLaws.{line_ended, line_last}

@@ -1,6 +1,5 @@
 -- `renamed_text::lines::put_words` meets its contract: by the first word, the line declares a node or a relationship, or names no node. Assumes nothing.
 use mathlib.Core.Path.{sym, ap, ◌∙◌}
-use borrow.Author.Rules.{rules}
 use Rattle.model.specs.Bytes.{Bytes, bytes_of, same}
 use Rattle.model.specs.Answers.{part_of}
 use Rattle.renamed_text.specs.Marks.{marked_in}

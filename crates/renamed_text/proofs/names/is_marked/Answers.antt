@@ -1,5 +1,4 @@
 -- `renamed_text::names::is_marked` meets its contract. Assumes nothing.
-use borrow.Author.Rules.{rules}
 use Rattle.renamed_text.proofs.MarkLaws.{mark_of, no_mark}
 use Rattle.renamed_text.proofs.names.is_marked.Goals as goal
 

@@ -1,7 +1,6 @@
 -- `renamed_text::names::put_name` meets its contract. Assumes nothing.
 use mathlib.Core.Path.{sym, ap, ◌∙◌}
 use mathlib.Core.Bool.{true}
-use borrow.Author.Rules.{rules}
 use Rattle.model.specs.Answers.{part_of}
 use Rattle.renamed_text.specs.Marks.{marked_in}
 use Rattle.renamed_text.proofs.NameLaws.{word_passed, word_suffixed}

@@ -1,5 +1,4 @@
 -- `renamed_text::names::put_suffix` meets its contract. Assumes nothing.
-use borrow.Author.Rules.{rules}
 use Rattle.model.specs.Answers.{part_of}
 use Rattle.renamed_text.specs.Progress.{waiting}
 use Rattle.renamed_text.proofs.ProgressLaws.{suffix_put}

@@ -1,5 +1,4 @@
 -- `renamed_text::words::first_word` meets its contract. Assumes nothing.
-use borrow.Author.Rules.{rules}
 use Rattle.renamed_text.proofs.WordLaws.{first_word_law}
 use Rattle.renamed_text.proofs.words.first_word.Goals as goal
 

@@ -1,12 +1,9 @@
 -- `renamed_text::words::word_start` meets its contract. The loop's invariant: the run of bytes in no word from i on ends where the one from the start ends.
 use Rattle.text.proofs.PlaceLaws.{past_step_in, past_stop_in, past_end}
-use Rattle.text.specs.Places.{past}
 use Rattle.renamed_text.specs.Words.{is_between}
 use mathlib.Core.Bool.{not}
-use lib.ListN.{length}
 use Prim.Native.Nat.{◌-◌}
-use mathlib.Core.Path.{◌≡◌, refl, sym, ap, ◌∙◌}
-use borrow.Author.Rules.{rules}
+use mathlib.Core.Path.{refl, sym, ap, ◌∙◌}
 use Rattle.renamed_text.proofs.words.word_start.Goals as goal
 
 pub loop-i-init : goal.loop-i-init

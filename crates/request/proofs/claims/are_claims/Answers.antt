@@ -1,10 +1,8 @@
 -- `request::claims::are_claims` meets its contract. Assumes nothing.
 use Prim.Native.Nat.{◌-◌}
-use mathlib.Core.Path.{◌≡◌, refl, sym, ap, ◌∙◌}
+use mathlib.Core.Path.{refl, sym, ap, ◌∙◌}
 use native.Mathlib.Omega.{arith}
-use lib.ListN.{length}
-use borrow.Author.Rules.{rules}
-use Rattle.request.specs.Claims.{claims_from, are_read, claim_at}
+use Rattle.request.specs.Claims.{claim_at}
 use Rattle.request.proofs.ClaimLaws.{claim_placed, placed_at, read_on, read_closed, read_broken, read_over}
 use Rattle.request.proofs.claims.are_claims.Goals as goal
 

@@ -1,6 +1,5 @@
 -- `request::claims::claim_at` meets its contract. Assumes nothing.
 use mathlib.Core.Path.{sym, ap}
-use borrow.Author.Rules.{rules}
 use Rattle.request.specs.Claims.{claim_at}
 use Rattle.request.proofs.claims.claim_at.Goals as goal
 

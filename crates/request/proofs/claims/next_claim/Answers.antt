@@ -1,6 +1,5 @@
 -- `request::claims::next_claim` meets its contract. Assumes nothing.
 use mathlib.Core.Path.{sym, ap, subst, ◌∙◌}
-use borrow.Author.Rules.{rules}
 use Rattle.request.specs.Claims.{claim_at, ClaimPlaced}
 use Rattle.request.proofs.ClaimLaws.{claim_placed}
 use Rattle.request.proofs.claims.next_claim.Goals as goal

@@ -2,13 +2,11 @@
 use Prim.Native.Nat.{◌-◌}
 use mathlib.Core.Path.{sym, ◌∙◌}
 use native.Mathlib.Omega.{arith}
-use lib.ListN.{length}
-use borrow.Author.Tests.{not-true, not-false}
 use Rattle.model.specs.Book.{node_names}
 use Rattle.model.specs.Lists.{any}
 use Rattle.book_tables.specs.View.{book_at}
 use Rattle.rules_tables.specs.View.{actors_at}
-use Rattle.request.specs.Claims.{is_unknown, Left}
+use Rattle.request.specs.Claims.{is_unknown}
 use Rattle.request.proofs.ClaimLaws.{placed_at, left_start, left_next, left_found, left_done, left_over}
 use Rattle.request.proofs.FaultLaws.{any_none, any_found, any_other, no_actor, no_node_law, both_known}
 use borrow.Author.Rules.{rules}

@@ -1,5 +1,4 @@
 -- `request::faults::is_node` meets its contract. Assumes nothing.
-use borrow.Author.Rules.{rules}
 use Rattle.request.proofs.FaultLaws.{node_test}
 use Rattle.request.proofs.faults.is_node.Goals as goal
 

@@ -1,10 +1,8 @@
 -- `request::forms::request_form` meets its contract. Assumes nothing.
 use mathlib.Core.Path.{sym, ◌∙◌}
 use native.Mathlib.Omega.{arith}
-use borrow.Author.Tests.{not-true, not-false}
 use Rattle.item_forms.proofs.PlacedLaws.{placed_at}
 use Rattle.request.proofs.FormLaws.{unopened, wordless, of_other_law, unnamed, unclaimed, line_read}
-use borrow.Author.Rules.{rules}
 use Rattle.request.proofs.forms.request_form.Goals as goal
 
 pub returns-in_default : goal.returns-in_default

@@ -1,5 +1,5 @@
 -- `request::stores::is_given` meets its contract. None of the identities passed is the actor's. Assumes nothing.
-use Prim.Native.Nat.{ℕ, ◌-◌, ◌≤◌}
+use Prim.Native.Nat.{ℕ, ◌-◌}
 use mathlib.Core.Path.{◌≡◌, sym, ap, ◌∙◌}
 use mathlib.Core.Bool.{false}
 use native.Mathlib.Omega.{arith}
@@ -11,7 +11,6 @@ use Rattle.model.specs.Answers.{name_at}
 use Rattle.model.specs.RequestPlaces.{no_identity}
 use Rattle.book_tables.proofs.ListedLaws.{scan_none, scan_on, scan_found}
 use Rattle.request.specs.Stored.{actor_names}
-use borrow.Author.Rules.{rules}
 use Rattle.request.proofs.stores.is_given.Goals as goal
 
 pub loop-i-init : goal.loop-i-init

@@ -4,7 +4,6 @@ use mathlib.Core.Bool.{◌||◌}
 use mathlib.Core.Path.{sym, ap, subst, ◌∙◌}
 use native.Mathlib.Omega.{arith}
 use lib.Dec.{eqb}
-use borrow.Author.Rules.{rules}
 use Rattle.rules.proofs.CategoryLaws.{lower_asked, category_done, clear_of, added_of}
 use Rattle.rules_tables.specs.Fits.{below_some, LowerAsked}
 use Rattle.rules_tables.specs.Layout.{over_from}

@@ -1,16 +1,12 @@
 -- `rules::categories::store_names` meets its contract. Assumes nothing.
-use Prim.Native.Nat.{◌+◌, ◌≤◌, ◌<◌, ◌-◌}
+use Prim.Native.Nat.{◌+◌, ◌≤◌, ◌-◌}
 use mathlib.Core.List.{[]}
 use mathlib.Core.Path.{◌≡◌, refl, sym, ◌∙◌}
 use native.Mathlib.Omega.{arith}
 use lib.ListN.{length, length-set}
-use Rattle.model.specs.Choice.{just}
 use Rattle.rules.proofs.StoreLaws.{stored_none, storing_next, storing_done, storing_room}
-use Rattle.rules.specs.Stored.{Storing}
 use Rattle.name_lists.proofs.Behind.{names_over}
 use Rattle.item_forms.proofs.PlacedLaws.{placed_at}
-use Rattle.name_lists.specs.Names.{NamesRead, names_behind}
-use borrow.Author.Rules.{rules}
 use Rattle.rules.proofs.categories.store_names.Goals as goal
 
 pub loop-i-init : goal.loop-i-init

@@ -3,7 +3,6 @@ use mathlib.Core.Path.{sym, ◌∙◌}
 use native.Mathlib.Omega.{arith}
 use Rattle.rules.proofs.FormLaws.{list_at_law, list_not, category_unnamed, category_no_actors, category_no_over, category_read, category_open}
 use Rattle.item_forms.proofs.PlacedLaws.{placed_at}
-use borrow.Author.Rules.{rules}
 use Rattle.rules.proofs.forms.category_form.Goals as goal
 
 pub returns-in_default : goal.returns-in_default

@@ -1,6 +1,5 @@
 -- `rules::forms::names_list` meets its contract. Assumes nothing.
 use mathlib.Core.Path.{sym, ◌∙◌}
-use borrow.Author.Rules.{rules}
 use Rattle.rules.proofs.FormLaws.{list_none, list_broken, list_read}
 use Rattle.rules.proofs.forms.names_list.Goals as goal
 

@@ -3,7 +3,6 @@ use mathlib.Core.Path.{sym, ◌∙◌}
 use native.Mathlib.Omega.{arith}
 use Rattle.rules.proofs.FormLaws.{quoted_at_law, policy_unnamed, policy_no_text, policy_read, policy_open}
 use Rattle.item_forms.proofs.PlacedLaws.{placed_at}
-use borrow.Author.Rules.{rules}
 use Rattle.rules.proofs.forms.policy_form.Goals as goal
 
 pub returns-in_default : goal.returns-in_default

@@ -3,7 +3,6 @@ use mathlib.Core.Path.{sym, ◌∙◌}
 use native.Mathlib.Omega.{arith}
 use Rattle.rules.proofs.FormLaws.{unopened, wordless, of_category, of_policy_law, of_neither, form_moved}
 use Rattle.item_forms.proofs.PlacedLaws.{placed_at}
-use borrow.Author.Rules.{rules}
 use Rattle.rules.proofs.forms.rules_form.Goals as goal
 
 pub returns-in_default : goal.returns-in_default

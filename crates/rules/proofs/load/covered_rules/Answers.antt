@@ -1,5 +1,4 @@
 -- `rules::load::covered_rules` meets its contract. Assumes nothing.
-use borrow.Author.Rules.{rules}
 use Rattle.model.specs.Answers.{refusal_of}
 use Rattle.model.specs.Refusal.{refusal}
 use Rattle.rules.proofs.LoadLaws.{uncovered_refused, covered_accepted}

@@ -1,6 +1,5 @@
 -- `rules::load::form_step` meets its contract. Assumes nothing.
 use Rattle.rules.proofs.LoadLaws.{of_category, of_policy_law, of_none}
-use borrow.Author.Rules.{rules}
 use Rattle.rules.proofs.load.form_step.Goals as goal
 
 pub category_step-requires : goal.category_step-requires

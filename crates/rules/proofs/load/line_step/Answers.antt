@@ -1,6 +1,5 @@
 -- `rules::load::line_step` meets its contract. Assumes nothing.
 use native.Mathlib.Omega.{arith}
-use borrow.Author.Rules.{rules}
 use Rattle.model.specs.Answers.{part_of}
 use Rattle.rules.proofs.LoadLaws.{line_open, line_closed, line_asked}
 use Rattle.rules.proofs.load.line_step.Goals as goal

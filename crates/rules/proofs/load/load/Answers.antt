@@ -1,6 +1,5 @@
 -- `rules::load::load` meets its contract. Assumes nothing.
 use native.Mathlib.Omega.{arith}
-use borrow.Author.Rules.{rules}
 use Rattle.model.specs.Answers.{refusal_of}
 use Rattle.model.specs.ReadRules.{read_rules}
 use Rattle.model.specs.Refusal.{refusal}
@@ -22,12 +21,11 @@ returns-in-BadLine c =
     text_bad_line 16384 c.args.text.now _ c.bytes_read.ensures 2 (λ l. l) _ _ c.in-BadLine.is
 
 pub load_lines-requires : goal.load_lines-requires
-load_lines-requires c =
-    (
-      c.requires.0,
-      text_short 16384 c.args.text.now _ c.bytes_read.ensures c.in-Allowed.is,
-      c.requires.1,
-    )
+load_lines-requires c = (
+  c.requires.0,
+  text_short 16384 c.args.text.now _ c.bytes_read.ensures c.in-Allowed.is,
+  c.requires.1,
+)
 
 pub returns-in-Allowed : goal.returns-in-Allowed
 unfolding read_rules

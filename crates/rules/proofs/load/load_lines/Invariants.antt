@@ -1,14 +1,8 @@
 -- `rules::load::load_lines` meets its contract. Assumes nothing.
 use Prim.Native.Nat.{◌+◌, ◌-◌}
 use lib.ListN.{length}
-use native.Mathlib.Omega.{arith}
-use borrow.Author.Rules.{rules}
-use Rattle.model.specs.Answers.{refusal_of}
-use Rattle.model.specs.Refusal.{refusal}
 use Rattle.book_tables.specs.View.{book_at}
 use Rattle.rules.specs.Loaded.{Reading}
-use Rattle.text.proofs.LineReads.{line_forward, line_inside}
-use Rattle.rules.proofs.LoadLaws.{reading_start, reading_fault, reading_on, reading_done}
 use Rattle.rules.proofs.load.load_lines.Given as goal
 
 abbrev pub invariant-loop-at : goal.invariant-loop-at

@@ -4,7 +4,6 @@ use native.Mathlib.Omega.{arith}
 use Rattle.rules.proofs.PolicyStores.{is_declared, policy_room, policy_stored}
 use Rattle.rules_tables.specs.Stores.{more_policies}
 use Rattle.rules.specs.Policies.{PolicyAdded}
-use borrow.Author.Rules.{rules}
 use Rattle.rules.proofs.policies.add_policy.Goals as goal
 
 pub store_policy-requires : goal.store_policy-requires

@@ -1,5 +1,4 @@
 -- `rules::policies::has_policy` meets its contract. Assumes nothing.
-use borrow.Author.Rules.{rules}
 use Rattle.rules.proofs.policies.has_policy.Goals as goal
 
 pub returns : goal.returns

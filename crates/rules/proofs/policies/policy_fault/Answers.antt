@@ -1,6 +1,5 @@
 -- `rules::policies::policy_fault` meets its contract. Assumes nothing.
 use Rattle.rules.proofs.PolicyFaults.{policy_answer}
-use borrow.Author.Rules.{rules}
 use Rattle.rules.proofs.policies.policy_fault.Goals as goal
 
 pub returns : goal.returns

@@ -1,6 +1,5 @@
 -- `rules::steps::category_step` meets its contract. Assumes nothing.
 use mathlib.Core.Path.{sym, ap, ◌∙◌}
-use borrow.Author.Rules.{rules}
 use Rattle.model.specs.Lines.{known}
 use Rattle.rules.proofs.StepLaws.{step_fault, step_clear, step_known}
 use Rattle.rules.proofs.steps.category_step.Goals as goal

@@ -1,6 +1,5 @@
 -- `rules::steps::policy_step` meets its contract. Assumes nothing.
 use mathlib.Core.Path.{sym, ◌∙◌}
-use borrow.Author.Rules.{rules}
 use Rattle.rules.proofs.StepLaws.{number_fault, text_known}
 use Rattle.rules.proofs.steps.policy_step.Goals as goal
 

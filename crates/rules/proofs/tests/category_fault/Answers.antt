@@ -1,7 +1,6 @@
 -- `rules::tests::category_fault` meets its contract. Assumes nothing.
 use mathlib.Core.Path.{sym, ◌∙◌}
 use native.Mathlib.Omega.{arith}
-use borrow.Author.Rules.{rules}
 use Rattle.rules.proofs.TestLaws.{is_4, is_5, is_7, is_9, is_none}
 use Rattle.model.specs.Answers.{name_at}
 use Rattle.rules.proofs.tests.category_fault.Goals as goal

@@ -1,6 +1,5 @@
 -- `rules::tests::is_past_limit` meets its contract. Assumes nothing.
 use borrow.Author.Tests.{le-leb, lt-leb}
-use borrow.Author.Rules.{rules}
 use Rattle.rules.proofs.tests.is_past_limit.Goals as goal
 
 pub returns-then-count-ge-MAX_CATEGORIES : goal.returns-then-count-ge-MAX_CATEGORIES

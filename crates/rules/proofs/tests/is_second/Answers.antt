@@ -3,7 +3,6 @@ use native.Mathlib.Omega.{arith}
 use Rattle.model.specs.Answers.{name_at}
 use Rattle.rules_tables.specs.Layout.{names}
 use Rattle.book_tables.proofs.NameLaws.{place_mem, place_out}
-use borrow.Author.Rules.{rules}
 use Rattle.rules.proofs.tests.is_second.Goals as goal
 
 pub returns-then-find_name-count : goal.returns-then-find_name-count

@@ -1,5 +1,4 @@
 -- `rules::tests::lacks_actor` meets its contract. Assumes nothing.
-use borrow.Author.Rules.{rules}
 use Rattle.rules.proofs.tests.lacks_actor.Goals as goal
 
 pub returns-then-has_name : goal.returns-then-has_name

@@ -1,15 +1,12 @@
 -- `rules::tests::lacks_lower` meets its contract. Assumes nothing.
-use Prim.Native.Nat.{ℕ, ◌≤◌, ◌-◌}
+use Prim.Native.Nat.{◌≤◌, ◌-◌}
 use mathlib.Core.Bool.{false}
-use mathlib.Core.Path.{◌≡◌, sym, ap, ◌∙◌}
-use native.Mathlib.Omega.{arith}
-use borrow.Author.Rules.{rules}
+use mathlib.Core.Path.{◌≡◌}
 use Rattle.model.specs.Lists.{any}
 use Rattle.model.specs.Choice.{just}
-use Rattle.rules.proofs.TestLaws.{names_fit_fewer, lacks_of, lacks_by_number}
+use Rattle.rules.proofs.TestLaws.{lacks_of}
 use Rattle.name_lists.specs.Names.{NamesRead, names_behind}
 use Rattle.rules_tables.specs.Layout.{names}
-use Rattle.book_tables.proofs.ListedLaws.{scan_none, scan_on, scan_found}
 use Rattle.book_tables.specs.Listed.{listed}
 use Rattle.rules.proofs.tests.lacks_lower.Given as goal
 

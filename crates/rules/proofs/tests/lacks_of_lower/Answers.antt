@@ -2,7 +2,6 @@
 use mathlib.Core.Bool.{true, false}
 use mathlib.Core.Path.{◌≡◌, sym, ap, ◌∙◌}
 use native.Mathlib.Omega.{arith}
-use borrow.Author.Rules.{rules}
 use Rattle.model.specs.Names.{mem}
 use Rattle.model.specs.Bytes.{Bytes}
 use Rattle.rules_tables.specs.Layout.{names}

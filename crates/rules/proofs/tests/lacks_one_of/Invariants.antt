@@ -1,19 +1,13 @@
 -- `rules::tests::lacks_one_of` meets its contract. Assumes nothing.
-use Prim.Native.Nat.{ℕ, ◌+◌, ◌*◌, ◌≤◌, ◌-◌}
-use mathlib.Core.Bool.{true, not}
-use mathlib.Core.Path.{◌≡◌, sym, ap, ◌∙◌}
-use native.Mathlib.Omega.{arith}
-use borrow.Author.Tests.{not-true, not-false}
-use borrow.Author.Rules.{rules}
+use Prim.Native.Nat.{◌≤◌, ◌-◌}
+use mathlib.Core.Bool.{true}
+use mathlib.Core.Path.{◌≡◌}
 use Rattle.model.specs.Names.{mem}
 use Rattle.model.specs.Lists.{all}
 use Rattle.model.specs.Choice.{just}
-use Rattle.model.specs.Bytes.{Bytes}
-use Rattle.rules.proofs.TestLaws.{pass_none, pass_on, pass_missed}
 use Rattle.name_lists.specs.Names.{NamesRead, names_behind}
-use Rattle.rules_tables.specs.View.{actors_at}
-use Rattle.rules_tables.specs.Layout.{actor_count_at, actors_from}
-use Rattle.book_tables.specs.View.{word_at, name_of, names_at}
+use Rattle.rules_tables.specs.Layout.{actors_from}
+use Rattle.book_tables.specs.View.{name_of}
 use Rattle.book_tables.specs.Listed.{listed}
 use Rattle.rules.proofs.tests.lacks_one_of.Given as goal
 

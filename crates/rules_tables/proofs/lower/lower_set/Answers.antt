@@ -1,11 +1,10 @@
 -- `rules_tables::lower::lower_set` meets its contract. Assumes nothing.
-use Prim.Native.Nat.{ℕ, ◌+◌, ◌≤◌, ◌<◌, ◌-◌}
+use Prim.Native.Nat.{ℕ, ◌+◌, ◌-◌}
 use mathlib.Core.Bool.{◌||◌}
 use mathlib.Core.List.{List}
 use mathlib.Core.Path.{◌≡◌, ap, ◌∙◌}
 use native.Mathlib.Omega.{arith}
 use lib.Dec.{eqb}
-use borrow.Author.Rules.{rules}
 use Rattle.bits.specs.Word.{bit}
 use Rattle.model.specs.Names.{place}
 use Rattle.model.specs.Bytes.{Bytes}
@@ -64,12 +63,11 @@ pub bounds-words-j : goal.bounds-words-j
 bounds-words-j c = omega (arith, c.requires.few, ranked _ _ _ c.loop-i.i _ _ c.find_name-j.ensures c.name_at-name.ensures, c.requires.earlier c.loop-i.i c.loop-i-test.true, c.requires.room)
 
 pub loop-i-preserved : goal.loop-i-preserved
-loop-i-preserved c =
-    (
-      omega arith,
-      union_more c.args.text.now c.args.words.now c.args.k c.loop-i.set c.loop-i.i
-          c.find_name-j.result (ranked _ _ _ c.loop-i.i _ _ c.find_name-j.ensures c.name_at-name.ensures) c.loop-i.invariant.1,
-    )
+loop-i-preserved c = (
+  omega arith,
+  union_more c.args.text.now c.args.words.now c.args.k c.loop-i.set c.loop-i.i
+      c.find_name-j.result (ranked _ _ _ c.loop-i.i _ _ c.find_name-j.ensures c.name_at-name.ensures) c.loop-i.invariant.1,
+)
 
 pub returns : goal.returns
 returns c =

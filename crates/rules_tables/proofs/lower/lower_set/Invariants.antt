@@ -1,17 +1,12 @@
 -- `rules_tables::lower::lower_set` meets its contract. Assumes nothing.
-use Prim.Native.Nat.{ℕ, ◌≤◌, ◌<◌, ◌-◌}
+use Prim.Native.Nat.{ℕ, ◌≤◌, ◌-◌}
 use mathlib.Core.Bool.{◌||◌}
-use mathlib.Core.Path.{◌≡◌, ap, ◌∙◌}
-use native.Mathlib.Omega.{arith}
+use mathlib.Core.Path.{◌≡◌}
 use lib.Dec.{eqb}
-use borrow.Author.Rules.{rules}
 use Rattle.bits.specs.Word.{bit}
-use Rattle.model.specs.Names.{place}
-use Rattle.model.specs.Bytes.{Bytes}
-use Rattle.rules_tables.proofs.Unions.{union_none, union_more}
-use Rattle.rules_tables.specs.Fits.{rank, below_some}
-use Rattle.rules_tables.specs.Layout.{names, over_from}
-use Rattle.book_tables.specs.View.{name_of, names_at}
+use Rattle.rules_tables.specs.Fits.{below_some}
+use Rattle.rules_tables.specs.Layout.{over_from}
+use Rattle.book_tables.specs.View.{names_at}
 use Rattle.rules_tables.proofs.lower.lower_set.Given as goal
 
 abbrev pub invariant-loop-i : goal.invariant-loop-i

@@ -2,7 +2,6 @@
 use Prim.Native.Nat.{ℕ, ◌+◌, ◌-◌, ◌/◌, ◌%◌}
 use mathlib.Core.Path.{◌≡◌}
 use native.Mathlib.Omega.{arith}
-use borrow.Author.Rules.{rules}
 use Rattle.model.specs.Answers.{part_of}
 use Rattle.book_tables.specs.View.{name_in, word_at}
 use Rattle.rules_tables.proofs.names.name_at.Goals as goal

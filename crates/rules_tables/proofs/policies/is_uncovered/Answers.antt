@@ -1,13 +1,10 @@
 -- `rules_tables::policies::is_uncovered` meets its contract. Assumes nothing.
-use Prim.Native.Nat.{◌≤◌, ◌-◌}
+use Prim.Native.Nat.{◌-◌}
 use mathlib.Core.Bool.{false}
 use mathlib.Core.Path.{◌≡◌, sym, ◌∙◌}
 use native.Mathlib.Omega.{arith}
-use borrow.Author.Rules.{rules}
-use Rattle.model.specs.Lists.{any}
 use Rattle.rules_tables.specs.Enforced.{uncovered, uncovered_in}
 use Rattle.book_tables.proofs.ListedLaws.{scan_none, scan_on, scan_found}
-use Rattle.book_tables.specs.Listed.{listed}
 use Rattle.rules_tables.proofs.policies.is_uncovered.Goals as goal
 
 pub loop-k-init : goal.loop-k-init
@@ -23,12 +20,11 @@ returns-then-lacks_policy c =
     c.loop-k.k c.loop-k-test.true (sym c.lacks_policy.ensures ∙ c.if-lacks_policy.true))
 
 pub loop-k-preserved : goal.loop-k-preserved
-loop-k-preserved c =
-    (
-      omega arith,
-      scan_on (uncovered c.args.words.now c.args.counts) (λ i. i) c.loop-k.k
-          c.loop-k.invariant.1 (sym c.lacks_policy.ensures ∙ c.if-lacks_policy.false),
-    )
+loop-k-preserved c = (
+  omega arith,
+  scan_on (uncovered c.args.words.now c.args.counts) (λ i. i) c.loop-k.k
+      c.loop-k.invariant.1 (sym c.lacks_policy.ensures ∙ c.if-lacks_policy.false),
+)
 
 pub returns : goal.returns
 unfolding uncovered_in

@@ -1,12 +1,9 @@
 -- `rules_tables::policies::is_uncovered` meets its contract. Assumes nothing.
 use Prim.Native.Nat.{◌≤◌, ◌-◌}
 use mathlib.Core.Bool.{false}
-use mathlib.Core.Path.{◌≡◌, sym, ◌∙◌}
-use native.Mathlib.Omega.{arith}
-use borrow.Author.Rules.{rules}
+use mathlib.Core.Path.{◌≡◌}
 use Rattle.model.specs.Lists.{any}
-use Rattle.rules_tables.specs.Enforced.{uncovered, uncovered_in}
-use Rattle.book_tables.proofs.ListedLaws.{scan_none, scan_on, scan_found}
+use Rattle.rules_tables.specs.Enforced.{uncovered}
 use Rattle.book_tables.specs.Listed.{listed}
 use Rattle.rules_tables.proofs.policies.is_uncovered.Given as goal
 

@@ -1,7 +1,6 @@
 -- `rules_tables::policies::lacks_policy` meets its contract. Assumes nothing.
 use mathlib.Core.Path.{◌∙◌}
 use borrow.Author.Tests.{eq-eqb, ne_eqb}
-use borrow.Author.Rules.{rules}
 use Rattle.rules_tables.proofs.PolicyLaws.{at_least}
 use Rattle.rules_tables.specs.Layout.{over_count_at}
 use Rattle.book_tables.specs.View.{word_at}

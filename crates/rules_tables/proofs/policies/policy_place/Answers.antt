@@ -1,16 +1,13 @@
 -- `rules_tables::policies::policy_place` meets its contract. Assumes nothing.
-use Prim.Native.Nat.{◌+◌, ◌≤◌, ◌-◌, ◌*◌}
+use Prim.Native.Nat.{◌+◌, ◌-◌, ◌*◌}
 use mathlib.Core.Bool.{false}
 use mathlib.Core.Path.{◌≡◌, sym}
 use native.Mathlib.Omega.{arith}
 use lib.Dec.{eqb}
 use borrow.Author.Tests.{eq-eqb, ne_eqb}
-use borrow.Author.Rules.{rules}
-use Rattle.model.specs.Lists.{any}
 use Rattle.rules_tables.specs.Enforced.{policy_place}
 use Rattle.rules_tables.specs.View.{policy_category}
 use Rattle.book_tables.proofs.ListedLaws.{scan_none, scan_on, scan_place, scan_absent}
-use Rattle.book_tables.specs.Listed.{listed}
 use Rattle.rules_tables.proofs.policies.policy_place.Goals as goal
 
 pub loop-i-init : goal.loop-i-init
@@ -38,12 +35,11 @@ returns-then-words-i c =
     c.loop-i.i c.loop-i-test.true c.loop-i.invariant.1 (eq-eqb _ _ c.if-words-i.true))
 
 pub loop-i-preserved : goal.loop-i-preserved
-loop-i-preserved c =
-    (
-      omega arith,
-      scan_on (λ w. eqb w c.args.m) (policy_category c.args.words.now) c.loop-i.i
-          c.loop-i.invariant.1 (ne_eqb _ _ c.if-words-i.false),
-    )
+loop-i-preserved c = (
+  omega arith,
+  scan_on (λ w. eqb w c.args.m) (policy_category c.args.words.now) c.loop-i.i
+      c.loop-i.invariant.1 (ne_eqb _ _ c.if-words-i.false),
+)
 
 pub returns : goal.returns
 unfolding policy_place

@@ -1,15 +1,10 @@
 -- `rules_tables::policies::policy_place` meets its contract. Assumes nothing.
-use Prim.Native.Nat.{◌+◌, ◌≤◌, ◌-◌, ◌*◌}
+use Prim.Native.Nat.{◌≤◌, ◌-◌}
 use mathlib.Core.Bool.{false}
-use mathlib.Core.Path.{◌≡◌, sym}
-use native.Mathlib.Omega.{arith}
+use mathlib.Core.Path.{◌≡◌}
 use lib.Dec.{eqb}
-use borrow.Author.Tests.{eq-eqb, ne_eqb}
-use borrow.Author.Rules.{rules}
 use Rattle.model.specs.Lists.{any}
-use Rattle.rules_tables.specs.Enforced.{policy_place}
 use Rattle.rules_tables.specs.View.{policy_category}
-use Rattle.book_tables.proofs.ListedLaws.{scan_none, scan_on, scan_place, scan_absent}
 use Rattle.book_tables.specs.Listed.{listed}
 use Rattle.rules_tables.proofs.policies.policy_place.Given as goal
 

@@ -1,6 +1,5 @@
 -- What is told of a book, accepted or refused.
 use Rattle.telling.proofs.AnswerLaws.{book_accepted, book_refused}
-use borrow.Author.Rules.{rules}
 use Rattle.telling.proofs.counts.tell_book.Goals as goal
 
 pub returns-in-Counts : goal.returns-in-Counts

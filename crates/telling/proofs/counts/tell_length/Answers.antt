@@ -1,6 +1,5 @@
 -- What is told of a written query, accepted or refused.
 use Rattle.telling.proofs.AnswerLaws.{written_accepted, written_refused}
-use borrow.Author.Rules.{rules}
 use Rattle.telling.proofs.counts.tell_length.Goals as goal
 
 pub returns-in-Length : goal.returns-in-Length

@@ -1,6 +1,5 @@
 -- What is told of the names of a book's nodes, accepted or refused.
 use Rattle.telling.proofs.AnswerLaws.{names_accepted, names_refused}
-use borrow.Author.Rules.{rules}
 use Rattle.telling.proofs.counts.tell_names.Goals as goal
 
 pub returns-in-Counts : goal.returns-in-Counts

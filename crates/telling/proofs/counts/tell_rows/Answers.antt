@@ -1,6 +1,5 @@
 -- What is told of a list, accepted or refused.
 use Rattle.telling.proofs.AnswerLaws.{listed_accepted, listed_refused}
-use borrow.Author.Rules.{rules}
 use Rattle.telling.proofs.counts.tell_rows.Goals as goal
 
 pub returns-in-Count : goal.returns-in-Count

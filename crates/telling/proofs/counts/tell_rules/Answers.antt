@@ -1,6 +1,5 @@
 -- What is told of rules, accepted or refused.
 use Rattle.telling.proofs.AnswerLaws.{rules_accepted, rules_refused}
-use borrow.Author.Rules.{rules}
 use Rattle.telling.proofs.counts.tell_rules.Goals as goal
 
 pub returns-in-Counts : goal.returns-in-Counts

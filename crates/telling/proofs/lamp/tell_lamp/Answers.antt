@@ -1,6 +1,5 @@
 -- What is told of the lamp: yes, no, or the refusal.
 use Rattle.telling.proofs.AnswerLaws.{lamp_yes, lamp_no, lamp_refused}
-use borrow.Author.Rules.{rules}
 use Rattle.telling.proofs.lamp.tell_lamp.Goals as goal
 
 pub returns-in-Yes : goal.returns-in-Yes

@@ -1,11 +1,9 @@
 -- `text::bytes::find` meets its contract. The loop's invariant: the next such byte from i on, within the text, is the next one from the start.
 use Rattle.text.proofs.PlaceLaws.{past_none, past_end}
-use Rattle.text.specs.Places.{past, is_other}
+use Rattle.text.specs.Places.{is_other}
 use native.Mathlib.Omega.{arith}
-use lib.ListN.{length}
-use Prim.Native.Nat.{◌-◌, ◌≤◌}
-use mathlib.Core.Path.{◌≡◌, refl, sym, ◌∙◌}
-use borrow.Author.Rules.{rules}
+use Prim.Native.Nat.{◌-◌}
+use mathlib.Core.Path.{refl, sym, ◌∙◌}
 use Rattle.text.proofs.bytes.find.Goals as goal
 
 pub returns-then-s-from : goal.returns-then-s-from

@@ -1,11 +1,8 @@
 -- `text::bytes::find` meets its contract. The loop's invariant: the next such byte from i on, within the text, is the next one from the start.
-use Rattle.text.proofs.PlaceLaws.{past_none, past_end}
 use Rattle.text.specs.Places.{past, is_other}
-use native.Mathlib.Omega.{arith}
 use lib.ListN.{length}
 use Prim.Native.Nat.{◌-◌, ◌≤◌}
-use mathlib.Core.Path.{◌≡◌, refl, sym, ◌∙◌}
-use borrow.Author.Rules.{rules}
+use mathlib.Core.Path.{◌≡◌}
 use Rattle.text.proofs.bytes.find.Given as goal
 
 abbrev pub invariant-loop-i : goal.invariant-loop-i

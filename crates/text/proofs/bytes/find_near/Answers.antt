@@ -1,12 +1,10 @@
 -- `text::bytes::find_near` meets its contract. The loop's invariant: the next such byte from i on is the next one from the start.
 use Rattle.text.proofs.PlaceLaws.{past_step_in, past_stop_in, past_end}
-use Rattle.text.specs.Places.{past, is_other}
+use Rattle.text.specs.Places.{is_other}
 use borrow.Author.Tests.{eq-eqb, ne_eqb}
-use lib.ListN.{length}
 use Prim.Native.Nat.{◌-◌}
 use mathlib.Core.Bool.{not}
-use mathlib.Core.Path.{◌≡◌, refl, sym, ap, ◌∙◌}
-use borrow.Author.Rules.{rules}
+use mathlib.Core.Path.{refl, sym, ap, ◌∙◌}
 use Rattle.text.proofs.bytes.find_near.Goals as goal
 
 pub loop-i-init : goal.loop-i-init

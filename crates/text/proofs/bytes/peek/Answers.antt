@@ -2,7 +2,6 @@
 use Rattle.text.proofs.PlaceLaws.{peek_end, get_d_any}
 use mathlib.Core.Path.{sym}
 use native.Mathlib.Omega.{arith}
-use borrow.Author.Rules.{rules}
 use Rattle.text.proofs.bytes.peek.Goals as goal
 
 pub overflow_cast-result : goal.overflow_cast-result

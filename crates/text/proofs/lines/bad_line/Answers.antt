@@ -4,10 +4,9 @@ use Rattle.text.proofs.LineLaws.{bad_here, bad_onward, bad_none, feed_count_smal
 use Rattle.text.specs.Lines.{on_line}
 use Rattle.model.specs.Lines.{bad_line}
 use native.Mathlib.Omega.{arith}
-use lib.ListN.{length, drop, get_or}
-use Prim.Native.Nat.{ℕ, ◌+◌, ◌-◌, ◌≤◌}
-use mathlib.Core.Path.{◌≡◌, refl, sym, ap, ◌∙◌}
-use borrow.Author.Rules.{rules}
+use lib.ListN.{drop, get_or}
+use Prim.Native.Nat.{ℕ, ◌+◌, ◌-◌}
+use mathlib.Core.Path.{refl, sym, ap, ◌∙◌}
 use Rattle.text.proofs.lines.bad_line.Goals as goal
 
 pub loop-i-init : goal.loop-i-init
@@ -24,14 +23,13 @@ overflow_add-line c =
     omega (arith, c.feed_count-line.ensures, feed_count_small (get_or c.args.s.now c.loop-i.i 0))
 
 pub loop-i-preserved : goal.loop-i-preserved
-loop-i-preserved c =
-    (
-      ap (λ (n : ℕ). bad_line (c.loop-i.line + n) (drop (c.loop-i.i + 1) c.args.s.now)) c.feed_count-line.ensures
-          ∙ sym (bad_onward c.args.s.now c.loop-i.i c.loop-i-test.true c.loop-i.line
-          (sym c.is_bad.ensures ∙ c.if-is_bad.false))
-          ∙ c.loop-i.invariant.0,
-      omega (arith, c.feed_count-line.ensures, feed_count_small (get_or c.args.s.now c.loop-i.i 0)),
-    )
+loop-i-preserved c = (
+  ap (λ (n : ℕ). bad_line (c.loop-i.line + n) (drop (c.loop-i.i + 1) c.args.s.now)) c.feed_count-line.ensures
+      ∙ sym (bad_onward c.args.s.now c.loop-i.i c.loop-i-test.true c.loop-i.line
+      (sym c.is_bad.ensures ∙ c.if-is_bad.false))
+      ∙ c.loop-i.invariant.0,
+  omega (arith, c.feed_count-line.ensures, feed_count_small (get_or c.args.s.now c.loop-i.i 0)),
+)
 
 pub returns : goal.returns
 unfolding on_line

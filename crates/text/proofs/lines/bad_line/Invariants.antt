@@ -1,13 +1,9 @@
 -- `text::lines::bad_line` meets its contract. The loop's invariant: the lines from i on, counted from `line`, give the line that all of them give; a line
 -- has at least one byte.
-use Rattle.text.proofs.LineLaws.{bad_here, bad_onward, bad_none, feed_count_small}
-use Rattle.text.specs.Lines.{on_line}
 use Rattle.model.specs.Lines.{bad_line}
-use native.Mathlib.Omega.{arith}
-use lib.ListN.{length, drop, get_or}
-use Prim.Native.Nat.{ℕ, ◌+◌, ◌-◌, ◌≤◌}
-use mathlib.Core.Path.{◌≡◌, refl, sym, ap, ◌∙◌}
-use borrow.Author.Rules.{rules}
+use lib.ListN.{length, drop}
+use Prim.Native.Nat.{◌+◌, ◌-◌, ◌≤◌}
+use mathlib.Core.Path.{◌≡◌}
 use Rattle.text.proofs.lines.bad_line.Given as goal
 
 abbrev pub invariant-loop-i : goal.invariant-loop-i

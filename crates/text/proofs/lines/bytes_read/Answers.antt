@@ -3,7 +3,6 @@ use Rattle.text.proofs.LineLaws.{none_bad}
 use Rattle.text.specs.Lines.{bytes_of, on_line}
 use borrow.Author.Tests.{lt-ltb, le-ltb}
 use mathlib.Core.Path.{sym, ◌∙◌}
-use borrow.Author.Rules.{rules}
 use Rattle.text.proofs.lines.bytes_read.Goals as goal
 
 pub returns-then-limit-s : goal.returns-then-limit-s

@@ -2,11 +2,10 @@
 use Rattle.text.proofs.LineLaws.{any_step, any_end}
 use Rattle.text.specs.Lines.{is_bad}
 use Rattle.model.specs.Lists.{any}
-use lib.ListN.{length, drop}
+use lib.ListN.{drop}
 use Prim.Native.Nat.{◌+◌, ◌-◌}
 use mathlib.Core.Bool.{Bool, ◌||◌}
-use mathlib.Core.Path.{◌≡◌, refl, sym, ap, ◌∙◌}
-use borrow.Author.Rules.{rules}
+use mathlib.Core.Path.{refl, sym, ap, ◌∙◌}
 use Rattle.text.proofs.lines.some_bad.Goals as goal
 
 pub loop-i-init : goal.loop-i-init

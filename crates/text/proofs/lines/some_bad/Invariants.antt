@@ -1,12 +1,10 @@
 -- `text::lines::some_bad` meets its contract. The loop's invariant: a bad byte was seen, or is to come, exactly if there is one.
-use Rattle.text.proofs.LineLaws.{any_step, any_end}
 use Rattle.text.specs.Lines.{is_bad}
 use Rattle.model.specs.Lists.{any}
 use lib.ListN.{length, drop}
-use Prim.Native.Nat.{◌+◌, ◌-◌}
-use mathlib.Core.Bool.{Bool, ◌||◌}
-use mathlib.Core.Path.{◌≡◌, refl, sym, ap, ◌∙◌}
-use borrow.Author.Rules.{rules}
+use Prim.Native.Nat.{◌-◌}
+use mathlib.Core.Bool.{◌||◌}
+use mathlib.Core.Path.{◌≡◌}
 use Rattle.text.proofs.lines.some_bad.Given as goal
 
 abbrev pub invariant-loop-i : goal.invariant-loop-i

@@ -1,15 +1,13 @@
 -- `text::numbers::digits` meets its contract. The loop's invariant: v and the digits from i on write what all of them write, they end at the same place,
 -- and v times 10 and a digit fits.
-use Rattle.text.proofs.NumberLaws.{DigitAt, digit_at, decimal_step, no_digit, decimal_least, digits_large, digits_value}
+use Rattle.text.proofs.NumberLaws.{digit_at, decimal_step, no_digit, decimal_least, digits_large, digits_value}
 use Rattle.text.proofs.PlaceLaws.{past_stop}
-use Rattle.text.specs.Places.{peek_at, past}
 use Rattle.model.specs.Words.{is_digit, run, decimal}
 use native.Mathlib.Omega.{arith}
-use lib.ListN.{length, get_or, drop}
-use Prim.Native.Nat.{◌+◌, ◌*◌, ◌-◌, ◌≤◌}
+use lib.ListN.{get_or, drop}
+use Prim.Native.Nat.{◌+◌, ◌*◌, ◌-◌}
 use mathlib.Core.Bool.{true}
-use mathlib.Core.Path.{◌≡◌, refl, sym, ap, ◌∙◌}
-use borrow.Author.Rules.{rules}
+use mathlib.Core.Path.{refl, sym, ap, ◌∙◌}
 use Rattle.text.proofs.numbers.digits.Goals as goal
 
 pub loop-from-init : goal.loop-from-init
@@ -48,13 +46,12 @@ pub loop-from-smaller : goal.loop-from-smaller
 loop-from-smaller c = omega (arith, digit_at c.args.s.now c.loop-from.i (ap is_digit (sym c.peek.ensures) ∙ sym c.is_digit.ensures ∙ c.loop-from-test.true))
 
 pub loop-from-preserved : goal.loop-from-preserved
-loop-from-preserved c =
-    (
-      sym (decimal_step c.args.s.now c.loop-from.i (ap is_digit (sym c.peek.ensures) ∙ sym c.is_digit.ensures ∙ c.loop-from-test.true) c.loop-from.v) ∙ c.loop-from.invariant.0,
-      sym (digit_at c.args.s.now c.loop-from.i (ap is_digit (sym c.peek.ensures) ∙ sym c.is_digit.ensures ∙ c.loop-from-test.true)).onward
-          ∙ c.loop-from.invariant.1,
-      omega (arith, digit_at c.args.s.now c.loop-from.i (ap is_digit (sym c.peek.ensures) ∙ sym c.is_digit.ensures ∙ c.loop-from-test.true)),
-    )
+loop-from-preserved c = (
+  sym (decimal_step c.args.s.now c.loop-from.i (ap is_digit (sym c.peek.ensures) ∙ sym c.is_digit.ensures ∙ c.loop-from-test.true) c.loop-from.v) ∙ c.loop-from.invariant.0,
+  sym (digit_at c.args.s.now c.loop-from.i (ap is_digit (sym c.peek.ensures) ∙ sym c.is_digit.ensures ∙ c.loop-from-test.true)).onward
+      ∙ c.loop-from.invariant.1,
+  omega (arith, digit_at c.args.s.now c.loop-from.i (ap is_digit (sym c.peek.ensures) ∙ sym c.is_digit.ensures ∙ c.loop-from-test.true)),
+)
 
 pub returns-then-v-le-BIAS : goal.returns-then-v-le-BIAS
 unfolding decimal

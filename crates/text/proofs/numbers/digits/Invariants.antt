@@ -1,15 +1,10 @@
 -- `text::numbers::digits` meets its contract. The loop's invariant: v and the digits from i on write what all of them write, they end at the same place,
 -- and v times 10 and a digit fits.
-use Rattle.text.proofs.NumberLaws.{DigitAt, digit_at, decimal_step, no_digit, decimal_least, digits_large, digits_value}
-use Rattle.text.proofs.PlaceLaws.{past_stop}
-use Rattle.text.specs.Places.{peek_at, past}
+use Rattle.text.specs.Places.{past}
 use Rattle.model.specs.Words.{is_digit, run, decimal}
-use native.Mathlib.Omega.{arith}
-use lib.ListN.{length, get_or, drop}
-use Prim.Native.Nat.{◌+◌, ◌*◌, ◌-◌, ◌≤◌}
-use mathlib.Core.Bool.{true}
-use mathlib.Core.Path.{◌≡◌, refl, sym, ap, ◌∙◌}
-use borrow.Author.Rules.{rules}
+use lib.ListN.{length, drop}
+use Prim.Native.Nat.{◌-◌, ◌≤◌}
+use mathlib.Core.Path.{◌≡◌}
 use Rattle.text.proofs.numbers.digits.Given as goal
 
 abbrev pub invariant-loop-from : goal.invariant-loop-from

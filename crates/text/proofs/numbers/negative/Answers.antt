@@ -8,7 +8,6 @@ use lib.ListN.{length, get_or, drop}
 use Prim.Native.Nat.{◌+◌, ◌^◌, ◌<◌}
 use mathlib.Core.Bool.{true}
 use mathlib.Core.Path.{◌≡◌, sym, ◌∙◌}
-use borrow.Author.Rules.{rules}
 use Rattle.text.proofs.numbers.negative.Goals as goal
 
 pub returns-then-s-at : goal.returns-then-s-at

@@ -9,7 +9,6 @@ use lib.ListN.{length, get_or, drop}
 use Prim.Native.Nat.{◌-◌, ◌^◌, ◌<◌}
 use mathlib.Core.Bool.{false}
 use mathlib.Core.Path.{◌≡◌, sym, ◌∙◌}
-use borrow.Author.Rules.{rules}
 use Rattle.text.proofs.numbers.plain.Goals as goal
 
 pub returns-in_default : goal.returns-in_default

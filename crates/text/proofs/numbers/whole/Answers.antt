@@ -1,7 +1,6 @@
 -- `text::numbers::whole` meets its contract.
 use Rattle.text.proofs.NumberLaws.{whole_minus, whole_plain}
 use mathlib.Core.Path.{sym, ◌∙◌}
-use borrow.Author.Rules.{rules}
 use Rattle.text.proofs.numbers.whole.Goals as goal
 
 pub returns-then-peek-eq-MINUS : goal.returns-then-peek-eq-MINUS

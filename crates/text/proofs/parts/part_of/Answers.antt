@@ -3,7 +3,6 @@ use Prim.Native.Nat.{◌+◌, ◌-◌}
 use mathlib.Core.Path.{◌≡◌}
 use native.Mathlib.Omega.{arith}
 use Rattle.model.specs.Answers.{part_of, name_at}
-use borrow.Author.Rules.{rules}
 use Rattle.text.proofs.parts.part_of.Goals as goal
 
 pub returns : goal.returns

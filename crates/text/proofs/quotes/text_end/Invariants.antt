@@ -1,11 +1,8 @@
 -- `text::quotes::text_end` meets its contract. The loop's invariant: the run from i on ends where the one from the start ends.
-use Rattle.text.proofs.PlaceLaws.{past_step_in, past_stop_in, past_end}
 use Rattle.text.specs.Places.{past, is_in_text}
-use borrow.Author.Tests.{not-true, not-false}
 use lib.ListN.{length}
 use Prim.Native.Nat.{◌-◌}
-use mathlib.Core.Path.{◌≡◌, refl, sym, ◌∙◌}
-use borrow.Author.Rules.{rules}
+use mathlib.Core.Path.{◌≡◌}
 use Rattle.text.proofs.quotes.text_end.Given as goal
 
 abbrev pub invariant-loop-i : goal.invariant-loop-i

@@ -5,7 +5,6 @@ use Rattle.text.specs.Places.{is_in_text}
 use native.Mathlib.Omega.{arith}
 use Prim.Native.Nat.{◌+◌}
 use mathlib.Core.Path.{sym, ◌∙◌}
-use borrow.Author.Rules.{rules}
 use Rattle.text.proofs.quotes.text_value.Goals as goal
 
 pub returns-then-s-at : goal.returns-then-s-at

@@ -1,12 +1,8 @@
 -- `text::words::run_end` meets its contract. The loop's invariant: the run of word bytes from i on ends where the one from the start ends.
 use Rattle.text.proofs.PlaceLaws.{past_step_in, past_stop_in, past_end}
-use Rattle.text.specs.Places.{past}
 use Rattle.model.specs.Words.{is_word_byte}
-use borrow.Author.Tests.{not-true, not-false}
-use lib.ListN.{length}
 use Prim.Native.Nat.{◌-◌}
-use mathlib.Core.Path.{◌≡◌, refl, sym, ◌∙◌}
-use borrow.Author.Rules.{rules}
+use mathlib.Core.Path.{refl, sym, ◌∙◌}
 use Rattle.text.proofs.words.run_end.Goals as goal
 
 pub loop-i-init : goal.loop-i-init

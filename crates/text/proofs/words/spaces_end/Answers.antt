@@ -1,13 +1,11 @@
 -- `text::words::spaces_end` meets its contract. The loop's invariant: the run of spaces from i on ends where the one from the start ends.
 use Rattle.text.proofs.PlaceLaws.{test_in, past_step, past_stop}
-use Rattle.text.specs.Places.{past, is_space, peek_at}
+use Rattle.text.specs.Places.{is_space}
 use borrow.Author.Tests.{eq-eqb, ne_eqb}
 use mathlib.Core.Bool.{true}
 use native.Mathlib.Omega.{arith}
-use lib.ListN.{length}
 use Prim.Native.Nat.{◌-◌}
-use mathlib.Core.Path.{◌≡◌, refl, sym, ◌∙◌}
-use borrow.Author.Rules.{rules}
+use mathlib.Core.Path.{refl, sym, ◌∙◌}
 use Rattle.text.proofs.words.spaces_end.Goals as goal
 
 pub loop-i-init : goal.loop-i-init

@@ -1,13 +1,8 @@
 -- `text::words::spaces_end` meets its contract. The loop's invariant: the run of spaces from i on ends where the one from the start ends.
-use Rattle.text.proofs.PlaceLaws.{test_in, past_step, past_stop}
-use Rattle.text.specs.Places.{past, is_space, peek_at}
-use borrow.Author.Tests.{eq-eqb, ne_eqb}
-use mathlib.Core.Bool.{true}
-use native.Mathlib.Omega.{arith}
+use Rattle.text.specs.Places.{past, is_space}
 use lib.ListN.{length}
 use Prim.Native.Nat.{◌-◌}
-use mathlib.Core.Path.{◌≡◌, refl, sym, ◌∙◌}
-use borrow.Author.Rules.{rules}
+use mathlib.Core.Path.{◌≡◌}
 use Rattle.text.proofs.words.spaces_end.Given as goal
 
 abbrev pub invariant-loop-i : goal.invariant-loop-i

@@ -3,7 +3,6 @@ use Rattle.text.proofs.WordLaws.{word_fits, word_long}
 use Rattle.text.proofs.PlaceLaws.{past_on}
 use Rattle.model.specs.Words.{is_word_byte}
 use native.Mathlib.Omega.{arith}
-use borrow.Author.Rules.{rules}
 use Rattle.text.proofs.words.word.Goals as goal
 
 pub overflow_sub-q : goal.overflow_sub-q

@@ -1,7 +1,6 @@
 -- `tidy_size::declarations::attr_size` meets its contract. Assumes nothing.
 use Prim.Native.Nat.{◌+◌}
 use native.Mathlib.Omega.{arith}
-use borrow.Author.Rules.{rules}
 use Rattle.book_tables.specs.Layout.{types_behind}
 use Rattle.book_tables.specs.View.{word_at, kind_in}
 use Rattle.tidy_size.proofs.DeclarationLaws.{type_small, attr_line_law}

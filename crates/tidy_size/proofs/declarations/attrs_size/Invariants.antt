@@ -1,14 +1,10 @@
 -- `tidy_size::declarations::attrs_size` meets its contract. The loop's invariant: the size is that of the lines of the attributes before `i`. The measure
 -- is the number of attributes left. Assumes nothing.
 use Prim.Native.Nat.{◌-◌, ◌≤◌}
-use native.Mathlib.Omega.{arith}
-use borrow.Author.Rules.{rules}
 use Rattle.book_tables.specs.declared.Owner.{Owner}
-use Rattle.book_tables.specs.declared.Owner.TheVariants.{Node}
 use Rattle.book_tables.specs.Fits.{NamesFit}
 use Rattle.tidy_size.specs.Pieces.{attr_line}
 use Rattle.tidy_size.specs.Sizes.{LinesSize}
-use Rattle.tidy_size.proofs.SizeLaws.{no_lines, more_lines, under, all_lines}
 use Rattle.tidy_size.proofs.declarations.attrs_size.Given as goal
 
 abbrev pub invariant-loop-i : goal.invariant-loop-i

@@ -1,12 +1,7 @@
 -- `tidy_size::declarations::labels_size` meets its contract. The loop's invariant: the size is that of the lines of the labels before `i`. The measure is
 -- the number of labels left. Assumes nothing.
-use Prim.Native.Nat.{◌-◌, ◌≤◌}
+use Prim.Native.Nat.{◌-◌}
 use native.Mathlib.Omega.{arith}
-use borrow.Author.Rules.{rules}
-use Rattle.book_tables.specs.Layout.{label_names}
-use Rattle.book_tables.specs.Fits.{NamesFit}
-use Rattle.tidy_size.specs.Pieces.{label_line}
-use Rattle.tidy_size.specs.Sizes.{LinesSize}
 use Rattle.tidy_size.proofs.SizeLaws.{no_lines, more_lines, under, all_lines}
 use Rattle.tidy_size.proofs.DeclarationLaws.{label_line_law}
 use Rattle.tidy_size.proofs.declarations.labels_size.Goals as goal

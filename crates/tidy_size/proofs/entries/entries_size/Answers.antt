@@ -1,9 +1,8 @@
 -- `tidy_size::entries::entries_size` meets its contract. The loop's invariant: the size is that of the entries of the attributes before `attribute`. The
 -- measure is the number of attributes left. Assumes nothing.
-use Prim.Native.Nat.{◌-◌, ◌≤◌}
+use Prim.Native.Nat.{◌-◌}
 use native.Mathlib.Omega.{arith}
-use borrow.Author.Rules.{rules}
-use Rattle.tidy_size.proofs.EntryLaws.{EntriesSize, no_entries, entries_first, entries_pass, entry_short, entries_take, entries_whole}
+use Rattle.tidy_size.proofs.EntryLaws.{no_entries, entries_first, entries_pass, entry_short, entries_take, entries_whole}
 use Rattle.tidy_size.proofs.entries.entries_size.Goals as goal
 use Rattle.tidy_size.proofs.entries.entries_size.Goals.{else-slot-gt0, then-slot-gt0}
 
@@ -47,9 +46,12 @@ loop-attribute-preserved c =
     let there = c.loop-attribute-test.true in
     let is = c.entry_slots-slots.ensures.each l.attribute (omega (arith, there, c.requires.few)) in (
       omega (arith, there),
-      elim c.if-slot-gt0.branch [ then-slot-gt0 w ↦ rw w.size-is (entries_take a.words.now a.offset a.declared a.owner l.attribute _ there is w.if-slot-gt0.true c.requires l.size _
-          l.invariant.1 w.entry_size-size.ensures) | else-slot-gt0 w ↦ rw w.size-is (entries_pass a.words.now a.offset a.declared a.owner l.attribute _ there is (omega (arith, w.if-slot-gt0.false)) l.size
-          l.invariant.1) ],
+      elim c.if-slot-gt0.branch [
+        | then-slot-gt0 w ↦ rw w.size-is (entries_take a.words.now a.offset a.declared a.owner l.attribute _ there is w.if-slot-gt0.true c.requires l.size _
+            l.invariant.1 w.entry_size-size.ensures)
+        | else-slot-gt0 w ↦ rw w.size-is (entries_pass a.words.now a.offset a.declared a.owner l.attribute _ there is (omega (arith, w.if-slot-gt0.false)) l.size
+            l.invariant.1)
+      ],
     )
 
 pub returns : goal.returns

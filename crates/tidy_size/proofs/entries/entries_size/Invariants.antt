@@ -1,10 +1,7 @@
 -- `tidy_size::entries::entries_size` meets its contract. The loop's invariant: the size is that of the entries of the attributes before `attribute`. The
 -- measure is the number of attributes left. Assumes nothing.
 use Prim.Native.Nat.{◌-◌, ◌≤◌}
-use mathlib.Core.Logic.{⊎_elim}
-use native.Mathlib.Omega.{arith}
-use borrow.Author.Rules.{rules}
-use Rattle.tidy_size.proofs.EntryLaws.{EntriesSize, no_entries, entries_first, entries_pass, entry_short, entries_take, entries_whole}
+use Rattle.tidy_size.proofs.EntryLaws.{EntriesSize}
 use Rattle.tidy_size.proofs.entries.entries_size.Given as goal
 
 abbrev pub invariant-loop-attribute : goal.invariant-loop-attribute

@@ -1,5 +1,4 @@
 -- `tidy_size::entries::entry_size` meets its contract. Assumes nothing.
-use borrow.Author.Rules.{rules}
 use Rattle.tidy_size.proofs.ValueLaws.{entry_size}
 use Rattle.tidy_size.proofs.entries.entry_size.Goals as goal
 

@@ -1,6 +1,5 @@
 -- `tidy_size::names::name_size` meets its contract. Assumes nothing.
 use native.Mathlib.Omega.{arith}
-use borrow.Author.Rules.{rules}
 use Rattle.tidy_size.proofs.names.name_size.Goals as goal
 
 pub overflow_cast-result : goal.overflow_cast-result

@@ -1,5 +1,4 @@
 -- `tidy_size::owners::node_size` meets its contract. Assumes nothing.
-use borrow.Author.Rules.{rules}
 use Rattle.tidy_size.proofs.OwnerLaws.{node_short, node_size}
 use Rattle.tidy_size.proofs.owners.node_size.Goals as goal
 

@@ -1,11 +1,7 @@
 -- `tidy_size::owners::nodes_size` meets its contract. The loop's invariant: the size is that of the lines of the nodes before `i`. The measure is the
 -- number of nodes left. Assumes nothing.
-use Prim.Native.Nat.{◌-◌, ◌≤◌}
+use Prim.Native.Nat.{◌-◌}
 use native.Mathlib.Omega.{arith}
-use borrow.Author.Rules.{rules}
-use Rattle.book_tables.specs.Fits.{Fits}
-use Rattle.tidy_size.specs.Pieces.{node_line}
-use Rattle.tidy_size.specs.Sizes.{LinesSize}
 use Rattle.tidy_size.proofs.SizeLaws.{no_lines, more_lines, all_lines}
 use Rattle.tidy_size.proofs.owners.nodes_size.Goals as goal
 

@@ -1,7 +1,6 @@
 -- `tidy_size::owners::rel_size` meets its contract. Assumes nothing.
 use Prim.Native.Nat.{◌+◌}
 use native.Mathlib.Omega.{arith}
-use borrow.Author.Rules.{rules}
 use Rattle.book_tables.specs.Layout.{relationships}
 use Rattle.tidy_size.proofs.OwnerLaws.{rel_short, rel_size}
 use Rattle.tidy_size.proofs.owners.rel_size.Goals as goal

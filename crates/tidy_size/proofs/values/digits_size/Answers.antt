@@ -1,6 +1,5 @@
 -- `tidy_size::values::digits_size` meets its contract. Assumes nothing.
 use native.Mathlib.Omega.{arith}
-use borrow.Author.Rules.{rules}
 use Rattle.tidy_size.proofs.DigitLaws.{counting_first, counting_from}
 use Rattle.tidy_size.proofs.values.digits_size.Goals as goal
 

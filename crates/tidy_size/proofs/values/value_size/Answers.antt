@@ -2,7 +2,6 @@
 use Prim.Native.Nat.{◌+◌, ◌*◌}
 use mathlib.Core.Path.{sym, ◌∙◌}
 use native.Mathlib.Omega.{arith}
-use borrow.Author.Rules.{rules}
 use Rattle.book_tables.specs.Layout.{entries}
 use Rattle.book_lookup.proofs.ValueLaws.{kind_ints, kind_bools}
 use Rattle.tidy_size.proofs.ValueLaws.{number_size, text_size, true_size, false_size}

@@ -1,6 +1,5 @@
 -- `tidy_size::values::whole_size` meets its contract. Assumes nothing.
 use native.Mathlib.Omega.{arith}
-use borrow.Author.Rules.{rules}
 use Rattle.tidy_size.proofs.DigitLaws.{not_negative, negative}
 use Rattle.tidy_size.proofs.values.whole_size.Goals as goal
 

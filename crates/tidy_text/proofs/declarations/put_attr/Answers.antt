@@ -1,5 +1,4 @@
 -- `put_attr` meets its contract. Assumes nothing.
-use borrow.Author.Rules.{rules}
 use Rattle.putting.proofs.PuttingLaws.{puts_then}
 use Rattle.tidy_text.specs.Pieces.{attr_piece}
 use Rattle.tidy_text.proofs.declarations.put_attr.Goals as goal

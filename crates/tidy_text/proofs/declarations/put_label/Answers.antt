@@ -1,5 +1,4 @@
 -- `put_label` meets its contract. Assumes nothing.
-use borrow.Author.Rules.{rules}
 use Rattle.putting.proofs.PuttingLaws.{puts_then}
 use Rattle.tidy_text.specs.Pieces.{label_piece}
 use Rattle.tidy_text.proofs.declarations.put_label.Goals as goal

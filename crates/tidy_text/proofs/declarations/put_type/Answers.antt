@@ -1,6 +1,5 @@
 -- `put_type` meets its contract, type by type. Assumes nothing.
 use native.Mathlib.Omega.{arith}
-use borrow.Author.Rules.{rules}
 use Rattle.putting.proofs.PuttingLaws.{puts_same}
 use Rattle.tidy_text.proofs.PieceLaws.{int_piece, str_piece, bool_piece}
 use Rattle.tidy_text.proofs.declarations.put_type.Goals as goal

@@ -1,9 +1,7 @@
 -- `put_entries` meets its contract. The loop's invariant: the entries of all attributes but those left are put. Assumes nothing.
-use Prim.Native.Nat.{ℕ, ◌+◌, ◌-◌, ◌≤◌}
+use Prim.Native.Nat.{ℕ, ◌+◌, ◌-◌}
 use mathlib.Core.Path.{◌≡◌, ap}
 use native.Mathlib.Omega.{arith}
-use borrow.Author.Rules.{rules}
-use Rattle.putting.specs.Putting.{Puts}
 use Rattle.putting.proofs.PuttingLaws.{puts_nothing, puts_same, puts_keeps_length}
 use Rattle.tidy_text.specs.Pieces.{slot_piece, slot_in, entries_text}
 use Rattle.tidy_text.proofs.TextLaws.{puts_none, puts_next}

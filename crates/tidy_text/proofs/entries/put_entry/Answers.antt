@@ -1,6 +1,5 @@
 -- `put_entry` meets its contract. Assumes nothing.
 use native.Mathlib.Omega.{arith}
-use borrow.Author.Rules.{rules}
 use Rattle.putting.proofs.PuttingLaws.{puts_nothing, puts_then, puts_same}
 use Rattle.tidy_text.specs.Pieces.{entry_piece}
 use Rattle.tidy_text.proofs.PieceLaws.{empty_slot, full_slot}

@@ -1,7 +1,6 @@
 -- `put_value` meets its contract, by the type of the value. Assumes nothing.
 use mathlib.Core.Path.{sym, ap, ◌∙◌}
 use native.Mathlib.Omega.{arith}
-use borrow.Author.Rules.{rules}
 use Rattle.model.specs.Values.{str}
 use Rattle.model.specs.Writing.{value_text}
 use Rattle.book_lookup.proofs.ValueLaws.{kind_ints, kind_strs, kind_bools}

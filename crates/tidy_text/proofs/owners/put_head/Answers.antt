@@ -1,9 +1,7 @@
 -- `put_head` meets its contract, by what the owner is. Assumes nothing.
 use Prim.Native.Nat.{◌+◌}
-use mathlib.Core.Path.{◌≡◌, sym, ap, subst}
+use mathlib.Core.Path.{sym, ap, subst}
 use native.Mathlib.Omega.{arith}
-use borrow.Author.Rules.{rules}
-use Rattle.book_tables.specs.declared.Owner.{Owner}
 use Rattle.book_tables.specs.Layout.{relationships}
 use Rattle.putting.proofs.PuttingLaws.{puts_then, puts_same}
 use Rattle.tidy_text.specs.Pieces.{head_piece}

@@ -1,5 +1,4 @@
 -- `put_owner` meets its contract. Assumes nothing.
-use borrow.Author.Rules.{rules}
 use Rattle.putting.proofs.PuttingLaws.{puts_then}
 use Rattle.tidy_text.specs.Pieces.{owner_piece}
 use Rattle.tidy_text.proofs.owners.put_owner.Goals as goal

@@ -1,10 +1,8 @@
 -- `put_owners` meets its contract. The loop's invariant: the first i are put. Assumes nothing.
-use Prim.Native.Nat.{◌-◌, ◌≤◌}
+use Prim.Native.Nat.{◌-◌}
 use mathlib.Core.Path.{◌≡◌, sym, ap, subst}
 use native.Mathlib.Omega.{arith}
-use borrow.Author.Rules.{rules}
 use Rattle.book_tables.specs.Owners.{tables_of}
-use Rattle.putting.specs.Putting.{Puts}
 use Rattle.putting.proofs.PuttingLaws.{puts_same, puts_keeps_length}
 use Rattle.tidy_text.specs.Inside.{OwnerInside}
 use Rattle.tidy_text.specs.Pieces.{owner_piece, owners_text}

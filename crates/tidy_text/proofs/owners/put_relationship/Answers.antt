@@ -1,5 +1,4 @@
 -- `put_relationship` meets its contract. Assumes nothing.
-use borrow.Author.Rules.{rules}
 use Rattle.putting.proofs.PuttingLaws.{puts_then}
 use Rattle.tidy_text.specs.Pieces.{relationship_piece}
 use Rattle.tidy_text.proofs.owners.put_relationship.Goals as goal

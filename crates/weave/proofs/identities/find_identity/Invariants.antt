@@ -1,14 +1,11 @@
 -- `find_identity` meets its contract. The loop's invariant: none of the first i identities is the vertex's. Assumes nothing.
-use Rattle.weave.proofs.IdentityLaws.{compared, found_in, none_in, own_has_none, node_said}
 use Rattle.weave.specs.Identities.{no_identity}
-use Rattle.woven_tables.specs.Tables.{vertex_of_word, node_in}
-use Rattle.logic.specs.Tests.{either, equal_or_not}
+use Rattle.woven_tables.specs.Tables.{vertex_of_word}
 use Rattle.model.specs.Answers.{identity_in}
 use Rattle.model.specs.Weave.{identified_by}
-use lib.ListN.{length, get_or}
-use native.Mathlib.Omega.{arith}
+use lib.ListN.{get_or}
 use mathlib.Core.Bool.{false}
-use mathlib.Core.Path.{◌≡◌, sym, subst, ◌∙◌}
+use mathlib.Core.Path.{◌≡◌}
 use Prim.Native.Nat.{ℕ, ◌-◌, ◌<◌, ◌≤◌}
 use borrow.Author.Rules.{rules}
 use Rattle.weave.proofs.identities.find_identity.Given as goal

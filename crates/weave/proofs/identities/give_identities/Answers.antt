@@ -5,7 +5,7 @@ use Rattle.weave.specs.Identities.{identities_in, IdentitiesGiven}
 use native.Mathlib.Omega.{arith}
 use mathlib.Core.Logic.{inl}
 use mathlib.Core.Path.{◌≡◌, sym, subst}
-use Prim.Native.Nat.{◌+◌, ◌-◌, ◌/◌, ◌≤◌}
+use Prim.Native.Nat.{◌+◌, ◌-◌, ◌/◌}
 use borrow.Author.Rules.{rules}
 use Rattle.weave.proofs.identities.give_identities.Goals as goal
 

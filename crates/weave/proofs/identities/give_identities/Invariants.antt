@@ -1,11 +1,7 @@
 -- `give_identities` meets its contract. The loop's invariant: the vertices below v have their nodes. Assumes nothing.
-use Rattle.weave.proofs.IdentityLaws.{GivenSoFar, given_start, given_more}
-use Rattle.woven_tables.specs.Tables.{NameInside}
-use Rattle.weave.specs.Identities.{identities_in, IdentitiesGiven}
-use native.Mathlib.Omega.{arith}
-use mathlib.Core.Logic.{inl}
-use mathlib.Core.Path.{◌≡◌, sym, subst}
-use Prim.Native.Nat.{◌+◌, ◌-◌, ◌/◌, ◌≤◌}
+use Rattle.weave.proofs.IdentityLaws.{GivenSoFar}
+use Rattle.weave.specs.Identities.{identities_in}
+use Prim.Native.Nat.{◌-◌, ◌≤◌}
 use borrow.Author.Rules.{rules}
 use Rattle.weave.proofs.identities.give_identities.Given as goal
 

@@ -5,21 +5,19 @@ use Rattle.bits.specs.Word.{bit}
 use native.Mathlib.Omega.{arith}
 use mathlib.Core.Bool.{true}
 use mathlib.Core.Path.{◌≡◌, sym, ◌∙◌, subst}
-use Prim.Native.Nat.{ℕ, ◌-◌, ◌<◌, ◌≤◌}
-use borrow.Author.Rules.{rules}
+use Prim.Native.Nat.{◌-◌}
 use Rattle.weave.proofs.marks.all_marked.Goals as goal
 
 pub loop-v-init : goal.loop-v-init
 loop-v-init c = (omega arith, λ i h. absurd (omega arith))
 
 pub loop-v-preserved : goal.loop-v-preserved
-loop-v-preserved c =
-    (
-      omega arith,
-      λ i h. either (equal_or_not i c.loop-v.v)
-          (λ e. subst (λ z. bit c.args.marks z ≡ true) (sym e) (sym c.has.ensures ∙ c.if-has.true))
-          (λ e. let d = e.1 in c.loop-v.invariant.1 i (omega arith)),
-    )
+loop-v-preserved c = (
+  omega arith,
+  λ i h. either (equal_or_not i c.loop-v.v)
+      (λ e. subst (λ z. bit c.args.marks z ≡ true) (sym e) (sym c.has.ensures ∙ c.if-has.true))
+      (λ e. let d = e.1 in c.loop-v.invariant.1 i (omega arith)),
+)
 
 pub returns-else-has : goal.returns-else-has
 returns-else-has c =

@@ -2,7 +2,6 @@
 use Rattle.bits.specs.Word.{with}
 use Rattle.model.specs.Choice.{pick}
 use mathlib.Core.Path.{ap, sym, ◌∙◌}
-use borrow.Author.Rules.{rules}
 use Rattle.weave.proofs.marks.mark_if.Goals as goal
 
 pub returns-then-test : goal.returns-then-test

@@ -6,8 +6,7 @@ use Rattle.model.specs.Choice.{pick}
 use lib.ListN.{get_or}
 use native.Mathlib.Omega.{arith}
 use mathlib.Core.Path.{◌≡◌, refl, ap, subst, ◌∙◌}
-use Prim.Native.Nat.{◌+◌, ◌-◌, ◌≤◌}
-use borrow.Author.Rules.{rules}
+use Prim.Native.Nat.{◌+◌, ◌-◌}
 use Rattle.weave.proofs.ties.step.Goals as goal
 
 pub loop-i-init : goal.loop-i-init

@@ -1,8 +1,7 @@
 -- `tied` meets its contract. The loop's invariant: the steps that are left lead where all lead from the first marks. Assumes nothing.
-use Rattle.weave.proofs.TieLaws.{TiedSoFar, tied_start, tied_more, tied_unchanged, tied_end}
+use Rattle.weave.proofs.TieLaws.{tied_start, tied_more, tied_unchanged, tied_end}
 use native.Mathlib.Omega.{arith}
-use Prim.Native.Nat.{◌-◌, ◌≤◌}
-use borrow.Author.Rules.{rules}
+use Prim.Native.Nat.{◌-◌}
 use Rattle.weave.proofs.ties.tied.Goals as goal
 
 pub loop-round-init : goal.loop-round-init
@@ -22,13 +21,12 @@ returns-then-next-marked c =
     c.loop-round.marked c.step-next.result c.loop-round.round c.if-next-marked.true c.step-next.ensures c.loop-round.invariant.1
 
 pub loop-round-preserved : goal.loop-round-preserved
-loop-round-preserved c =
-    (
-      omega arith,
-      tied_more c.args.words.now c.args.vertices c.args.edges c.args.mask c.requires.3
-          c.loop-round.marked c.step-next.result c.loop-round.round c.loop-round-test.true c.step-next.ensures
-          c.loop-round.invariant.1,
-    )
+loop-round-preserved c = (
+  omega arith,
+  tied_more c.args.words.now c.args.vertices c.args.edges c.args.mask c.requires.3
+      c.loop-round.marked c.step-next.result c.loop-round.round c.loop-round-test.true c.step-next.ensures
+      c.loop-round.invariant.1,
+)
 
 pub returns : goal.returns
 returns c =

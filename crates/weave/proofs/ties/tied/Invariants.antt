@@ -1,8 +1,6 @@
 -- `tied` meets its contract. The loop's invariant: the steps that are left lead where all lead from the first marks. Assumes nothing.
-use Rattle.weave.proofs.TieLaws.{TiedSoFar, tied_start, tied_more, tied_unchanged, tied_end}
-use native.Mathlib.Omega.{arith}
+use Rattle.weave.proofs.TieLaws.{TiedSoFar}
 use Prim.Native.Nat.{◌-◌, ◌≤◌}
-use borrow.Author.Rules.{rules}
 use Rattle.weave.proofs.ties.tied.Given as goal
 
 abbrev pub invariant-loop-round : goal.invariant-loop-round

@@ -1,10 +1,10 @@
 -- `add_clauses` meets its contract. The loop's invariant: the first i clauses are woven. Assumes nothing.
-use Rattle.woven_tables.proofs.ClauseTable.{ClausesSoFar, clauses_start, clauses_more}
+use Rattle.woven_tables.proofs.ClauseTable.{clauses_start, clauses_more}
 use Rattle.woven_tables.specs.ClauseSteps.{ClausesAdded}
 use lib.ListN.{length, length-set}
 use native.Mathlib.Omega.{arith}
 use mathlib.Core.Path.{◌≡◌, subst}
-use Prim.Native.Nat.{◌-◌, ◌≤◌}
+use Prim.Native.Nat.{◌-◌}
 use Rattle.woven_tables.proofs.clauses.add_clauses.Goals as goal
 
 pub loop-i-init : goal.loop-i-init

@@ -1,9 +1,5 @@
 -- `add_clauses` meets its contract. The loop's invariant: the first i clauses are woven. Assumes nothing.
-use Rattle.woven_tables.proofs.ClauseTable.{ClausesSoFar, clauses_start, clauses_more}
-use Rattle.woven_tables.specs.ClauseSteps.{ClausesAdded}
-use lib.ListN.{length, length-set}
-use native.Mathlib.Omega.{arith}
-use mathlib.Core.Path.{◌≡◌, subst}
+use Rattle.woven_tables.proofs.ClauseTable.{ClausesSoFar}
 use Prim.Native.Nat.{◌-◌, ◌≤◌}
 use Rattle.woven_tables.proofs.clauses.add_clauses.Given as goal
 

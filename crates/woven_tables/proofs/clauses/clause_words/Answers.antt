@@ -3,7 +3,6 @@ use Rattle.woven_tables.proofs.ClauseLaws.{exclusion_said, of_vertex_said, of_ed
 use Rattle.woven_tables.specs.ClauseSteps.{ConditionReady}
 use native.Mathlib.Omega.{arith}
 use mathlib.Core.Path.{subst}
-use borrow.Author.Rules.{rules}
 use Rattle.woven_tables.proofs.clauses.clause_words.Goals as goal
 
 pub offset_bounds-numbers-u : goal.offset_bounds-numbers-u

@@ -5,7 +5,7 @@ use Rattle.woven_tables.proofs.ClauseTable.{counted_none, counted_more, one_at_m
 use Rattle.woven_tables.specs.ClauseSteps.{ExclusionsCounted}
 use native.Mathlib.Omega.{arith}
 use mathlib.Core.Path.{◌≡◌, subst}
-use Prim.Native.Nat.{◌-◌, ◌≤◌}
+use Prim.Native.Nat.{◌-◌}
 use borrow.Author.Rules.{rules}
 use Rattle.woven_tables.proofs.clauses.count_exclusions.Goals as goal
 

@@ -1,7 +1,6 @@
 -- `one_if_excluded` meets its contract, by cases. Assumes nothing.
 use Rattle.woven_tables.specs.ClauseSteps.{one_if_excluded}
 use mathlib.Core.Path.{ap, sym}
-use borrow.Author.Rules.{rules}
 use Rattle.woven_tables.proofs.clauses.one_if_excluded.Goals as goal
 
 pub returns-in-Excluded : goal.returns-in-Excluded

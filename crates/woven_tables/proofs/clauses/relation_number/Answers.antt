@@ -4,7 +4,6 @@ use Rattle.woven_tables.specs.Tables.{relation_at}
 use Rattle.model.specs.Answers.{relation_of}
 use native.Mathlib.Omega.{arith}
 use mathlib.Core.Path.{refl}
-use borrow.Author.Rules.{rules}
 use Rattle.woven_tables.proofs.clauses.relation_number.Goals as goal
 
 pub returns-in-Equal : goal.returns-in-Equal

@@ -1,7 +1,6 @@
 -- `requirement_words` meets its contract. Assumes nothing.
 use Rattle.woven_tables.proofs.ClauseLaws.{requirement_said}
 use mathlib.Core.Path.{refl}
-use borrow.Author.Rules.{rules}
 use Rattle.woven_tables.proofs.clauses.requirement_words.Goals as goal
 
 pub returns : goal.returns

@@ -3,7 +3,6 @@ use Rattle.woven_tables.proofs.ClauseLaws.{number_said, text_said, true_said, fa
 use Rattle.model.specs.PlainData.{ValueFits}
 use native.Mathlib.Omega.{arith}
 use mathlib.Core.Path.{subst}
-use borrow.Author.Rules.{rules}
 use Rattle.woven_tables.proofs.clauses.value_words.Goals as goal
 
 pub overflow_add-result : goal.overflow_add-result

@@ -1,10 +1,10 @@
 -- `add_edges` meets its contract. The loop's invariant: the first i edges are woven. Assumes nothing.
-use Rattle.woven_tables.proofs.EdgeLaws.{EdgesSoFar, edges_start, edges_more}
+use Rattle.woven_tables.proofs.EdgeLaws.{edges_start, edges_more}
 use Rattle.woven_tables.specs.Steps.{EdgesAdded}
 use lib.ListN.{length, length-set}
 use native.Mathlib.Omega.{arith}
 use mathlib.Core.Path.{◌≡◌, subst}
-use Prim.Native.Nat.{◌-◌, ◌≤◌}
+use Prim.Native.Nat.{◌-◌}
 use Rattle.woven_tables.proofs.edges.add_edges.Goals as goal
 
 pub loop-i-init : goal.loop-i-init

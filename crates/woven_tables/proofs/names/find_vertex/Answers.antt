@@ -6,7 +6,7 @@ use Rattle.model.specs.Lists.{any}
 use Rattle.model.specs.Weave.{same_vertex, place_vertex}
 use lib.ListN.{get_or}
 use native.Mathlib.Omega.{arith}
-use Prim.Native.Nat.{◌-◌, ◌≤◌}
+use Prim.Native.Nat.{◌-◌}
 use mathlib.Core.Bool.{false}
 use mathlib.Core.Path.{◌≡◌, sym, ap, ◌∙◌}
 use borrow.Author.Rules.{rules}
@@ -28,13 +28,12 @@ returns-then-same_vertex c =
     c.loop-i.i c.loop-i-test.true c.loop-i.invariant.1 (sym c.same_vertex.ensures ∙ c.if-same_vertex.true))
 
 pub loop-i-preserved : goal.loop-i-preserved
-loop-i-preserved c =
-    (
-      omega arith,
-      scan_on (same_vertex (vertex_of_word c.args.query.now c.args.rules.now c.args.word))
-          (λ j. vertex_of_word c.args.query.now c.args.rules.now (get_or c.args.words.now j 0)) c.loop-i.i
-          c.loop-i.invariant.1 (sym c.same_vertex.ensures ∙ c.if-same_vertex.false),
-    )
+loop-i-preserved c = (
+  omega arith,
+  scan_on (same_vertex (vertex_of_word c.args.query.now c.args.rules.now c.args.word))
+      (λ j. vertex_of_word c.args.query.now c.args.rules.now (get_or c.args.words.now j 0)) c.loop-i.i
+      c.loop-i.invariant.1 (sym c.same_vertex.ensures ∙ c.if-same_vertex.false),
+)
 
 pub returns : goal.returns
 unfolding place_vertex vertices_at

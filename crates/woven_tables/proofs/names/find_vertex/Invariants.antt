@@ -1,14 +1,12 @@
 -- `find_vertex` meets its contract: none of the vertices passed is the same. Assumes nothing.
-use Rattle.woven_tables.specs.Tables.{vertex_of_word, vertices_at}
-use Rattle.book_tables.proofs.ListedLaws.{scan_none, scan_on, scan_place, scan_absent}
+use Rattle.woven_tables.specs.Tables.{vertex_of_word}
 use Rattle.book_tables.specs.Listed.{listed}
 use Rattle.model.specs.Lists.{any}
-use Rattle.model.specs.Weave.{same_vertex, place_vertex}
+use Rattle.model.specs.Weave.{same_vertex}
 use lib.ListN.{get_or}
-use native.Mathlib.Omega.{arith}
 use Prim.Native.Nat.{◌-◌, ◌≤◌}
 use mathlib.Core.Bool.{false}
-use mathlib.Core.Path.{◌≡◌, sym, ap, ◌∙◌}
+use mathlib.Core.Path.{◌≡◌}
 use borrow.Author.Rules.{rules}
 use Rattle.woven_tables.proofs.names.find_vertex.Given as goal
 

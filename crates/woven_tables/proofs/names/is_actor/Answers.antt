@@ -9,19 +9,18 @@ use Rattle.model.specs.Bytes.{same}
 use Rattle.model.specs.Answers.{name_at}
 use lib.ListN.{get_or}
 use native.Mathlib.Omega.{arith}
-use Prim.Native.Nat.{◌-◌, ◌≤◌}
+use Prim.Native.Nat.{◌-◌}
 use mathlib.Core.Bool.{false}
 use mathlib.Core.Path.{◌≡◌, sym, ap, ◌∙◌}
 use borrow.Author.Rules.{rules}
 use Rattle.woven_tables.proofs.names.is_actor.Goals as goal
 
 pub loop-i-init : goal.loop-i-init
-loop-i-init c =
-    (
-      omega arith,
-      scan_none (same (name_of c.args.query.now c.args.rules.now c.args.word))
-          (λ j. name_in c.args.rules.now (get_or c.args.actors.now j 0)),
-    )
+loop-i-init c = (
+  omega arith,
+  scan_none (same (name_of c.args.query.now c.args.rules.now c.args.word))
+      (λ j. name_in c.args.rules.now (get_or c.args.actors.now j 0)),
+)
 
 pub overflow_cast-w : goal.overflow_cast-w
 overflow_cast-w c = omega (arith, c.type_inv.actors c.loop-i.i)
@@ -40,14 +39,13 @@ returns-then-says c =
 
 pub loop-i-preserved : goal.loop-i-preserved
 unfolding name_in name_at
-loop-i-preserved c =
-    (
-      omega arith,
-      scan_on (same (name_of c.args.query.now c.args.rules.now c.args.word))
-          (λ j. name_in c.args.rules.now (get_or c.args.actors.now j 0)) c.loop-i.i c.loop-i.invariant.1
-          (ap (same (name_of c.args.query.now c.args.rules.now c.args.word)) (sym c.part_of.ensures)
-          ∙ sym c.says.ensures ∙ c.if-says.false),
-    )
+loop-i-preserved c = (
+  omega arith,
+  scan_on (same (name_of c.args.query.now c.args.rules.now c.args.word))
+      (λ j. name_in c.args.rules.now (get_or c.args.actors.now j 0)) c.loop-i.i c.loop-i.invariant.1
+      (ap (same (name_of c.args.query.now c.args.rules.now c.args.word)) (sym c.part_of.ensures)
+      ∙ sym c.says.ensures ∙ c.if-says.false),
+)
 
 pub returns : goal.returns
 unfolding mem actors_at name_in

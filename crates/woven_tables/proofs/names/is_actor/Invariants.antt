@@ -1,17 +1,13 @@
 -- `is_actor` meets its contract: none of the names passed is the vertex's. Assumes nothing.
-use Rattle.woven_tables.specs.Tables.{name_of, actors_at}
+use Rattle.woven_tables.specs.Tables.{name_of}
 use Rattle.book_tables.specs.View.{name_in}
-use Rattle.book_tables.proofs.ListedLaws.{scan_none, scan_on, scan_found}
 use Rattle.book_tables.specs.Listed.{listed}
-use Rattle.model.specs.Names.{mem}
 use Rattle.model.specs.Lists.{any}
 use Rattle.model.specs.Bytes.{same}
-use Rattle.model.specs.Answers.{name_at}
 use lib.ListN.{get_or}
-use native.Mathlib.Omega.{arith}
 use Prim.Native.Nat.{◌-◌, ◌≤◌}
 use mathlib.Core.Bool.{false}
-use mathlib.Core.Path.{◌≡◌, sym, ap, ◌∙◌}
+use mathlib.Core.Path.{◌≡◌}
 use borrow.Author.Rules.{rules}
 use Rattle.woven_tables.proofs.names.is_actor.Given as goal
 

@@ -15,8 +15,11 @@ is_actor-requires c =
 
 pub returns : goal.returns
 returns c =
-    let a = c.args in record { inside = vertex_inside a.query.now a.rules.now a.k a.start a.length c.requires.2 c.requires.3 _ _ c.is_actor.result
-          c.name_word-name.ensures c.vertex_word.ensures c.requires.5; says = vertex_says c.args.query.now c.args.rules.now c.args.k c.args.start c.args.length (omega arith)
+    let a = c.args in record {
+      inside = vertex_inside a.query.now a.rules.now a.k a.start a.length c.requires.2 c.requires.3 _ _ c.is_actor.result
+          c.name_word-name.ensures c.vertex_word.ensures c.requires.5;
+      says = vertex_says c.args.query.now c.args.rules.now c.args.k c.args.start c.args.length (omega arith)
           (omega arith) (actors_at c.args.rules.now c.args.actors.now c.args.count) c.name_word-name.result
           c.vertex_word.result c.is_actor.result c.name_word-name.ensures c.is_actor.ensures
-          c.vertex_word.ensures }
+          c.vertex_word.ensures;
+    }

@@ -1,10 +1,10 @@
 -- `add_returns` meets its contract. The loop's invariant: the first i Return vertices are stored. Assumes nothing.
-use Rattle.woven_tables.proofs.ReturnLaws.{ReturnsSoFar, returns_start, returns_more}
+use Rattle.woven_tables.proofs.ReturnLaws.{returns_start, returns_more}
 use Rattle.woven_tables.specs.Steps.{ReturnsAdded}
 use lib.ListN.{length}
 use native.Mathlib.Omega.{arith}
 use mathlib.Core.Path.{◌≡◌, subst}
-use Prim.Native.Nat.{◌-◌, ◌≤◌}
+use Prim.Native.Nat.{◌-◌}
 use borrow.Author.Rules.{rules}
 use Rattle.woven_tables.proofs.returns.add_returns.Goals as goal
 

@@ -1,6 +1,6 @@
 -- `add_vertices` meets its contract. The loop's invariant: the first i vertices are woven, and their numbers known. Assumes nothing.
 -- `add_vertices` meets its contract. The loop's invariant: the first i vertices are woven, and their numbers known. Assumes nothing.
-use Rattle.woven_tables.proofs.VertexLaws.{length_names, own_says, VerticesSoFar, vertices_start, vertices_more, vertices_passed, vertices_end}
+use Rattle.woven_tables.proofs.VertexLaws.{length_names, own_says, vertices_start, vertices_more, vertices_passed, vertices_end}
 use Rattle.woven_tables.specs.Steps.{text_vertices}
 use Rattle.woven_tables.specs.Tables.{text_of, actors_at}
 use lib.ListN.{length, drop}
@@ -10,12 +10,11 @@ use Prim.Native.Nat.{◌-◌, ◌≤◌}
 use Rattle.woven_tables.proofs.vertices.add_vertices.Goals as goal
 
 pub loop-i-init : goal.loop-i-init
-loop-i-init c =
-    (
-      omega arith,
-      vertices_start c.args.query.now c.args.rules.now _ c.args.words.now c.args.woven _
-          (omega arith) refl c.requires.4.woven,
-    )
+loop-i-init c = (
+  omega arith,
+  vertices_start c.args.query.now c.args.rules.now _ c.args.words.now c.args.woven _
+      (omega arith) refl c.requires.4.woven,
+)
 
 pub overflow_add-base : goal.overflow_add-base
 overflow_add-base c =

@@ -1,11 +1,9 @@
 -- `add_vertices` meets its contract. The loop's invariant: the first i vertices are woven, and their numbers known. Assumes nothing.
 -- `add_vertices` meets its contract. The loop's invariant: the first i vertices are woven, and their numbers known. Assumes nothing.
-use Rattle.woven_tables.proofs.VertexLaws.{length_names, own_says, VerticesSoFar, vertices_start, vertices_more, vertices_passed, vertices_end}
+use Rattle.woven_tables.proofs.VertexLaws.{VerticesSoFar}
 use Rattle.woven_tables.specs.Steps.{text_vertices}
 use Rattle.woven_tables.specs.Tables.{text_of, actors_at}
-use lib.ListN.{length, drop}
-use native.Mathlib.Omega.{arith}
-use mathlib.Core.Path.{◌≡◌, refl, ◌∙◌}
+use lib.ListN.{drop}
 use Prim.Native.Nat.{◌-◌, ◌≤◌}
 use Rattle.woven_tables.proofs.vertices.add_vertices.Given as goal
 

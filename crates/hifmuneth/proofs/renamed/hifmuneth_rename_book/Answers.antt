@@ -1,0 +1,7 @@
+-- `hifmuneth_rename_book` tells what the service answers.
+use Rattle.hifmuneth.proofs.renamed.hifmuneth_rename_book.Goals as goal
+
+pub returns : goal.returns
+returns c =
+    let r = c.rename_book-written in
+    record { answer = rw r.ensures.answer at c.tell_length.ensures; written = r.ensures.text; cleared = r.ensures.cleared }
