@@ -2,7 +2,7 @@
 // writer whose bytes are known.
 #![tactic(auto)]
 
-ghost use Rattle.std.specs.Prelude.{◌≡◌, ◌≤◌, take, length, OnOk};
+ghost use Rattle.std.specs.Prelude.{◌≡◌, ℕ, ◌<◌, ◌≤◌, take, length, slice_index, OnOk};
 ghost use Rattle.std.specs.Io.KnownBytes.{Appends};
 
 use std::io;
@@ -10,7 +10,8 @@ use std::io::Write;
 
 pub mod files; // files.rt: texts from files
 
-// Prints the first bytes of a text, or answers why the output does not take them all.
+// Prints the first bytes of a text, or answers why the output does not take them all. An error leaves the writer with what it took before, of which nothing is
+// said.
 pub fn print_front<W: Write>(out: &mut W, text: &[u8], n: usize) -> io::Result<()>
     requires { n ≤ length text.now }
     ensures { OnOk result (Appends (W.contents out.old) (W.contents out.new) (take n text.now)) }
@@ -18,9 +19,10 @@ pub fn print_front<W: Write>(out: &mut W, text: &[u8], n: usize) -> io::Result<(
     out.write_all(&text[..n])
 }
 
-// A buffer of zeros. Of its bytes nothing is said: a proof about a buffer of many bytes would count them out.
+// A buffer of zeros. They are told one by one: as one list they would be counted out by a proof about a buffer of many bytes.
 pub fn room<const N: usize>() -> [u8; N]
-    ensures { length result ≡ N }
+    ensures long { length result ≡ N }
+    ensures zeros { (i : ℕ) → i < N → slice_index result i ≡ 0 }
 {
     [0; N]
 }
