@@ -1,4 +1,4 @@
-/* Hifmuneth: the station list for C. The library is crates/hifmuneth/out/libhifmuneth.a, made by `sh tests/build`.
+/* Hifmuneth: the station list for C. The library is target/staticlib/libhifmuneth.a, made by `sh tests/build`.
  *
  * Every function takes its texts as a pointer and a length in bytes, and its buffers as a pointer and a length in words or bytes. It
  * returns true if it accepts; the numbers of a refusal are then 0. If it returns false, *number, *text and *line are the refusal, and
