@@ -24,7 +24,7 @@ use Rattle.book_tables.specs.Listed.{listed}
 use Rattle.book_tables.specs.Layout as layout
 use Rattle.book_tables.specs.View.{word_at, name_of, names_at, attrs_at, entry_head, entry_of, entries_from, entries_in, start_part, count_part, node_of, rel_of, book_at}
 use Rattle.book_tables.specs.Fits.{NamesFit, EntriesFit, Fits}
-use Rattle.book_tables.proofs.ListedLaws.{listed_same, map_listed, get_d_listed}
+use Rattle.book_tables.proofs.ListedLaws.{listed_same, map_listed, get_or_listed}
 use Rattle.book_tables.proofs.NameLaws.{equal_same, attr_names_law, node_names_law}
 use Rattle.book_lookup.specs.Entries.{seek, looked_for, entry_value, maybe_value, entries_of, owner_value, owner_looked}
 use Rattle.book_lookup.specs.Ready.{EntriesReady}
@@ -139,16 +139,16 @@ module _ (text : Bytes) (words : List ℕ) (c : BookCounts) where
       → entries_of o (book_at text words c) i ≡ entries_in text words (tables_of o c).attributes (word_at words ((tables_of o c).entries + i))
   unfolding graph.node_entries rel_entries graph.rel_of book_at node_of rel_of
   owner_entries Node i l = ap (λ es. get_or es i []) (map_listed (λ x. x.entries) (node_of text words) c.nodes)
-      ∙ get_d_listed (λ i. (node_of text words i).entries) c.nodes i [] l
-  owner_entries Relationship i l = ap (λ r. r.entries) (get_d_listed (rel_of text words) c.relationships i _ l)
+      ∙ get_or_listed (λ i. (node_of text words i).entries) c.nodes i [] l
+  owner_entries Relationship i l = ap (λ r. r.entries) (get_or_listed (rel_of text words) c.relationships i _ l)
 
   attribute_name : (offset count i : ℕ) → i < count → get_or (attr_names (attrs_at text words offset count)) i [] ≡ name_of text words offset i
   unfolding names_at
-  attribute_name offset count i l = ap (λ ns. get_or ns i []) (attr_names_law text words offset count) ∙ get_d_listed (name_of text words offset) count i [] l
+  attribute_name offset count i l = ap (λ ns. get_or ns i []) (attr_names_law text words offset count) ∙ get_or_listed (name_of text words offset) count i [] l
 
   pub node_named : (i : ℕ) → i < c.nodes → get_or (node_names (book_at text words c)) i [] ≡ name_of text words layout.node_names i
   unfolding names_at
-  node_named i l = ap (λ ns. get_or ns i []) (node_names_law text words c) ∙ get_d_listed (name_of text words layout.node_names) c.nodes i [] l
+  node_named i l = ap (λ ns. get_or ns i []) (node_names_law text words c) ∙ get_or_listed (name_of text words layout.node_names) c.nodes i [] l
 
   -- what the pass over an owner's entries comes to, by its word: the value of its attribute, and how many are looked at for it
   module _ (fits : Fits text words c) (attribute : ℕ) (o : Owner) (i : ℕ) (owned : i < (tables_of o c).count)

@@ -9,7 +9,7 @@ use Rattle.book_tables.specs.declared.Owner.{Owner}
 use Rattle.book_tables.specs.declared.Owner.TheVariants.{Node, Relationship}
 use Rattle.book_tables.specs.Owners.{attrs_of}
 use Rattle.book_tables.specs.Layout.{entries}
-use Rattle.book_tables.specs.View.{word_at, entry_head, value_in as valueOfWords}
+use Rattle.book_tables.specs.View.{word_at, entry_head, value_in as value_of_words}
 
 -- the first of n entries, from the kth on, that is of an attribute
 unfoldable pub seek : List ℕ → ℕ → ℕ → ℕ → Maybe ℕ
@@ -33,7 +33,7 @@ second_at words k = word_at words (entries + 3 * k + 2)
 
 -- the value of an entry
 unfoldable pub entry_value : Bytes → List ℕ → ℕ → Value
-entry_value text words k = valueOfWords text (kind_at words k) (first_at words k) (second_at words k)
+entry_value text words k = value_of_words text (kind_at words k) (first_at words k) (second_at words k)
 
 -- the value of an entry that may be missing
 unfoldable pub maybe_value : Bytes → List ℕ → Maybe ℕ → Maybe Value

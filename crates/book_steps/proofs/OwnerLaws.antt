@@ -24,7 +24,7 @@ use Rattle.model.specs.declared.Part.{Part}
 use Rattle.book_tables.specs.declared.BookCounts.{BookCounts}
 use Rattle.book_tables.specs.declared.NameRule.{NameRule}
 use Rattle.book_tables.specs.declared.Owner.TheVariants.{Node}
-use Rattle.book_tables.specs.Layout.{vattr_names, node_names as nodesAt}
+use Rattle.book_tables.specs.Layout.{vattr_names, node_names as nodes_at}
 use Rattle.book_tables.specs.View.{slot_in, node_of, rel_of, book_at}
 use Rattle.book_tables.specs.Fits.{Fits, Holds}
 use Rattle.book_tables.specs.Owners.{more_owners}
@@ -90,7 +90,7 @@ module _ (text : Bytes) (words : List ℕ) (c : BookCounts) (fits : Fits text wo
   holds = record { fits = fits; is = refl }
 
   pub nodes_length : length (node_names book) ≡ c.nodes
-  nodes_length = ap length (node_names_law text words c) ∙ length_names text words nodesAt c.nodes
+  nodes_length = ap length (node_names_law text words c) ∙ length_names text words nodes_at c.nodes
 
   nodes_count : length book.nodes ≡ c.nodes
   unfolding book_at

@@ -32,12 +32,12 @@ module _ {A : Type 0} where
   length_listed f zero = refl
   length_listed f (suc n) = rw (length-append, length_listed f n) (add-one n)
 
-  pub get_d_listed : (f : ℕ → A) (n i : ℕ) (d : A) → i < n → get_or (listed f n) i d ≡ f i
+  pub get_or_listed : (f : ℕ → A) (n i : ℕ) (d : A) → i < n → get_or (listed f n) i d ≡ f i
   unfolding listed
-  get_d_listed f zero i d h = absurd (omega arith)
-  get_d_listed f (suc n) i d h = either (equal_or_not i n)
+  get_or_listed f zero i d h = absurd (omega arith)
+  get_or_listed f (suc n) i d h = either (equal_or_not i n)
       (λ e. rw e (get_or_at (listed f n) (f n) [] d n (length_listed f n)))
-      (λ e. let l : i < n = omega arith in get_or-append (listed f n) (f n ∷ []) d i (rw length_listed l) ∙ get_d_listed f n i d l)
+      (λ e. let l : i < n = omega arith in get_or-append (listed f n) (f n ∷ []) d i (rw length_listed l) ∙ get_or_listed f n i d l)
 
   -- tests over a list that grows at its end
   pub any_end : (p : A → Bool) (xs : List A) (x : A) → any p (xs ++ (x ∷ [])) ≡ (any p xs || p x)

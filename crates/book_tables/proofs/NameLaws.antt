@@ -20,7 +20,7 @@ use Rattle.book_tables.specs.declared.BookCounts.{BookCounts}
 use Rattle.book_tables.specs.Layout as layout
 use Rattle.book_tables.specs.View.{word_at, name_in, name_of, names_at, attr_of, attrs_at, node_of, book_at}
 use Rattle.book_tables.specs.Fits.{Inside, NamesFit}
-use Rattle.book_tables.proofs.ListedLaws.{listed_more, length_listed, map_listed, get_d_listed, scan_found, scan_place, scan_absent}
+use Rattle.book_tables.proofs.ListedLaws.{listed_more, length_listed, map_listed, get_or_listed, scan_found, scan_place, scan_absent}
 use Rattle.book_tables.proofs.ListedLaws.{place_inside, place_none, place_passes}
 
 true→T : (b : Bool) → b ≡ true → T b
@@ -59,7 +59,7 @@ module _ (text : Bytes) (words : List ℕ) (offset count : ℕ) where
   place_named w l =
       let m : place_where (same w) (listed (name_of text words offset) count) < length (listed (name_of text words offset) count) = omega
       (arith, length_listed (name_of text words offset) count) in
-      sym (same_equal _ _ (ap (same w) (sym (get_d_listed (name_of text words offset) count _ [] l))
+      sym (same_equal _ _ (ap (same w) (sym (get_or_listed (name_of text words offset) count _ [] l))
       ∙ place_passes (same w) (listed (name_of text words offset) count) [] m))
 
   pub place_mem : (w : Bytes) → place w (names_at text words offset count) < count → mem w (names_at text words offset count) ≡ true

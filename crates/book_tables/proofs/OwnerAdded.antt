@@ -21,7 +21,7 @@ use Rattle.book_tables.specs.declared.BookCounts.{BookCounts}
 use Rattle.book_tables.specs.declared.Owner.{Owner}
 use Rattle.book_tables.specs.declared.Owner.TheVariants.{Node, Relationship}
 use Rattle.book_tables.specs.declared.OwnerTables.{OwnerTables}
-use Rattle.book_tables.specs.Layout.{vattr_names, eattr_names, label_names, node_names as nodesAt, relationships}
+use Rattle.book_tables.specs.Layout.{vattr_names, eattr_names, label_names, node_names as nodes_at, relationships}
 use Rattle.book_tables.specs.Layout.{entries, node_heads, node_links, from_heads, from_links, keys}
 use Rattle.book_tables.specs.View.{word_at, name_in, slot_in, name_of, entries_from, node_of, label_part, from_part, to_part, node_slot, rel_from, rel_of, book_at}
 use Rattle.book_tables.specs.Fits.{EntriesFit, Holds}
@@ -217,7 +217,7 @@ module _ (text : Bytes) (words : List ℕ) (c : BookCounts) (b : Book) (holds : 
       slotted : slot < keys
       slotted = slot_small (name_in text w)
 
-      node_named : name_of text node_words_law nodesAt c.nodes ≡ name_in text w
+      node_named : name_of text node_words_law nodes_at c.nodes ≡ name_in text w
       unfolding name_of
       node_named = rw (word_at_law Node w slot room slotted stored)
 
@@ -254,7 +254,7 @@ module _ (text : Bytes) (words : List ℕ) (c : BookCounts) (b : Book) (holds : 
               vattrs = f.vattrs;
               eattrs = f.eattrs;
               labels = f.labels;
-              nodes = names_fit_more text node_words_law nodesAt c.nodes f.nodes (rw (word_at_law Node w slot room slotted stored) name.inside)
+              nodes = names_fit_more text node_words_law nodes_at c.nodes f.nodes (rw (word_at_law Node w slot room slotted stored) name.inside)
                   (rw (node_named, ← node_names_law text node_words_law c, before Node w slot room slotted stored) name.new);
               of_nodes = own_fits Node w slot room slotted stored f.of_nodes;
               rels = λ i l. rel_fits_more c.labels c.labels c.nodes (c.nodes + 1) _ (omega arith) (omega arith) (f.rels i l);

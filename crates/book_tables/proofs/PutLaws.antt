@@ -7,7 +7,7 @@ use lib.ListN.{length, get_or, set, replicate, length-set, length-replicate, get
 use lib.Seq.{get_or-set_same, get_or-set_other, ext_get_or}
 use Rattle.logic.specs.Tests.{either, equal_or_not}
 use Rattle.book_tables.specs.Listed.{listed}
-use Rattle.book_tables.proofs.ListedLaws.{length_listed, get_d_listed}
+use Rattle.book_tables.proofs.ListedLaws.{length_listed, get_or_listed}
 
 -- what is put so far
 pub record PutSoFar (f : ℕ → ℕ) (n : ℕ) (xs : List ℕ) (k : ℕ) : Type 0 where
@@ -31,10 +31,10 @@ module _ (f : ℕ → ℕ) (n : ℕ) where
   pub put_end : (xs : List ℕ) (k : ℕ) → n ≤ k → PutSoFar f n xs k → xs ≡ listed f n
   put_end xs k l w =
       ext_get_or 0 xs (listed f n) (w.long ∙ sym (length_listed f n))
-      (λ i h. w.each i (omega (arith, w.few, w.long)) ∙ sym (get_d_listed f n i 0 (omega (arith, w.long))))
+      (λ i h. w.each i (omega (arith, w.few, w.long)) ∙ sym (get_or_listed f n i 0 (omega (arith, w.long))))
 
   -- where 0 is put everywhere
   pub put_nothing : ((i : ℕ) → f i ≡ 0) → replicate n 0 ≡ listed f n
   put_nothing z =
       ext_get_or 0 (replicate n 0) (listed f n) (length-replicate n 0 ∙ sym (length_listed f n))
-      (λ i h. let l : i < n = omega (arith, length-replicate {A = ℕ} n 0) in get_or-replicate n i 0 0 l ∙ sym (z i) ∙ sym (get_d_listed f n i 0 l))
+      (λ i h. let l : i < n = omega (arith, length-replicate {A = ℕ} n 0) in get_or-replicate n i 0 0 l ∙ sym (z i) ∙ sym (get_or_listed f n i 0 l))

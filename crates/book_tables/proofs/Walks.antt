@@ -11,7 +11,7 @@ use Rattle.chains.proofs.SlotLaws.{slot_small}
 use Rattle.model.specs.Bytes.{Bytes}
 use Rattle.model.specs.ReadBook.{related}
 use Rattle.book_tables.specs.declared.BookCounts.{BookCounts}
-use Rattle.book_tables.specs.Layout.{label_names, node_names as nodesAt, node_heads, node_links, from_heads, from_links, keys}
+use Rattle.book_tables.specs.Layout.{label_names, node_names as nodes_at, node_heads, node_links, from_heads, from_links, keys}
 use Rattle.book_tables.specs.View.{word_at, name_in, name_of, rel_word, node_slot, rel_from, rel_of, book_at}
 use Rattle.book_tables.specs.declared.NameRule.{NameRule}
 use Rattle.book_tables.specs.Fits.{Fits}
@@ -21,11 +21,11 @@ use Rattle.book_tables.proofs.RelationshipLaws.{runs_between, runs_no, related_h
 
 -- an entry before which no node of the slot has the name
 abbrev pub NodeWalk : NameRule → Bytes → List ℕ → Bytes → ℕ → ℕ → Type 0
-NodeWalk rule text words name count entry = Walked (node_slot text words) (slot_of name) count (λ i. alike rule name (name_of text words nodesAt i)) entry
+NodeWalk rule text words name count entry = Walked (node_slot text words) (slot_of name) count (λ i. alike rule name (name_of text words nodes_at i)) entry
 
 module _ (rule : NameRule) (text : Bytes) (words : List ℕ) (c : BookCounts) (f : Fits text words c) (name : Bytes) where
   abbrev named : ℕ → Bool
-  named i = alike rule name (name_of text words nodesAt i)
+  named i = alike rule name (name_of text words nodes_at i)
 
   pub nodes_first : (slot entry : ℕ) → slot ≡ slot_of name → entry ≡ word_at words (node_heads + slot) → NodeWalk rule text words name c.nodes entry
   nodes_first slot entry s e =
@@ -39,7 +39,7 @@ module _ (rule : NameRule) (text : Bytes) (words : List ℕ) (c : BookCounts) (f
     pub nodes_inside : entry - 1 < c.nodes
     nodes_inside = walk_inside words node_heads node_links keys (node_slot text words) c.nodes f.node_chains (slot_of name) named entry (entry - 1) is_next w
 
-    pub nodes_next : (t : Bool) → t ≡ alike rule name (name_in text (word_at words (nodesAt + (entry - 1)))) → t ≡ false
+    pub nodes_next : (t : Bool) → t ≡ alike rule name (name_in text (word_at words (nodes_at + (entry - 1)))) → t ≡ false
         → (next : ℕ) → next ≡ word_at words (node_links + (entry - 1)) → NodeWalk rule text words name c.nodes next
     unfolding name_of
     nodes_next t te tf next e =
@@ -51,7 +51,7 @@ module _ (rule : NameRule) (text : Bytes) (words : List ℕ) (c : BookCounts) (f
         let h = walk_falls words node_heads node_links keys (node_slot text words) c.nodes f.node_chains (slot_of name) named entry
         (entry - 1) is_next w next e in omega arith
 
-    pub node_found : (t : Bool) → t ≡ alike rule name (name_in text (word_at words (nodesAt + (entry - 1)))) → t ≡ true
+    pub node_found : (t : Bool) → t ≡ alike rule name (name_in text (word_at words (nodes_at + (entry - 1)))) → t ≡ true
         → NodeAlike rule text words c name (entry - 1)
     unfolding name_of
     node_found t te tt =

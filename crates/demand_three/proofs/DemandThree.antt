@@ -116,8 +116,8 @@ premises_example = premises_of 16384 (bytes_of example.book) (bytes_of example.r
     example.the_rules example.the_query example.the_request
     (record {
       rules_before = record { book_before = record { memory_whole = omega arith; book_read = example.book_read }; rules_read = example.rules_read };
-      query_read_law = example.query_read_law;
-      request_read_law = example.request_read_law;
+      query_read = example.query_read_law;
+      request_read = example.request_read_law;
     }) refl
 
 -- and a call on them, with two row words lent, answers one row of one name: that of S5, then all ones

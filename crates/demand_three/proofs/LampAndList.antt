@@ -155,7 +155,7 @@ module _ (book rules query request : Bytes) (work work' : List ℕ) (shown : Lam
     Table f = ListTable (length work) (length rows) book rules query request f
 
     in_list_table : (f : Refusal) → list_answer res ≡ refused f → Table f
-    in_list_table f e = ((list_service_table (length work) (length rows) book rules query request).refused_if_law f).0 (sym list_answer_law ∙ e)
+    in_list_table f e = ((list_service_table (length work) (length rows) book rules query request).refused_if f).0 (sym list_answer_law ∙ e)
 
     -- the theorem: whenever the rows fit, yes exactly if the list answers a number above 0
     pub by_the_number : (n w : ℕ) → list_answer res ≡ accepted (record { rows = n; width = w }) → lamp_answer shown ≡ accepted (ltb 0 n)
@@ -172,13 +172,13 @@ module _ (book rules query request : Bytes) (work work' : List ℕ) (shown : Lam
     refuses_alike f e other = go (in_list_table f e)
       where
         go : Table f → lamp_answer shown ≡ refused f
-        go (lamp_first t) = call.answer ∙ ((lamp_service_table (length work) book rules query request).refused_if_law f).1 t
+        go (lamp_first t) = call.answer ∙ ((lamp_service_table (length work) book rules query request).refused_if f).1 t
         go (no_room a n l d) = absurd (other (ap (λ (z : Refusal). z.number) d))
 
     -- what the lamp refuses the list refuses alike
     pub list_refuses_alike : (f : Refusal) → lamp_answer shown ≡ refused f → list_answer res ≡ refused f
-    list_refuses_alike f e = list_answer_law ∙ ((list_service_table (length work) (length rows) book rules query request).refused_if_law f).1
-        (lamp_first (((lamp_service_table (length work) book rules query request).refused_if_law f).0 (sym call.answer ∙ e)))
+    list_refuses_alike f e = list_answer_law ∙ ((list_service_table (length work) (length rows) book rules query request).refused_if f).1
+        (lamp_first (((lamp_service_table (length work) book rules query request).refused_if f).0 (sym call.answer ∙ e)))
 
     -- and where the rows do not fit the lamp says yes
     pub yes_if_no_room : (f : Refusal) → list_answer res ≡ refused f → f.number ≡ 14 → lamp_answer shown ≡ accepted true
@@ -190,7 +190,7 @@ module _ (book rules query request : Bytes) (work work' : List ℕ) (shown : Lam
         some (row ∷ l) words w h = refl
 
         go : Table f → lamp_answer shown ≡ accepted true
-        go (lamp_first t) = absurd (never_14 f (call.answer ∙ ((lamp_service_table (length work) book rules query request).refused_if_law f).1 t) is)
+        go (lamp_first t) = absurd (never_14 f (call.answer ∙ ((lamp_service_table (length work) book rules query request).refused_if f).1 t) is)
         go (no_room {b} {r} {q} {x} a n l d) =
             says (found_for b r q x) (gives_rows (length work) book rules query request b r q x a n) ∙ ap accepted (some (rows_for b r q x) (length rows) _ l)
 

@@ -67,7 +67,7 @@ module _ (work : ℕ) (book rules query request : Bytes) (b : Book) (r : Rules) 
     had_rows =
         let a = rows_ascend b x.identities (asked_query r x q) (asked_policies r x) in
         record {
-          every_row_and_no_other = rows_may_be_had b x.identities (asked_query r x q) (asked_policies r x) (query_named b query q h.read.query_read_law)
+          every_row_and_no_other = rows_may_be_had b x.identities (asked_query r x q) (asked_policies r x) (query_named b query q h.read.query_read)
               (policies_named b rules r h.read.rules_before.rules_read x);
           ascending = a;
           each_once = ascending_none_twice (rows_for b r q x) a;

@@ -62,10 +62,10 @@ module _ (book : Bytes) (words : List ℕ) (k : BookCounts) (query rules : Bytes
 
   -- the query is read as its tree, in few and allowed bytes
   read : QueryAccepted b query (tree_of query)
-  read = query_accepted b query (tree_of query) clear.query_read_law
+  read = query_accepted b query (tree_of query) clear.query_read
 
   pub query_tree : query_text query ≡ just (tree_of query)
-  query_tree = read.is_text_law
+  query_tree = read.is_text
 
   pub query_short : length query ≤ 2048
   query_short = read.short

@@ -19,10 +19,10 @@ use Rattle.model.specs.declared.Edge.{Edge as EdgeData}
 use Rattle.model.specs.declared.Clause.{Clause as ClauseData}
 use Rattle.model.specs.declared.Pattern.{Pattern as PatternData}
 use Rattle.model.proofs.Members.{each_e}
-use Rattle.model.proofs.Places.{get_d_in}
+use Rattle.model.proofs.Places.{get_or_in}
 use Rattle.book_tables.specs.Listed.{listed}
 use Rattle.book_tables.specs.declared.BookCounts.{BookCounts}
-use Rattle.book_tables.proofs.ListedLaws.{length_listed, get_d_listed, map_listed}
+use Rattle.book_tables.proofs.ListedLaws.{length_listed, get_or_listed, map_listed}
 use Rattle.model.specs.PlainData.{no_edge, no_clause}
 use Rattle.query_writer.specs.Writable.{ConditionFits, count_limits, PatternFits}
 use Rattle.woven_tables.specs.declared.WovenCounts.{WovenCounts}
@@ -39,7 +39,7 @@ use Rattle.enforce.specs.OneNamed.{a_name, some_attrs, one_named, NamesOne, AllN
 
 -- the one name stands at the numbers counted, and at no other
 name_at_law : (n i : ℕ) → i < n → get_or (listed (λ j. a_name) n) i [] ≡ a_name
-name_at_law n i h = get_d_listed (λ j. a_name) n i [] h
+name_at_law n i h = get_or_listed (λ j. a_name) n i [] h
 
 only_below : (n i : ℕ) → get_or (listed (λ j. a_name) n) i [] ≡ a_name → i < n
 only_below n i e = either (below_or_not i n) (λ h. h)
@@ -113,8 +113,8 @@ module _ (k : BookCounts) (q r : Bytes) (woven : List ℕ) (c : WovenCounts) (de
       let none : Edge = record { name = []; label = []; from = 0; to = 0 } in
       let es = edges_at (one_named k) q r woven c.edges in
       let here = each_e (λ (x : Edge). x.label ≡ a_name) es declared.edges (get_or es e none)
-      (get_d_in es e none (omega (arith, length_edges (one_named k) q r woven c.edges))) in
-      let is = get_d_listed (λ i. edge_at (one_named k) q r (get_or woven (24 + i) 0) (get_or woven (72 + i) 0)) c.edges e none h in
+      (get_or_in es e none (omega (arith, length_edges (one_named k) q r woven c.edges))) in
+      let is = get_or_listed (λ i. edge_at (one_named k) q r (get_or woven (24 + i) 0) (get_or woven (72 + i) 0)) c.edges e none h in
       only_below k.labels (edge_word woven e / 65536) (sym (ap (λ (x : Edge). x.label) is) ∙ here)
 
   clause_named : (i : ℕ) → i < clause_count c → NamesOne (clause_at (one_named k) q r (what_of woven i) (high_of woven i) (low_of woven i))
@@ -122,8 +122,8 @@ module _ (k : BookCounts) (q r : Bytes) (woven : List ℕ) (c : WovenCounts) (de
   clause_named i h =
       let cs = clauses_at (one_named k) q r woven (clause_count c) in
       let here = each_e NamesOne cs declared.clauses (get_or cs i (excluded 0 0))
-      (get_d_in cs i (excluded 0 0) (omega (arith, length_clauses (one_named k) q r woven (clause_count c)))) in
-      subst NamesOne (get_d_listed (λ i. clause_at (one_named k) q r (what_of woven i) (high_of woven i) (low_of woven i)) (clause_count c) i (excluded 0 0) h) here
+      (get_or_in cs i (excluded 0 0) (omega (arith, length_clauses (one_named k) q r woven (clause_count c)))) in
+      subst NamesOne (get_or_listed (λ i. clause_at (one_named k) q r (what_of woven i) (high_of woven i) (low_of woven i)) (clause_count c) i (excluded 0 0) h) here
 
   pub attributes_below : (i : ℕ) → i < clause_count c → AttributeDeclared k (what_of woven i)
   unfolding clause_at one_named

@@ -15,7 +15,7 @@ use Rattle.model.specs.Weave.{Asked, weave, woven_fault}
 use Rattle.model.specs.Answers.{part_of, pattern_in}
 use Rattle.model.specs.declared.Pattern.{Pattern}
 use Rattle.book_tables.specs.declared.BookCounts.{BookCounts}
-use Rattle.book_tables.specs.View.{book_at, word_at, name_in, name_of as nameNumbered, names_at}
+use Rattle.book_tables.specs.View.{book_at, word_at, name_in, name_of as name_numbered, names_at}
 use Rattle.book_tables.specs.Fits.{NamesFit}
 use Rattle.book_tables.proofs.ListedLaws.{listed_same}
 use Rattle.rules_tables.specs.declared.RulesCounts.{RulesCounts}
@@ -47,7 +47,7 @@ use Rattle.enforce.proofs.ClearLaws.{query_tree, query_short, rules_short, polic
 pub own_actors : (rules : Bytes) (words : List ℕ) (category : ℕ)
     → actors_in rules (take (length words - actors_from category) (drop (actors_from category) words)) (word_at words (actor_count_at category))
     ≡ actors_at rules words category
-unfolding actors_in actors_at names_at nameNumbered
+unfolding actors_in actors_at names_at name_numbered
 own_actors rules words category =
     ap (λ z. actors_in rules z (word_at words (actor_count_at category)))
     (take_all (length words - actors_from category) (drop (actors_from category) words) (simp length-drop (omega arith)))
@@ -85,7 +85,7 @@ module _ (book : Bytes) (words : List ℕ) (k : BookCounts) (query rules : Bytes
     pub query_ready : woven_words ≤ length old → TextReady book words k query query rules rules_words first old c
     unfolding text_of
     query_ready room = record {
-      asked = pattern_asked book words k query (tree_of query) clear.fits clear.query_read_law;
+      asked = pattern_asked book words k query (tree_of query) clear.fits clear.query_read;
       short = omega (arith, query_short book words k query rules rules_words rc category clear);
       stands = omega arith;
       room = clear.rules_fit.room;

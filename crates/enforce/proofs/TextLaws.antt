@@ -20,7 +20,7 @@ use Rattle.model.specs.Weave.{Asked, asked_query, asked_policies}
 use Rattle.model.proofs.Places.{length_map, map_append}
 use Rattle.book_tables.specs.Listed.{listed}
 use Rattle.book_tables.specs.View.{name_of}
-use Rattle.book_tables.proofs.ListedLaws.{map_end, length_listed, get_d_listed, place_passes}
+use Rattle.book_tables.proofs.ListedLaws.{map_end, length_listed, get_or_listed, place_passes}
 use Rattle.rules_tables.specs.declared.RulesCounts.{RulesCounts}
 use Rattle.rules_tables.specs.Layout.{names}
 use Rattle.rules_tables.specs.View.{actors_at, lower_set, tree_or, tree_of, policy_category, policy_text, policy_of, rules_at}
@@ -111,7 +111,7 @@ policy_category_law words c m h =
     let all_of = listed (policy_category words) c.policies in
     let is_m : ℕ → Bool = λ w. eqb w m in
     let n = length_listed (policy_category words) c.policies in
-    let q = ap is_m (sym (get_d_listed (policy_category words) c.policies (policy_place words c m) 0 h)) ∙ place_passes is_m all_of 0 (omega arith) in
+    let q = ap is_m (sym (get_or_listed (policy_category words) c.policies (policy_place words c m) 0 h)) ∙ place_passes is_m all_of 0 (omega arith) in
     eqb→eq (policy_category words (policy_place words c m)) m (subst T (sym q) tt)
 
 module _ (query rules : Bytes) (words : List ℕ) (c : RulesCounts) (fits : Fits rules words c) where

@@ -29,7 +29,7 @@ pub record TextsClear (book : Bytes) (words : List ℕ) (k : BookCounts) (query 
   pub fits : Fits book words k
   pub rules_fit : RulesFit rules rules_words rc
   pub rules_read : read_rules (book_at book words k) rules ≡ accepted (rules_at rules rules_words rc)
-  pub query_read_law : read_query (book_at book words k) query ≡ accepted (tree_of query)
+  pub query_read : read_query (book_at book words k) query ≡ accepted (tree_of query)
   pub counted : category < rc.categories
 
 -- what weaving all texts for a request that is ready asks

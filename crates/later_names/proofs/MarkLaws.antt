@@ -21,7 +21,7 @@ use Rattle.book_tables.specs.Layout as layout
 use Rattle.book_tables.specs.Listed.{listed}
 use Rattle.book_tables.specs.View.{name_of, names_at, book_at}
 use Rattle.book_tables.specs.Fits.{Fits}
-use Rattle.book_tables.proofs.ListedLaws.{any_end, length_listed, get_d_listed}
+use Rattle.book_tables.proofs.ListedLaws.{any_end, length_listed, get_or_listed}
 use Rattle.book_tables.proofs.NameLaws.{equal_same, same_equal, node_names_law, place_named, place_out}
 use Rattle.later_names.specs.Later.{is_later, later_marks}
 use Rattle.later_names.proofs.LaterLaws.{later_at, later_below, later_suc}
@@ -59,12 +59,12 @@ module _ (names : List Name) where
   marks_all marks k e w = ext_get_or false marks (listed (λ i. ltb i (length names) && is_later names i) 256)
       (w.long ∙ sym (length_listed (λ i. ltb i (length names) && is_later names i) 256))
       (λ i l. let h : i < 256 = (let z = w.long in omega arith) in
-      w.each i h ∙ ap (λ z. ltb i z && is_later names i) (sym e) ∙ sym (get_d_listed (λ i. ltb i (length names) && is_later names i) 256 i false h))
+      w.each i h ∙ ap (λ z. ltb i z && is_later names i) (sym e) ∙ sym (get_or_listed (λ i. ltb i (length names) && is_later names i) 256 i false h))
 
 -- the mark of a number
 pub mark_at_law : (names : List Name) (i : ℕ) → i < 256 → get_or (later_marks names) i false ≡ (ltb i (length names) && is_later names i)
 unfolding later_marks
-mark_at_law names i l = get_d_listed (λ i. ltb i (length names) && is_later names i) 256 i false l
+mark_at_law names i l = get_or_listed (λ i. ltb i (length names) && is_later names i) 256 i false l
 
 -- a name that is none of the names is no later one
 none_later : (f : ℕ → Name) (w : Name) (k : ℕ) → mem w (listed f k) ≡ false → mem w (later_below f k) ≡ false

@@ -19,7 +19,7 @@ use Rattle.book_tables.specs.declared.BookCounts.{BookCounts}
 use Rattle.book_tables.specs.Layout as layout
 use Rattle.book_tables.specs.Listed.{listed}
 use Rattle.book_tables.specs.View.{name_of, names_at, book_at}
-use Rattle.book_tables.proofs.ListedLaws.{length_listed, get_d_listed}
+use Rattle.book_tables.proofs.ListedLaws.{length_listed, get_or_listed}
 use Rattle.book_tables.proofs.NameLaws.{node_names_law}
 use Rattle.later_names.specs.Later.{is_later, is_given, is_taken, FoundAbove}
 use Rattle.later_names.proofs.Totals.{any_counted}
@@ -42,7 +42,7 @@ names_listed text words c = node_names_law text words c
 
 module _ (f : ℕ → Name) (n : ℕ) (names : List Name) (are : names ≡ listed f n) (i : ℕ) (inside : i < n) where
   pub name_at_law : get_or names i [] ≡ f i
-  name_at_law = rw are (get_d_listed f n i [] inside)
+  name_at_law = rw are (get_or_listed f n i [] inside)
 
   names_above : take i names ≡ listed f i
   names_above = rw are (take_listed f n i (omega arith))

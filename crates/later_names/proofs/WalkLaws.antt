@@ -13,7 +13,7 @@ use Rattle.model.specs.Names.{Name, same_but_case}
 use Rattle.model.specs.Book.{node_names}
 use Rattle.book_tables.specs.declared.BookCounts.{BookCounts}
 use Rattle.book_tables.specs.declared.NameRule.TheVariants.{AnyCase}
-use Rattle.book_tables.specs.Layout.{node_names as nodesAt, node_links}
+use Rattle.book_tables.specs.Layout.{node_names as nodes_at, node_links}
 use Rattle.book_tables.specs.View.{word_at, name_in, name_of, node_slot, book_at}
 use Rattle.book_tables.specs.Fits.{Fits}
 use Rattle.book_tables.proofs.AlikeLaws.{slot_alike}
@@ -42,16 +42,16 @@ last_counts key k p keyed (suc n) = either (equal_or_not (key n) k)
     go d false e = omega arith
 
 module _ (text : Bytes) (words : List ℕ) (c : BookCounts) (f : Fits text words c) (node : ℕ) (there : node < c.nodes)
-    (name : Name) (its : name ≡ name_of text words nodesAt node) where
+    (name : Name) (its : name ≡ name_of text words nodes_at node) where
   -- a node's name is, case aside, this one
   abbrev pub is_alike : ℕ → Bool
-  is_alike j = same_but_case name (name_of text words nodesAt j)
+  is_alike j = same_but_case name (name_of text words nodes_at j)
 
   abbrev pub Walk : ℕ → ℕ → Type 0
   Walk entry found = Counting (node_slot text words) (slot_of name) is_alike node entry found
 
   keyed : (j : ℕ) → is_alike j ≡ true → node_slot text words j ≡ slot_of name
-  keyed j e = sym (slot_alike AnyCase name (name_of text words nodesAt j) e)
+  keyed j e = sym (slot_alike AnyCase name (name_of text words nodes_at j) e)
 
   came : (n entry found : ℕ) → n ≤ node → entry ≡ last_of (node_slot text words) (slot_of name) n → found ≤ 1
       → total (λ j. one (is_alike j)) n + found ≡ total (λ j. one (is_alike j)) node → Walk entry found
@@ -67,7 +67,7 @@ module _ (text : Bytes) (words : List ℕ) (c : BookCounts) (f : Fits text words
       (e ∙ f.node_chains.nexts node there ∙ ap (λ z. last_of (node_slot text words) (slot_of z) node) (sym its)) (omega arith) (omega arith)
 
   module _ (entry found : ℕ) (some : 0 < entry) (w : Walk entry found) (t : Bool)
-      (told : t ≡ same_but_case name (name_in text (word_at words (nodesAt + (entry - 1))))) where
+      (told : t ≡ same_but_case name (name_in text (word_at words (nodes_at + (entry - 1))))) where
     pub walk_inside : entry - 1 < c.nodes
     walk_inside = let h = w.inside in omega arith
 
@@ -89,12 +89,12 @@ module _ (text : Bytes) (words : List ℕ) (c : BookCounts) (f : Fits text words
         let q = e ∙ f.node_chains.nexts (entry - 1) walk_inside in omega arith
 
     pub walk_two : 0 < found → t ≡ true → FoundAbove (node_names (book_at text words c)) node 2
-    walk_two l e = found_two (name_of text words nodesAt) c.nodes _ (names_listed text words c) node there
+    walk_two l e = found_two (name_of text words nodes_at) c.nodes _ (names_listed text words c) node there
         (let q = here_counted in let o : one t ≡ 1 = ap one e in
-        let z = ap (λ z. total (λ j. one (same_but_case z (name_of text words nodesAt j))) node) its in omega arith)
+        let z = ap (λ z. total (λ j. one (same_but_case z (name_of text words nodes_at j))) node) its in omega arith)
 
   pub walk_over : (entry found : ℕ) → entry ≡ 0 → Walk entry found → FoundAbove (node_names (book_at text words c)) node found
   unfolding total
-  walk_over entry found z w = found_all (name_of text words nodesAt) c.nodes _ (names_listed text words c) node there found
-      (ap (λ z. total (λ j. one (same_but_case z (name_of text words nodesAt j))) node) (sym its)
+  walk_over entry found z w = found_all (name_of text words nodes_at) c.nodes _ (names_listed text words c) node there found
+      (ap (λ z. total (λ j. one (same_but_case z (name_of text words nodes_at j))) node) (sym its)
       ∙ sym w.counted ∙ ap (λ z. total (λ j. one (is_alike j)) z + found) z ∙ (let q : 0 + found ≡ found = omega arith in q))

@@ -21,7 +21,7 @@ use Rattle.book_tables.specs.Layout as layout
 use Rattle.book_tables.specs.Listed.{listed}
 use Rattle.book_tables.specs.View.{name_in, name_of, names_at, book_at}
 use Rattle.book_tables.specs.declared.BookCounts.{BookCounts}
-use Rattle.book_tables.proofs.ListedLaws.{length_listed, get_d_listed}
+use Rattle.book_tables.proofs.ListedLaws.{length_listed, get_or_listed}
 use Rattle.book_tables.proofs.NameLaws.{node_names_law}
 use Rattle.rows.specs.Buffer.{rows_in, Wide}
 use Rattle.rows.specs.BufferLaws.{length_rows_in, rows_in_wide}
@@ -58,7 +58,7 @@ unfolding names_at name_of name_in part_of
 names_short book words counts n =
     let all : node_names (book_at book words counts) ≡ listed (name_of book words layout.node_names) counts.nodes = node_names_law book words counts in
     either (below_or_not n counts.nodes)
-    (λ l. rw (all, get_d_listed (name_of book words layout.node_names) counts.nodes n [] l, length-take)
+    (λ l. rw (all, get_or_listed (name_of book words layout.node_names) counts.nodes n [] l, length-take)
     (omega (arith, mod-lt (get_or words (layout.node_names + n) 0) {m = 32} (omega arith))))
     (λ l. rw (past_end (node_names (book_at book words counts)) n (rw (all, length_listed (name_of book words layout.node_names) counts.nodes) l)) (omega arith))
 

@@ -26,7 +26,7 @@ use Rattle.model.proofs.Scopes.{named_of}
 pub record QueryAccepted (b : Book) (s : Bytes) (q : QueryText) : Type 0 where
   pub short : length s ≤ 2048
   pub allowed : bad_line 1 s ≡ nothing
-  pub is_text_law : query_text s ≡ just q
+  pub is_text : query_text s ≡ just q
   pub faultless : query_fault b q ≡ nothing
 
 -- an accepted query is such a query
@@ -35,7 +35,7 @@ unfolding read_query text_or_fault refusal
 query_accepted b s q e =
     let h = bytes_accepted 3 2048 (λ l. 1) s (text_or_fault b (query_text s)) q e in
     let r = go (query_text s) h.rest in
-    record { short = h.short; allowed = h.allowed; is_text_law = r.0; faultless = r.1 }
+    record { short = h.short; allowed = h.allowed; is_text = r.0; faultless = r.1 }
   where
     go : (m : Maybe QueryText) → text_or_fault b m ≡ accepted q → (m ≡ just q) × (query_fault b q ≡ nothing)
     go nothing f = never _ q f
@@ -47,7 +47,7 @@ pub accept_query : (b : Book) (s : Bytes) (q : QueryText) → QueryAccepted b s 
 unfolding read_query text_or_fault refused_if
 accept_query b s q h =
     accept_bytes 3 2048 (λ l. 1) s (text_or_fault b (query_text s)) q
-    (record { short = h.short; allowed = h.allowed; rest = rw (h.is_text_law, h.faultless) refl })
+    (record { short = h.short; allowed = h.allowed; rest = rw (h.is_text, h.faultless) refl })
 
 -- the names of a text are clear: conditions and Return name what stands in the chains, no name is a vertex and an edge, no edge variable stands twice,
 -- no vertex is excluded from itself

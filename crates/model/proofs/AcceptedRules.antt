@@ -81,7 +81,7 @@ policy_accepted b r c k q (t, a, l, e) f =
       accept_query b t q (record {
         short = subst (λ z. z ≤ 2048) (sym l) (nltb→le 2048 k (not_T (ltb 2048 k) (λ u. h.1.1.1.0 (or_l (ltb 2048 k) (too_many q) u))));
         allowed = allowed_line 1 t a;
-        is_text_law = e;
+        is_text = e;
         faultless = (no_fault (query_faults b q)).1 (
           λ u. h.0 (or_r C (has_undeclared b q) u),
           (

@@ -50,7 +50,7 @@ pub record WovenRow (b : Book) (ids : List Identity) (asked : List Asked) (row :
 pub had_by_family : (b : Book) (ids : List Identity) (query : Asked) (policies : List Asked) (row : List ℕ)
     → MayHave b ids query policies row ↔ ((hs : List Mapped) × Family b ids (query ∷ policies) hs × (family_row hs ≡ row))
 had_by_family b ids query policies row = (
-  λ h. let first : Mapped = record { asked = query; mapping = h.of_query_law } in (
+  λ h. let first : Mapped = record { asked = query; mapping = h.of_query } in (
     first ∷ h.of_policies,
     record { one_each = ap (λ z. query ∷ z) h.each_policy; models = h.models_each; agreeing = h.agreeing; identified = h.identified },
     h.gives,
@@ -65,7 +65,7 @@ had_by_family b ids query policies row = (
         let d : h.asked ≡ query = cc in
         let p : map asked_of hs ≡ policies = cc in
         subst (λ q. MayHave b ids q policies row) d (record {
-          of_query_law = h.mapping;
+          of_query = h.mapping;
           of_policies = hs;
           each_policy = p;
           models_each = f.models;

@@ -14,7 +14,7 @@ use Rattle.model.specs.Lists.{any, place_where, add_new_by, firsts_by}
 use Rattle.model.specs.Names.{add_new, firsts, place}
 use Rattle.model.proofs.Members.{◌∈◌, test, is_true, is_false, Tells, same_tells, alike_i}
 use lib.Seq.{get_or-append-add}
-use Rattle.model.proofs.Places.{get_d_in}
+use Rattle.model.proofs.Places.{get_or_in}
 
 -- the place of what is found stays when more comes behind
 place_before : {A : Type 0} (p : A → Bool) (xs ys : List A) → T (any p xs) → place_where p (xs ++ ys) ≡ place_where p xs
@@ -61,7 +61,7 @@ module _ {A : Type 0} (alike : A → A → Bool) (tells : Tells alike) (d : A) w
   once_more seen w new once i l = ⊎_elim
       (λ t. let h = ltb→lt i (length seen) t in
       rw (get_or-append seen (w ∷ []) d i h)
-      (place_before (alike (get_or seen i d)) seen (w ∷ []) (alike_i alike tells _ seen (get_d_in seen i d h)) ∙ once i h))
+      (place_before (alike (get_or seen i d)) seen (w ∷ []) (alike_i alike tells _ seen (get_or_in seen i d h)) ∙ once i h))
       (λ t. let h : i < length seen → ⊥ = λ k. t (lt→ltb i (length seen) k) in
       let e : i ≡ length seen + 0 = omega (arith, length-append seen (w ∷ [])) in
       let f : get_or (seen ++ (w ∷ [])) i d ≡ w = ap (λ n. get_or (seen ++ (w ∷ [])) n d) e ∙ get_or-append-add seen (w ∷ []) 0 d in

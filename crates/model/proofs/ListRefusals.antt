@@ -24,8 +24,8 @@ use Rattle.model.proofs.TextRefusals.{book_is_text_1, rules_are_text_2, query_is
 use Rattle.model.proofs.Refusals.{found_table}
 use Rattle.model.proofs.Tied.{tied_by_path, memℕ-e, memℕ-i}
 use Rattle.model.specs.Tied.{Untied}
-use Rattle.model.specs.Refused.{returned, Exactly, memory_short, in_book_law, book_first, in_rules_law, AllRead, ListTable, rules_first, in_query_law}
-use Rattle.model.specs.Refused.{in_request_law, in_woven_law, lamp_first, no_room, woven, woven_number, rows_for}
+use Rattle.model.specs.Refused.{returned, Exactly, memory_short, in_book, book_first, in_rules, AllRead, ListTable, rules_first, in_query}
+use Rattle.model.specs.Refused.{in_request, in_woven, lamp_first, no_room, woven, woven_number, rows_for}
 
 -- a test that does not hold everywhere fails somewhere
 fails_somewhere : {A : Type 0} (p : A → Bool) (l : List A) → (T (all p l) → ⊥) → (x : A) × (x ∈ l) × (T (p x) → ⊥)
@@ -105,11 +105,11 @@ module _ (work words : ℕ) (book rules query request : Bytes) where
       → ((f.text ≡ 0) → work < 16384) × ((f.text ≡ 5)
       → ReadAnd (λ b r q x. (woven_number r q x ≡ just f.number) ⊎ ((f.number ≡ 14) × (woven_number r q x ≡ nothing) × TooFewWords b r q x)))
   behind f (lamp_first (rules_first (book_first (memory_short l e)))) = (λ z. l, λ z. let d : f.text ≡ 0 = ap (λ z. z.text) e in absurd (omega arith))
-  behind f (lamp_first (rules_first (book_first (in_book_law l e)))) = let d = book_is_text_1 book f e in (λ z. absurd (omega arith), λ z. absurd (omega arith))
-  behind f (lamp_first (rules_first (in_rules_law {b} u e))) = let d = rules_are_text_2 b rules f e in (λ z. absurd (omega arith), λ z. absurd (omega arith))
-  behind f (lamp_first (in_query_law {b} u e)) = let d = query_is_text_3 b query f e in (λ z. absurd (omega arith), λ z. absurd (omega arith))
-  behind f (lamp_first (in_request_law {b} {r} u q e)) = let d = request_is_text_4 b r request f e in (λ z. absurd (omega arith), λ z. absurd (omega arith))
-  behind f (lamp_first (in_woven_law {b} {r} {q} {x} a n e)) = let d : f.text ≡ 5 = ap (λ z. z.text) e in
+  behind f (lamp_first (rules_first (book_first (in_book l e)))) = let d = book_is_text_1 book f e in (λ z. absurd (omega arith), λ z. absurd (omega arith))
+  behind f (lamp_first (rules_first (in_rules {b} u e))) = let d = rules_are_text_2 b rules f e in (λ z. absurd (omega arith), λ z. absurd (omega arith))
+  behind f (lamp_first (in_query {b} u e)) = let d = query_is_text_3 b query f e in (λ z. absurd (omega arith), λ z. absurd (omega arith))
+  behind f (lamp_first (in_request {b} {r} u q e)) = let d = request_is_text_4 b r request f e in (λ z. absurd (omega arith), λ z. absurd (omega arith))
+  behind f (lamp_first (in_woven {b} {r} {q} {x} a n e)) = let d : f.text ≡ 5 = ap (λ z. z.text) e in
       (λ z. absurd (omega arith), λ z. (b, r, q, x, a, inl (n ∙ ap (λ z. just z.number) (sym e))))
   behind f (no_room {b} {r} {q} {x} a n l e) = let d : f.text ≡ 5 = ap (λ z. z.text) e in
       (λ z. absurd (omega arith), λ z. (b, r, q, x, a, inr (ap (λ z. z.number) e, n, l)))
@@ -117,33 +117,33 @@ module _ (work words : ℕ) (book rules query request : Bytes) where
   -- 15 exactly if working memory is under 16,384 words
   pub found_15 : (list_found work words book rules query request ≡ refused (returned 15 0 0)) ↔ (work < 16384)
   found_15 = (
-    λ e. (behind (returned 15 0 0) ((table.refused_if_law (returned 15 0 0)).0 e)).0 refl,
-    λ l. (table.refused_if_law (returned 15 0 0)).1
+    λ e. (behind (returned 15 0 0) ((table.refused_if (returned 15 0 0)).0 e)).0 refl,
+    λ l. (table.refused_if (returned 15 0 0)).1
         (lamp_first (rules_first (book_first (memory_short l refl)))),
   )
 
   -- 12 exactly if the texts are read and a woven limit is passed
   pub found_12 : (list_found work words book rules query request ≡ refused (returned 12 5 0)) ↔ ReadAnd (λ b r q x. T (woven_too_many (woven r q x)))
   found_12 = (
-    λ e. let (b, r, q, x, a, u) = (behind (returned 12 5 0) ((table.refused_if_law (returned 12 5 0)).0 e)).1 refl in
+    λ e. let (b, r, q, x, a, u) = (behind (returned 12 5 0) ((table.refused_if (returned 12 5 0)).0 e)).1 refl in
         (b, r, q, x, a, (woven_12 (woven r q x) x.identities).0 (⊎_elim (λ n. n) (λ n. let z : ◌≡◌ {A = ℕ} 12 14 = n.0 in absurd (omega arith)) u)),
-    λ u. (table.refused_if_law (returned 12 5 0)).1 (lamp_first (in_woven_law u.4 ((woven_12 (woven u.1 u.2 u.3) u.3.identities).1 u.5) refl)),
+    λ u. (table.refused_if (returned 12 5 0)).1 (lamp_first (in_woven u.4 ((woven_12 (woven u.1 u.2 u.3) u.3.identities).1 u.5) refl)),
   )
 
   -- 13 exactly if no limit is passed and a woven vertex is not tied to an identity
   pub found_13 : (list_found work words book rules query request ≡ refused (returned 13 5 0)) ↔ ReadAnd
       (λ b r q x. (T (woven_too_many (woven r q x)) → ⊥) × Untied (woven r q x) x.identities)
   found_13 = (
-    λ e. let (b, r, q, x, a, u) = (behind (returned 13 5 0) ((table.refused_if_law (returned 13 5 0)).0 e)).1 refl in
+    λ e. let (b, r, q, x, a, u) = (behind (returned 13 5 0) ((table.refused_if (returned 13 5 0)).0 e)).1 refl in
         (b, r, q, x, a, (woven_13 (woven r q x) x.identities).0 (⊎_elim (λ n. n) (λ n. let z : ◌≡◌ {A = ℕ} 13 14 = n.0 in absurd (omega arith)) u)),
-    λ u. (table.refused_if_law (returned 13 5 0)).1 (lamp_first (in_woven_law u.4 ((woven_13 (woven u.1 u.2 u.3) u.3.identities).1 u.5) refl)),
+    λ u. (table.refused_if (returned 13 5 0)).1 (lamp_first (in_woven u.4 ((woven_13 (woven u.1 u.2 u.3) u.3.identities).1 u.5) refl)),
   )
 
   -- 14 exactly if the woven pattern has no fault and the rows do not fit
   pub found_14 : (list_found work words book rules query request ≡ refused (returned 14 5 0)) ↔ ReadAnd
       (λ b r q x. (woven_number r q x ≡ nothing) × TooFewWords b r q x)
   found_14 = (
-    λ e. let (b, r, q, x, a, u) = (behind (returned 14 5 0) ((table.refused_if_law (returned 14 5 0)).0 e)).1 refl in (
+    λ e. let (b, r, q, x, a, u) = (behind (returned 14 5 0) ((table.refused_if (returned 14 5 0)).0 e)).1 refl in (
       b,
       r,
       q,
@@ -152,5 +152,5 @@ module _ (work words : ℕ) (book rules query request : Bytes) where
       ⊎_elim (λ n. ⊎_elim (λ z. absurd (omega arith)) (λ z. absurd (omega arith)) (woven_number_law (woven r q x) x.identities 14 n))
           (λ n. (n.1, n.2)) u,
     ),
-    λ u. (table.refused_if_law (returned 14 5 0)).1 (no_room u.4 u.5.0 u.5.1 refl),
+    λ u. (table.refused_if (returned 14 5 0)).1 (no_room u.4 u.5.0 u.5.1 refl),
   )

@@ -36,16 +36,16 @@ pub place_injective : (vs : List Bytes) (v u : Bytes) → v ∈ vs → u ∈ vs 
 place_injective vs v u n k e = sym (at_place vs v n).1 ∙ ap (λ i. get_or vs i []) e ∙ (at_place vs u k).1
 
 -- what stands at a place is of the list
-pub get_d_in : {A : Type 0} (l : List A) (i : ℕ) (d : A) → i < length l → get_or l i d ∈ l
-get_d_in [] i d h = absurd (omega arith)
-get_d_in (x ∷ l) zero d h = Memᴰ.head refl
-get_d_in (x ∷ l) (suc i) d h = Memᴰ.tail (get_d_in l i d (omega arith))
+pub get_or_in : {A : Type 0} (l : List A) (i : ℕ) (d : A) → i < length l → get_or l i d ∈ l
+get_or_in [] i d h = absurd (omega arith)
+get_or_in (x ∷ l) zero d h = Memᴰ.head refl
+get_or_in (x ∷ l) (suc i) d h = Memᴰ.tail (get_or_in l i d (omega arith))
 
 -- f of what stands at a place
-pub get_d_map : {A B : Type 0} (f : A → B) (l : List A) (i : ℕ) (a : A) (d : B) → i < length l → get_or (map f l) i d ≡ f (get_or l i a)
-get_d_map f [] i a d h = absurd (omega arith)
-get_d_map f (x ∷ l) zero a d h = refl
-get_d_map f (x ∷ l) (suc i) a d h = get_d_map f l i a d (omega arith)
+pub get_or_map : {A B : Type 0} (f : A → B) (l : List A) (i : ℕ) (a : A) (d : B) → i < length l → get_or (map f l) i d ≡ f (get_or l i a)
+get_or_map f [] i a d h = absurd (omega arith)
+get_or_map f (x ∷ l) zero a d h = refl
+get_or_map f (x ∷ l) (suc i) a d h = get_or_map f l i a d (omega arith)
 
 -- f of each element is as long a list
 pub length_map : {A B : Type 0} (f : A → B) (l : List A) → length (map f l) ≡ length l
@@ -68,7 +68,7 @@ unfolding place place_where
 place_at [] i once l = absurd (omega arith)
 place_at (x ∷ vs) zero once l = rw (is_true (same x x) (same_refl x)) refl
 place_at (x ∷ vs) (suc i) once l = let w = get_or vs i [] in ⊎_elim
-    (λ t. absurd (once (twice_i x vs (subst (λ z. z ∈ vs) (same→eq w x t) (get_d_in vs i [] (omega arith))))))
+    (λ t. absurd (once (twice_i x vs (subst (λ z. z ∈ vs) (same→eq w x t) (get_or_in vs i [] (omega arith))))))
     (λ t. rw (is_false (same w x) t) (ap suc (place_at vs i (λ u. once (twice_tail x vs u)) (omega arith))))
     (test (same w x))
 

@@ -22,9 +22,9 @@ use Rattle.model.specs.ReadRules.{read_rules}
 use Rattle.model.specs.Request.{Request, read_request}
 use Rattle.model.specs.Service.{with_work, book_service, rules_service, query_service, request_service, writer_text, writer_service, FoundRows}
 use Rattle.model.specs.Service.{rows_asked, list_found, list_rows, list_service, lamp_service}
-use Rattle.model.specs.Refused.{returned, Exactly, BookTable, memory_short, in_book_law, BookRead, RulesTable, book_first, in_rules_law, RulesRead}
-use Rattle.model.specs.Refused.{QueryTable, in_query_law, RequestTable, rules_first, in_request_law, WriterTable, no_room, AllRead, woven_number}
-use Rattle.model.specs.Refused.{found_for, LampTable, in_woven_law, ListTable, lamp_first}
+use Rattle.model.specs.Refused.{returned, Exactly, BookTable, memory_short, in_book, BookRead, RulesTable, book_first, in_rules, RulesRead}
+use Rattle.model.specs.Refused.{QueryTable, in_query, RequestTable, rules_first, in_request, WriterTable, no_room, AllRead, woven_number}
+use Rattle.model.specs.Refused.{found_for, LampTable, in_woven, ListTable, lamp_first}
 use Rattle.model.proofs.Members.{test, is_true, is_false}
 use Rattle.model.proofs.Faults.{over_refused, number_refused, need_refused}
 use Rattle.model.proofs.Outcomes.{never, accept_e, if_e}
@@ -33,7 +33,7 @@ use Rattle.model.proofs.Decides.{or_l, or_r, or_cases}
 -- a table that says when each refusal is given says all that `Exactly` asks
 pub exactly : {A : Type 0} (answer : Outcome A) (Table : Refusal → Type 0) → ((f : Refusal) → (answer ≡ refused f) ↔ Table f) → Exactly answer Table
 exactly {A} answer Table h = record {
-  refused_if_law = h;
+  refused_if = h;
   accepted_if = (λ u f t. never f u.0 (sym ((h f).1 t) ∙ u.1), other answer refl);
   one_refusal = λ f g t u. let e : ◌≡◌ {A = Outcome A} (refused f) (refused g) = sym ((h f).1 t) ∙ (h g).1 u in cc;
 }
@@ -50,8 +50,8 @@ after_book_law work book g f =
     let w = over_refused work 16384 (returned 15 0 0) (on_accept (read_book book) g) f in
     let n = need_refused (read_book book) g f in (
       λ e. ⊎_elim (λ u. inl (memory_short u.0 u.1))
-          (λ u. ⊎_elim (λ d. inl (in_book_law u.0 d)) (λ v. inr (v.0, record { memory_whole = u.0; book_read = v.1 }, v.2)) (n.0 u.1)) (w.0 e),
-      ⊎_elim (λ t. w.1 (elim t [ memory_short l e ↦ inl (l, e) | in_book_law l e ↦ inr (l, n.1 (inl e)) ]))
+          (λ u. ⊎_elim (λ d. inl (in_book u.0 d)) (λ v. inr (v.0, record { memory_whole = u.0; book_read = v.1 }, v.2)) (n.0 u.1)) (w.0 e),
+      ⊎_elim (λ t. w.1 (elim t [ memory_short l e ↦ inl (l, e) | in_book l e ↦ inr (l, n.1 (inl e)) ]))
           (λ u. w.1 (inr (u.1.memory_whole, n.1 (inr (u.0, u.1.book_read, u.2))))),
     )
 
@@ -60,7 +60,7 @@ after_rules_law : {A : Type 0} (work : ℕ) (book rules : Bytes) (g : Book → R
     → (with_work work (on_accept (read_book book) (λ b. on_accept (read_rules b rules) (g b))) ≡ refused f) ↔
     (RulesTable work book rules f ⊎ ((b : Book) × (r : Rules) × RulesRead work book rules b r × (g b r ≡ refused f)))
 after_rules_law {A} work book rules g f = (
-  λ e. ⊎_elim (λ t. inl (book_first t)) (λ u. ⊎_elim (λ d. inl (in_rules_law u.1 d))
+  λ e. ⊎_elim (λ t. inl (book_first t)) (λ u. ⊎_elim (λ d. inl (in_rules u.1 d))
       (λ v. inr (u.0, v.0, record { book_before = u.1; rules_read = v.1 }, v.2)) ((need_refused (read_rules u.0 rules) (g u.0) f).0 u.2))
       (before.0 e),
   λ u. before.1 (⊎_elim (λ t. table t) (λ v. inr
@@ -75,7 +75,7 @@ after_rules_law {A} work book rules g f = (
 
     table : RulesTable work book rules f → BookTable work book f ⊎ ((b : Book) × BookRead work book b × (rest b ≡ refused f))
     table (book_first t) = inl t
-    table (in_rules_law {b} u e) = inr (b, u, (need_refused (read_rules b rules) (g b) f).1 (inl e))
+    table (in_rules {b} u e) = inr (b, u, (need_refused (read_rules b rules) (g b) f).1 (inl e))
 
 -- what is accepted is not refused
 pub accepts : {A C : Type 0} (a : A) (f : Refusal) → ◌≡◌ {A = Outcome A} (accepted a) (refused f) → C
@@ -97,27 +97,27 @@ rules_table work book rules = exactly _ (RulesTable work book rules)
 pub query_table : (work : ℕ) (book query : Bytes) → Exactly (query_service work book query).answer (QueryTable work book query)
 unfolding query_service
 query_table work book query = exactly _ (QueryTable work book query) (λ f. (
-  λ e. ⊎_elim book_first (λ u. ⊎_elim (in_query_law u.1) (λ v. accepts _ f v.2) ((need_refused (read_query u.0 query) _ f).0 u.2))
+  λ e. ⊎_elim book_first (λ u. ⊎_elim (in_query u.1) (λ v. accepts _ f v.2) ((need_refused (read_query u.0 query) _ f).0 u.2))
       ((after_book_law work book _ f).0 e),
   back f,
 ))
   where
     back : (f : Refusal) → QueryTable work book query f → (query_service work book query).answer ≡ refused f
     back f (book_first t) = (after_book_law work book _ f).1 (inl t)
-    back f (in_query_law {b} u e) = (after_book_law work book _ f).1 (inr (b, u, (need_refused (read_query b query) _ f).1 (inl e)))
+    back f (in_query {b} u e) = (after_book_law work book _ f).1 (inr (b, u, (need_refused (read_query b query) _ f).1 (inl e)))
 
 -- the request reader refuses by its table, and else accepts
 pub request_table : (work : ℕ) (book rules request : Bytes) → Exactly (request_service work book rules request).answer (RequestTable work book rules request)
 unfolding request_service
 request_table work book rules request = exactly _ (RequestTable work book rules request) (λ f. (
-  λ e. ⊎_elim rules_first (λ u. ⊎_elim (in_request_law u.2) (λ v. accepts _ f v.2) ((need_refused (read_request u.0 u.1 request) _ f).0 u.3))
+  λ e. ⊎_elim rules_first (λ u. ⊎_elim (in_request u.2) (λ v. accepts _ f v.2) ((need_refused (read_request u.0 u.1 request) _ f).0 u.3))
       ((after_rules_law work book rules _ f).0 e),
   back f,
 ))
   where
     back : (f : Refusal) → RequestTable work book rules request f → (request_service work book rules request).answer ≡ refused f
     back f (rules_first t) = (after_rules_law work book rules _ f).1 (inl t)
-    back f (in_request_law {b} {r} u e) = (after_rules_law work book rules _ f).1 (inr (b, r, u, (need_refused (read_request b r request) _ f).1 (inl e)))
+    back f (in_request {b} {r} u e) = (after_rules_law work book rules _ f).1 (inr (b, r, u, (need_refused (read_request b r request) _ f).1 (inl e)))
 
 -- refused if k is over m or over n
 either_refused : {A : Type 0} (m n k : ℕ) (g : Refusal) (a : A) (f : Refusal)
@@ -133,7 +133,7 @@ either_refused {A} m n k g a f = ⊎_elim
 pub writer_table : (work room : ℕ) (book rules query : Bytes) → Exactly (writer_text work room book rules query) (WriterTable work room book rules query)
 unfolding writer_text refusal
 writer_table work room book rules query = exactly _ (WriterTable work room book rules query) (λ f. (
-  λ e. ⊎_elim rules_first (λ u. ⊎_elim (in_query_law u.2)
+  λ e. ⊎_elim rules_first (λ u. ⊎_elim (in_query u.2)
       (λ v. let w = (either_refused room 2048 (length (written_query (pattern_of v.0))) (returned 14 3 1) (written_query (pattern_of v.0)) f).0 v.2 in
       no_room u.2 v.1 w.0 w.1)
       ((need_refused (read_query u.0 query) _ f).0 u.3)) ((after_rules_law work book rules _ f).0 e),
@@ -142,7 +142,7 @@ writer_table work room book rules query = exactly _ (WriterTable work room book 
   where
     back : (f : Refusal) → WriterTable work room book rules query f → writer_text work room book rules query ≡ refused f
     back f (rules_first t) = (after_rules_law work book rules _ f).1 (inl t)
-    back f (in_query_law {b} {r} u e) = (after_rules_law work book rules _ f).1 (inr (b, r, u, (need_refused (read_query b query) _ f).1 (inl e)))
+    back f (in_query {b} {r} u e) = (after_rules_law work book rules _ f).1 (inr (b, r, u, (need_refused (read_query b query) _ f).1 (inl e)))
     back f (no_room {b} {r} {q} u e l d) = (after_rules_law work book rules _ f).1 (inr (
       b,
       r,
@@ -163,9 +163,9 @@ pub rows_table : (work : ℕ) (book rules query request : Bytes)
     → Exactly (rows_asked work book rules query request) (LampTable work book rules query request)
 unfolding rows_asked
 rows_table work book rules query request = exactly _ (LampTable work book rules query request) (λ f. (
-  λ e. ⊎_elim rules_first (λ u. ⊎_elim (in_query_law u.2) (λ v. ⊎_elim (in_request_law u.2 v.1)
+  λ e. ⊎_elim rules_first (λ u. ⊎_elim (in_query u.2) (λ v. ⊎_elim (in_request u.2 v.1)
       (λ w. let z = (woven_refused _ u.1 v.0 w.0 f).0 w.2 in
-      in_woven_law (record { rules_before = u.2; query_read_law = v.1; request_read_law = w.1 }) z.1 z.2)
+      in_woven (record { rules_before = u.2; query_read = v.1; request_read = w.1 }) z.1 z.2)
       ((need_refused (read_request u.0 u.1 request) _ f).0 v.2))
       ((need_refused (read_query u.0 query) _ f).0 u.3)) ((after_rules_law work book rules _ f).0 e),
   back f,
@@ -173,10 +173,10 @@ rows_table work book rules query request = exactly _ (LampTable work book rules 
   where
     back : (f : Refusal) → LampTable work book rules query request f → rows_asked work book rules query request ≡ refused f
     back f (rules_first t) = (after_rules_law work book rules _ f).1 (inl t)
-    back f (in_query_law {b} {r} u e) = (after_rules_law work book rules _ f).1 (inr (b, r, u, (need_refused (read_query b query) _ f).1 (inl e)))
-    back f (in_request_law {b} {r} {q} u e d) = (after_rules_law work book rules _ f).1
+    back f (in_query {b} {r} u e) = (after_rules_law work book rules _ f).1 (inr (b, r, u, (need_refused (read_query b query) _ f).1 (inl e)))
+    back f (in_request {b} {r} {q} u e d) = (after_rules_law work book rules _ f).1
         (inr (b, r, u, (need_refused (read_query b query) _ f).1 (inr (q, e, (need_refused (read_request b r request) _ f).1 (inl d)))))
-    back f (in_woven_law {b} {r} {q} {x} {n} a e d) = (after_rules_law work book rules _ f).1
+    back f (in_woven {b} {r} {q} {x} {n} a e d) = (after_rules_law work book rules _ f).1
         (inr (
           b,
           r,
@@ -184,9 +184,9 @@ rows_table work book rules query request = exactly _ (LampTable work book rules 
           (need_refused (read_query b query) _ f).1
               (inr (
                 q,
-                a.query_read_law,
+                a.query_read,
                 (need_refused (read_request b r request) _ f).1
-                    (inr (x, a.request_read_law, (woven_refused _ r q x f).1 (n, e, d))),
+                    (inr (x, a.request_read, (woven_refused _ r q x f).1 (n, e, d))),
               )),
         ))
 
@@ -225,8 +225,8 @@ finding work book rules query request found e =
       x = f.0;
       read = record {
         rules_before = record { book_before = record { memory_whole = w.0; book_read = a.1 }; rules_read = c.1 };
-        query_read_law = d.1;
-        request_read_law = f.1;
+        query_read = d.1;
+        request_read = f.1;
       };
       woven = g.0;
       found_is = sym (same_accepted (found_for a.0 c.0 d.0 f.0) found g.1);
@@ -240,8 +240,8 @@ gives_rows work book rules query request b r q x read clear = rw (
   le-ltb work 16384 read.rules_before.book_before.memory_whole,
   read.rules_before.book_before.book_read,
   read.rules_before.rules_read,
-  read.query_read_law,
-  read.request_read_law,
+  read.query_read,
+  read.request_read,
   clear,
 )
 
@@ -250,7 +250,7 @@ pub found_table : (work words : ℕ) (book rules query request : Bytes)
     → Exactly (list_found work words book rules query request) (ListTable work words book rules query request)
 unfolding list_found refusal
 found_table work words book rules query request = exactly _ (ListTable work words book rules query request) (λ f. (
-  λ e. ⊎_elim (λ d. lamp_first (((rows_table work book rules query request).refused_if_law f).0 d)) (λ u. too_many_law f u.0 u.1 u.2) ((found f).0 e),
+  λ e. ⊎_elim (λ d. lamp_first (((rows_table work book rules query request).refused_if f).0 d)) (λ u. too_many_law f u.0 u.1 u.2) ((found f).0 e),
   back f,
 ))
   where
@@ -274,7 +274,7 @@ found_table work words book rules query request = exactly _ (ListTable work word
         no_room t.read t.woven (subst (λ (z : FoundRows). words < length z.rows * z.width) t.found_is v.0) v.1
 
     back : (f : Refusal) → ListTable work words book rules query request f → on_accept (rows_asked work book rules query request) over ≡ refused f
-    back f (lamp_first t) = (found f).1 (inl (((rows_table work book rules query request).refused_if_law f).1 t))
+    back f (lamp_first t) = (found f).1 (inl (((rows_table work book rules query request).refused_if f).1 t))
     back f (no_room {b} {r} {q} {x} a e l d) = (found f).1
         (inr (found_for b r q x, gives_rows work book rules query request b r q x a e, (exceeds f (found_for b r q x)).1 (l, d)))
 
@@ -282,7 +282,7 @@ found_table work words book rules query request = exactly _ (ListTable work word
 pub answer_exactly : {A B : Type 0} (o : Outcome A) (g : A → B) (Table : Refusal → Type 0) → Exactly o Table → Exactly (on_accept o (λ a. accepted (g a))) Table
 answer_exactly o g Table h = exactly _ Table
     (λ f. let n = need_refused o (λ a. accepted (g a)) f in
-    (λ e. ⊎_elim (h.refused_if_law f).0 (λ u. accepts _ f u.2) (n.0 e), λ t. n.1 (inl ((h.refused_if_law f).1 t))))
+    (λ e. ⊎_elim (h.refused_if f).0 (λ u. accepts _ f u.2) (n.0 e), λ t. n.1 (inl ((h.refused_if f).1 t))))
 
 -- the rows are refused by the list's table, and else given
 pub list_table : (work words : ℕ) (book rules query request : Bytes)

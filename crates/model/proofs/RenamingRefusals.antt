@@ -14,7 +14,7 @@ use Rattle.model.specs.Book.{Book, node_names}
 use Rattle.model.specs.ReadBook.{read_book_by}
 use Rattle.model.specs.Renaming.{later_names, renamed, first_stuck, declared_at, unless_stuck, renamed_book}
 use Rattle.model.specs.Service.{with_work, book_written, book_writer, rename_service}
-use Rattle.model.specs.Refused.{returned, Exactly, memory_short, in_book_law, no_room, RenameTable, stuck}
+use Rattle.model.specs.Refused.{returned, Exactly, memory_short, in_book, no_room, RenameTable, stuck}
 use Rattle.model.proofs.Faults.{over_refused, need_refused}
 use Rattle.model.proofs.Outcomes.{no_just}
 use Rattle.model.proofs.Refusals.{exactly, accepts, answer_exactly}
@@ -49,7 +49,7 @@ unfolding book_written with_work refusal
 rename_table work room book = exactly _ (RenameTable work room book) (λ f. (
   λ e. ⊎_elim (λ u. memory_short u.0 u.1)
       (λ u. ⊎_elim
-      (λ v. ⊎_elim (in_book_law u.0) (λ w. stuck u.0 w.2 w.3 w.4) ((renamed_refused book f).0 v))
+      (λ v. ⊎_elim (in_book u.0) (λ w. stuck u.0 w.2 w.3 w.4) ((renamed_refused book f).0 v))
       (λ v. ⊎_elim (λ w. no_room u.0 v.1 w.0 w.1) (λ w. accepts _ f w.1) ((over f v.0).0 v.2))
       ((written f).0 u.1)) ((memory f).0 e),
   back f,
@@ -72,7 +72,7 @@ rename_table work room book = exactly _ (RenameTable work room book) (λ f. (
 
     back : (f : Refusal) → RenameTable work room book f → book_written work room (renamed_book book) ≡ refused f
     back f (memory_short l e) = (memory f).1 (inl (l, e))
-    back f (in_book_law l e) = (memory f).1 (inr (l, (written f).1 (inl ((renamed_refused book f).1 (inl e)))))
+    back f (in_book l e) = (memory f).1 (inr (l, (written f).1 (inl ((renamed_refused book f).1 (inl e)))))
     back f (stuck {b} {n} l r k e) = (memory f).1 (inr (l, (written f).1 (inl ((renamed_refused book f).1 (inr (b, n, r, k, e))))))
     back f (no_room {t} l r o e) = (memory f).1 (inr (l, (written f).1 (inr (t, r, (over f t).1 (inl (o, e))))))
 

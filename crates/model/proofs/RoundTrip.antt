@@ -93,7 +93,7 @@ pub record WriterGives (book query t : Bytes) : Type 0 where
   pub b : Book
   pub q : QueryText
   pub book_read : read_book book ≡ accepted b
-  pub query_read_law : read_query b query ≡ accepted q
+  pub query_read : read_query b query ≡ accepted q
   pub is_written : written_query (pattern_of q) ≡ t
   pub in_form : t ≡ paper_form q
   pub reads_back : ReadsBack b q
@@ -111,7 +111,7 @@ writer_gives work room book rules query t e =
       b = a.0;
       q = q;
       book_read = a.1;
-      query_read_law = d.1;
+      query_read = d.1;
       is_written = f.0;
       in_form = sym f.0
           ∙ written_in_paper_form a.0 query q d.1;

@@ -26,8 +26,8 @@ use Rattle.model.specs.RefusalTable.{grammar_broken}
 use Rattle.model.specs.RefusalTable.{not_declared, second_time, not_of_the_type, passes_the_limit, excluded_from_itself, lacks_an_actor}
 use Rattle.model.specs.RefusalTable.{has_no_policy, no_requestor, woven_limit_passed, vertex_not_tied, rows_exceed_words, written_too_long}
 use Rattle.model.specs.RefusalTable.{book_exceeds_buffer, InTable, InTableBut14}
-use Rattle.model.specs.Refused.{returned, BookTable, memory_short, in_book_law, RulesTable, book_first, in_rules_law, QueryTable, in_query_law}
-use Rattle.model.specs.Refused.{RequestTable, rules_first, in_request_law, WriterTable, no_room, LampTable, in_woven_law, ListTable, lamp_first, woven}
+use Rattle.model.specs.Refused.{returned, BookTable, memory_short, in_book, RulesTable, book_first, in_rules, QueryTable, in_query}
+use Rattle.model.specs.Refused.{RequestTable, rules_first, in_request, WriterTable, no_room, LampTable, in_woven, ListTable, lamp_first, woven}
 use Rattle.model.specs.Refused.{RenameTable, stuck, TidyTable}
 use Rattle.model.proofs.Members.{test, is_true, is_false}
 use Rattle.model.proofs.Faults.{AtLine}
@@ -59,7 +59,7 @@ number_in P (r ∷ rows) n u e = ⊎_elim
 -- the rows that a line of the book or of the rules can give
 module _ (t l : ℕ) (from : 1 ≤ t) (to : t ≤ 2) (h : 1 ≤ l) where
   line_of : LineOf t l
-  line_of = record { is_text_law = (from, omega arith); from_one = h; query_is_line_1 = λ e. absurd (omega arith) }
+  line_of = record { is_text = (from, omega arith); from_one = h; query_is_line_1 = λ e. absurd (omega arith) }
 
   name_on : NameOn t l
   name_on = record { line_of = line_of; request_is_line_1 = λ e. absurd (omega arith) }
@@ -81,13 +81,13 @@ module _ (t l : ℕ) (from : 1 ≤ t) (to : t ≤ 2) (h : 1 ≤ l) where
 
 -- the query's line, and the lines of a request
 query_line : LineOf 3 1
-query_line = record { is_text_law = (omega arith, omega arith); from_one = omega arith; query_is_line_1 = λ e. refl }
+query_line = record { is_text = (omega arith, omega arith); from_one = omega arith; query_is_line_1 = λ e. refl }
 
 query_name : NameOn 3 1
 query_name = record { line_of = query_line; request_is_line_1 = λ e. refl }
 
 request_line_law : (l : ℕ) → 1 ≤ l → LineOf 4 l
-request_line_law l h = record { is_text_law = (omega arith, omega arith); from_one = h; query_is_line_1 = λ e. absurd (omega arith) }
+request_line_law l h = record { is_text = (omega arith, omega arith); from_one = h; query_is_line_1 = λ e. absurd (omega arith) }
 
 request_name : NameOn 4 1
 request_name = record { line_of = request_line_law 1 (omega arith); request_is_line_1 = λ e. refl }
@@ -229,61 +229,61 @@ request_in_table b r s f e = text_row (omega arith, omega arith) request_line_la
 book_rows : (work : ℕ) (book : Bytes) (f : Refusal) → BookTable work book f → InTableBut14 f
 unfolding read_book
 book_rows work book f (memory_short l e) = in_table e memory_is_short
-book_rows work book f (in_book_law l e) = book_in_table same_but_case book f e
+book_rows work book f (in_book l e) = book_in_table same_but_case book f e
 
 rules_rows : (work : ℕ) (book rules : Bytes) (f : Refusal) → RulesTable work book rules f → InTableBut14 f
 rules_rows work book rules f (book_first t) = book_rows work book f t
-rules_rows work book rules f (in_rules_law {b} u e) = rules_in_table b rules f e
+rules_rows work book rules f (in_rules {b} u e) = rules_in_table b rules f e
 
 -- if the book reader refuses, then with a row of the table
 pub book_refuses_by_the_table : (work : ℕ) (book : Bytes) (f : Refusal) → (book_service work book).answer ≡ refused f → InTable f
-book_refuses_by_the_table work book f e = fault_row (book_rows work book f (((book_table work book).refused_if_law f).0 e))
+book_refuses_by_the_table work book f e = fault_row (book_rows work book f (((book_table work book).refused_if f).0 e))
 
 -- so does the rules reader
 pub rules_refuse_by_the_table : (work : ℕ) (book rules : Bytes) (f : Refusal) → (rules_service work book rules).answer ≡ refused f → InTable f
-rules_refuse_by_the_table work book rules f e = fault_row (rules_rows work book rules f (((rules_table work book rules).refused_if_law f).0 e))
+rules_refuse_by_the_table work book rules f e = fault_row (rules_rows work book rules f (((rules_table work book rules).refused_if f).0 e))
 
 -- so does the query reader
 pub query_refuses_by_the_table : (work : ℕ) (book query : Bytes) (f : Refusal) → (query_service work book query).answer ≡ refused f → InTable f
-query_refuses_by_the_table work book query f e = go (((query_table work book query).refused_if_law f).0 e)
+query_refuses_by_the_table work book query f e = go (((query_table work book query).refused_if f).0 e)
   where
     go : QueryTable work book query f → InTable f
     go (book_first t) = fault_row (book_rows work book f t)
-    go (in_query_law {b} u d) = fault_row (query_in_table b query f d)
+    go (in_query {b} u d) = fault_row (query_in_table b query f d)
 
 -- so does the request reader
 pub request_refuses_by_the_table : (work : ℕ) (book rules request : Bytes)
     (f : Refusal) → (request_service work book rules request).answer ≡ refused f → InTable f
-request_refuses_by_the_table work book rules request f e = go (((request_table work book rules request).refused_if_law f).0 e)
+request_refuses_by_the_table work book rules request f e = go (((request_table work book rules request).refused_if f).0 e)
   where
     go : RequestTable work book rules request f → InTable f
     go (rules_first t) = fault_row (rules_rows work book rules f t)
-    go (in_request_law {b} {r} u d) = fault_row (request_in_table b r request f d)
+    go (in_request {b} {r} u d) = fault_row (request_in_table b r request f d)
 
 -- so does the query writer
 pub writer_refuses_by_the_table : (work : ℕ) (buffer book rules query : Bytes)
     (f : Refusal) → (writer_service work buffer book rules query).answer ≡ refused f → InTable f
-writer_refuses_by_the_table work buffer book rules query f e = go (((writer_service_table work buffer book rules query).refused_if_law f).0 e)
+writer_refuses_by_the_table work buffer book rules query f e = go (((writer_service_table work buffer book rules query).refused_if f).0 e)
   where
     go : WriterTable work (length buffer) book rules query f → InTable f
     go (rules_first t) = fault_row (rules_rows work book rules f t)
-    go (in_query_law {b} u d) = fault_row (query_in_table b query f d)
+    go (in_query {b} u d) = fault_row (query_in_table b query f d)
     go (no_room u d l g) = no_room_row g written_too_long
 
 -- so does the renaming
 pub rename_refuses_by_the_table : (work : ℕ) (buffer book : Bytes) (f : Refusal) → (rename_service work buffer book).answer ≡ refused f → InTable f
-rename_refuses_by_the_table work buffer book f e = go (((rename_service_table work buffer book).refused_if_law f).0 e)
+rename_refuses_by_the_table work buffer book f e = go (((rename_service_table work buffer book).refused_if f).0 e)
   where
     go : RenameTable work (length buffer) book f → InTable f
     go (memory_short l d) = fault_row (in_table d memory_is_short)
-    go (in_book_law l d) = fault_row (book_in_table same book f d)
+    go (in_book l d) = fault_row (book_in_table same book f d)
     go (stuck {n = n} l r k d) =
         fault_row (in_table d (row_5 1 (declared_at n (lines_of book)) (omega arith) (omega arith) (declared_from_one n (lines_of book))))
     go (no_room l r o d) = no_room_row d book_exceeds_buffer
 
 -- so does the tidy book
 pub tidy_refuses_by_the_table : (work : ℕ) (buffer book : Bytes) (f : Refusal) → (tidy_service work buffer book).answer ≡ refused f → InTable f
-tidy_refuses_by_the_table work buffer book f e = go (((tidy_service_table work buffer book).refused_if_law f).0 e)
+tidy_refuses_by_the_table work buffer book f e = go (((tidy_service_table work buffer book).refused_if f).0 e)
   where
     go : TidyTable work (length buffer) book f → InTable f
     go (book_first t) = fault_row (book_rows work book f t)
@@ -291,9 +291,9 @@ tidy_refuses_by_the_table work buffer book f e = go (((tidy_service_table work b
 
 lamp_rows : (work : ℕ) (book rules query request : Bytes) (f : Refusal) → LampTable work book rules query request f → InTableBut14 f
 lamp_rows work book rules query request f (rules_first t) = rules_rows work book rules f t
-lamp_rows work book rules query request f (in_query_law {b} u d) = query_in_table b query f d
-lamp_rows work book rules query request f (in_request_law {b} {r} u q d) = request_in_table b r request f d
-lamp_rows work book rules query request f (in_woven_law {r = r} {q = q} {x = x} {n = n} a d g) = in_table g (⊎_elim
+lamp_rows work book rules query request f (in_query {b} u d) = query_in_table b query f d
+lamp_rows work book rules query request f (in_request {b} {r} u q d) = request_in_table b r request f d
+lamp_rows work book rules query request f (in_woven {r = r} {q = q} {x = x} {n = n} a d g) = in_table g (⊎_elim
     (λ z. subst (λ (k : ℕ). FaultRow k 5 0) (sym z) woven_limit_passed) (λ z. subst (λ (k : ℕ). FaultRow k 5 0) (sym z) vertex_not_tied)
     (woven_number_law (woven r q x) x.identities n d))
 
@@ -301,12 +301,12 @@ lamp_rows work book rules query request f (in_woven_law {r = r} {q = q} {x = x} 
 pub lamp_refuses_by_the_table : (work : ℕ) (book rules query request : Bytes)
     (f : Refusal) → (lamp_service work book rules query request).answer ≡ refused f → InTableBut14 f
 lamp_refuses_by_the_table work book rules query request f e =
-    lamp_rows work book rules query request f (((lamp_service_table work book rules query request).refused_if_law f).0 e)
+    lamp_rows work book rules query request f (((lamp_service_table work book rules query request).refused_if f).0 e)
 
 -- and so does the list
 pub list_refuses_by_the_table : (work words : ℕ) (book rules query request : Bytes)
     (f : Refusal) → (list_service work words book rules query request).answer ≡ refused f → InTable f
-list_refuses_by_the_table work words book rules query request f e = go (((list_service_table work words book rules query request).refused_if_law f).0 e)
+list_refuses_by_the_table work words book rules query request f e = go (((list_service_table work words book rules query request).refused_if f).0 e)
   where
     go : ListTable work words book rules query request f → InTable f
     go (lamp_first t) = fault_row (lamp_rows work book rules query request f t)

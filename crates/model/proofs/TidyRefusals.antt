@@ -13,7 +13,7 @@ use Rattle.model.specs.Book.{Book}
 use Rattle.model.specs.ReadBook.{read_book}
 use Rattle.model.specs.Tidy.{tidy_text, tidy_book}
 use Rattle.model.specs.Service.{with_work, book_written, book_writer, tidy_service}
-use Rattle.model.specs.Refused.{returned, Exactly, memory_short, in_book_law, book_first, no_room, TidyTable}
+use Rattle.model.specs.Refused.{returned, Exactly, memory_short, in_book, book_first, no_room, TidyTable}
 use Rattle.model.proofs.Members.{test, is_false}
 use Rattle.model.proofs.Outcomes.{accept_e, else_e}
 use Rattle.model.proofs.Faults.{over_refused, need_refused}
@@ -54,7 +54,7 @@ unfolding book_written with_work refusal
 tidy_table work room book = exactly _ (TidyTable work room book) (λ f. (
   λ e. ⊎_elim (λ u. book_first (memory_short u.0 u.1))
       (λ u. ⊎_elim
-      (λ v. ⊎_elim (λ w. book_first (in_book_law u.0 w))
+      (λ v. ⊎_elim (λ w. book_first (in_book u.0 w))
       (λ w. no_room (record { memory_whole = u.0; book_read = w.1 }) (inr w.2) w.3) ((tidy_refused book f).0 v))
       (λ v. let (b, r, is, few) = tidy_given book v.0 v.1 in
       ⊎_elim (λ w. no_room (record { memory_whole = u.0; book_read = r }) (inl (subst (λ (t : Bytes). room < length t) is w.0)) w.1)
@@ -76,7 +76,7 @@ tidy_table work room book = exactly _ (TidyTable work room book) (λ f. (
 
     back : (f : Refusal) → TidyTable work room book f → book_written work room (tidy_book book) ≡ refused f
     back f (book_first (memory_short l e)) = (memory f).1 (inl (l, e))
-    back f (book_first (in_book_law l e)) = (memory f).1 (inr (l, (written f).1 (inl ((tidy_refused book f).1 (inl e)))))
+    back f (book_first (in_book l e)) = (memory f).1 (inr (l, (written f).1 (inl ((tidy_refused book f).1 (inl e)))))
     back f (no_room {b} u long e) = (memory f).1 (inr (u.memory_whole, (written f).1 (either_long (test (ltb 65536 (length (tidy_text b)))))))
       where
         Long : Bool

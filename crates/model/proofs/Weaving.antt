@@ -96,7 +96,7 @@ pub list_of_woven : (work words : ℕ) (book rules query request : Bytes) (rows 
     → (row ∈ rows) ↔ WovenRow R.b R.x.identities (asked_all R.r R.x R.q) row
 list_of_woven work words book rules query request rows e row =
     let R = list_is_exact work words book rules query request rows e in
-    let w = rows_of_woven R.b rules query R.r R.q R.x R.rules_read R.query_read_law row in
+    let w = rows_of_woven R.b rules query R.r R.q R.x R.rules_read R.query_read row in
     (λ k. w.0 ((R.may_be_had row).0 k), λ k. (R.may_be_had row).1 (w.1 k))
 
 -- the number of the woven vertex of vertex v of the kth text, a, the texts being counted from 0, the query first

@@ -17,7 +17,7 @@ use Rattle.model.specs.Satisfies.{NumberedMapping, NumberedEdgeHolds, edge_at}
 use Rattle.model.specs.Weave.{Asked, named, returns_of, weave, WovenVertex, actor, place_vertex, no_vertex, weave_vertex}
 use Rattle.model.specs.MayHave.{is_actor, Mapped, Agree, AllAgree, Identified}
 use Rattle.model.proofs.Members.{◌∈◌, each_e, each_i, below_i, place_map, test, is_true, is_false}
-use Rattle.model.proofs.Places.{place_at, get_d_in, length_map}
+use Rattle.model.proofs.Places.{place_at, get_or_in, length_map}
 use Rattle.model.proofs.Choices.{IsModel, actor_e}
 use Rattle.model.proofs.NumberedMappings.{by_name, modelled, SameOnNames, SameOnNumbers, edge_count}
 use Rattle.model.proofs.WovenNames.{woven_actor}
@@ -218,6 +218,6 @@ woven_again b ids asked m woven clear = (
     node i l =
         let w = get_or vs i no_vertex in
         let k = ⊎_elim (λ z. elim z [ ]) (λ z. subst (λ q. w ∈ vertices_of 0 q) (sym (map_same asked)) z)
-        (first_vertices_e [] (vertices_of 0 asked) w (get_d_in vs i no_vertex l)) in
+        (first_vertices_e [] (vertices_of 0 asked) w (get_or_in vs i no_vertex l)) in
         vertices_e (λ a. a) (λ w. node_by 0 fam w ≡ m.node (place_vertex w vs)) 0 0 asked (texts 0 0 asked kept) w k
         ∙ ap m.node (first_vertices_once (vertices_of 0 asked) i l)

@@ -20,7 +20,7 @@ use Rattle.model.specs.Satisfies.{NumberedMapping, NumberedEdgeHolds, Satisfies,
 use Rattle.model.specs.Weave.{named, returns_of, weave, WovenVertex, actor, same_vertex, place_vertex, no_vertex, weave_vertex}
 use Rattle.model.specs.MayHave.{is_actor, Mapped, Agree, AllAgree, Identified}
 use Rattle.model.proofs.Members.{◌∈◌, test, is_true, is_false, each_e, each_i, map_i, below_e, place_map, alike_e, alike_i}
-use Rattle.model.proofs.Places.{at_place, get_d_in, get_d_map, length_map}
+use Rattle.model.proofs.Places.{at_place, get_or_in, get_or_map, length_map}
 use Rattle.model.proofs.ByNodes.{node_in_law}
 use Rattle.model.proofs.Choices.{IsModel, actor_i}
 use Rattle.model.proofs.NumberedMappings.{numbered, by_name, SameOnNames, satisfied, same_satisfies, edge_count}
@@ -57,8 +57,8 @@ node_here k h hs w t =
     let p = at_vertex ws w (alike_e same_vertex vertex_tells w ws t) in
     let l : place_vertex w ws < length (names_of h) = subst (λ z. place_vertex w ws < z) (length_map f (names_of h)) p.0 in (
       get_or (names_of h) (place_vertex w ws) [],
-      get_d_in (names_of h) (place_vertex w ws) [] l,
-      sym (get_d_map f (names_of h) (place_vertex w ws) [] no_vertex l)
+      get_or_in (names_of h) (place_vertex w ws) [] l,
+      sym (get_or_map f (names_of h) (place_vertex w ws) [] no_vertex l)
           ∙ p.1,
       rw (is_true (any (same_vertex w) ws) t) refl,
     )
@@ -149,8 +149,8 @@ module _ (b : Book) (ids : List Identity) (hs : List Mapped) (family : Family b 
   parts = counted_map asked_of (λ j i h. AtPlace j i h × RelsKept (rel_by 0 hs) j i h) (λ j i h. Part b vs (woven_of hs) j i h.asked) 0 0 hs
       (λ j n h _ _ m p. let q = h.asked.text in let s = clear h m in
       same_satisfies b q s (numbered q h.mapping) (within vs (woven_of hs) j n h.asked) (
-        λ i l. sym (ap (λ z. (woven_of hs).node (place_vertex z vs)) (get_d_map (weave_vertex j (actors_in h)) (names_of h) i [] no_vertex l)
-            ∙ p.0 (get_or (names_of h) i []) (get_d_in (names_of h) i [] l)),
+        λ i l. sym (ap (λ z. (woven_of hs).node (place_vertex z vs)) (get_or_map (weave_vertex j (actors_in h)) (names_of h) i [] no_vertex l)
+            ∙ p.0 (get_or (names_of h) i []) (get_or_in (names_of h) i [] l)),
         λ i l. sym (p.1 i l),
       )
       (satisfied b q s h.mapping (each_e (IsModel b) hs family.models h m)))
@@ -165,7 +165,7 @@ module _ (b : Book) (ids : List Identity) (hs : List Mapped) (family : Family b 
       (counted_map asked_of (NodesKept (node_by 0 hs)) (λ j i h. (v : Bytes) → v ∈ names_of h → C (weave_vertex j (actors_in h) v)) 0 0 hs
       (λ j i h _ _ m p v n. f j h m v n (p v n)) nodes)
       (get_or vs i no_vertex) (⊎_elim (λ z. elim z [ ]) (λ z. z)
-      (first_vertices_e [] (vertices_of 0 (map asked_of hs)) (get_or vs i no_vertex) (get_d_in vs i no_vertex l)))
+      (first_vertices_e [] (vertices_of 0 (map asked_of hs)) (get_or vs i no_vertex) (get_or_in vs i no_vertex l)))
 
   -- the woven pattern is satisfied
   woven_satisfies : Satisfies b (weave (map asked_of hs)) (woven_of hs)

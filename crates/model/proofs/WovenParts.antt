@@ -22,7 +22,7 @@ use Rattle.model.specs.Weave.{Asked, named, moved, moved_edge, moved_clause, mov
 use Rattle.model.specs.Weave.{first_vertices, no_vertex, weave_vertex}
 use Rattle.model.specs.MayHave.{Mapped}
 use Rattle.model.proofs.Members.{◌∈◌, test, each_e, each_i, map_i, map_e, below_i, below_e, place_map}
-use Rattle.model.proofs.Places.{get_d_in, get_d_map, length_map}
+use Rattle.model.proofs.Places.{get_or_in, get_or_map, length_map}
 use Rattle.model.proofs.ByNodes.{Named}
 use Rattle.model.proofs.WovenVertices.{at_vertex}
 
@@ -176,9 +176,9 @@ module _ (b : Book) (vs : List WovenVertex) (m : NumberedMapping) where
       record {
         vertices = each_i (λ v. IsNode b ((within vs m k n a).node v)) (below (length (vertex_names a.text)))
             (λ i l. let t = subst (λ z. i < z) (sym (length_map (weave_vertex k a.actors) (vertex_names a.text))) (below_e _ i l) in
-            g _ (at_vertex vs (get_or ws i no_vertex) (f (get_or ws i no_vertex) (get_d_in ws i no_vertex t))).0);
+            g _ (at_vertex vs (get_or ws i no_vertex) (f (get_or ws i no_vertex) (get_or_in ws i no_vertex t))).0);
         edges = each_i (NumberedEdgeHolds b p (within vs m k n a)) (below (length p.edges)) (λ i l. let t = below_e _ i l in
-            subst (Holds b m (n + i)) (get_d_map (moved_edge vs (named_one k a)) p.edges i none none t)
+            subst (Holds b m (n + i)) (get_or_map (moved_edge vs (named_one k a)) p.edges i none none t)
             (h i (subst (λ z. i < z) (sym (length_map (moved_edge vs (named_one k a)) p.edges)) t)));
         clauses = each_i (ClauseHolds b (within vs m k n a)) p.clauses (λ e l.
             let i = map_i (moved_clause vs (named_one k a) n) p.clauses e l in
@@ -192,7 +192,7 @@ module _ (b : Book) (vs : List WovenVertex) (m : NumberedMapping) where
   part_e k n a h =
       let p = pattern_of a.text in (
         λ i l. let t : i < length p.edges = subst (λ z. i < z) (length_map (moved_edge vs (named_one k a)) p.edges) l in
-            subst (Holds b m (n + i)) (sym (get_d_map (moved_edge vs (named_one k a)) p.edges i none none t))
+            subst (Holds b m (n + i)) (sym (get_or_map (moved_edge vs (named_one k a)) p.edges i none none t))
             (each_e (NumberedEdgeHolds b p (within vs m k n a)) (below (length p.edges)) h.edges i (below_i _ i t)),
         each_i (ClauseHolds b m) (map (moved_clause vs (named_one k a) n) p.clauses)
             (λ d l. let r = map_e (moved_clause vs (named_one k a) n) p.clauses d l in

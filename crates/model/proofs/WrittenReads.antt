@@ -42,7 +42,7 @@ pub written_read : (b : Book) (s : Bytes) (q : QueryText) → read_query b s ≡
     → read_query b (written_query (pattern_of q)) ≡ accepted (read_back q)
 written_read b s q e l =
     let t = query_accepted b s q e in
-    let w = wellformed s q (line_allowed 1 s t.allowed) t.is_text_law in
+    let w = wellformed s q (line_allowed 1 s t.allowed) t.is_text in
     let ps = matches_for q in
     let cs = conditions_of q in
     let f = written_form q (query_named b s q e) in
@@ -51,11 +51,11 @@ written_read b s q e l =
     accept_query b (written_query (pattern_of q)) (read_back q) (record {
       short = l;
       allowed = ap (bad_line 1) f ∙ allowed_line 1 (written_text ps cs q.returns) (written_text_allowed ps cs q.returns g h w.returns_names);
-      is_text_law = ap query_text f ∙ written_text_is_read ps cs q.returns (some_match_for (vertex_names q) (edges_of q) (some_vertex q w))
+      is_text = ap query_text f ∙ written_text_is_read ps cs q.returns (some_match_for (vertex_names q) (edges_of q) (some_vertex q w))
           w.some_return g h w.returns_names;
       faultless = back_fault b q (some_vertex q w) t.faultless;
     })
 
 -- an accepted query has a vertex
 pub accepted_vertex : (b : Book) (s : Bytes) (q : QueryText) → read_query b s ≡ accepted q → NonEmpty (vertex_names q)
-accepted_vertex b s q e = let t = query_accepted b s q e in some_vertex q (wellformed s q (line_allowed 1 s t.allowed) t.is_text_law)
+accepted_vertex b s q e = let t = query_accepted b s q e in some_vertex q (wellformed s q (line_allowed 1 s t.allowed) t.is_text)

@@ -78,8 +78,8 @@ abbrev pub max_woven_vertices : ℕ
 max_woven_vertices = 24
 
 -- "48 of each other kind": edges, exclusions, requirements
-abbrev pub max_woven_of_aKind : ℕ
-max_woven_of_aKind = 48
+abbrev pub max_woven_of_a_kind : ℕ
+max_woven_of_a_kind = 48
 
 -- "Working memory: 16,384 words of 32 bits"
 abbrev pub whole_memory : ℕ

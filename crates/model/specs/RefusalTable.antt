@@ -8,7 +8,7 @@ IsText text = (1 ≤ text) × (text ≤ 4)
 
 -- what "text, line" stands for: a text and one of its lines, counted from 1; a query is line 1
 pub record LineOf (text line : ℕ) : Type 0 where
-  pub is_text_law : IsText text
+  pub is_text : IsText text
   pub from_one : 1 ≤ line
   pub query_is_line_1 : text ≡ 3 → line ≡ 1
 

@@ -3,7 +3,7 @@ use Rattle.std.specs.Prelude.{ℕ, zero, suc, ◌+◌, List, [], ◌∷◌, ◌+
 use Rattle.model.specs.Bytes.{Bytes, same}
 use Rattle.model.specs.Choice.{pick, Maybe}
 use Rattle.model.specs.Lists.{any, all, keep, joined, memℕ, below, place_where, firsts_by}
-use Rattle.model.specs.Limits.{max_woven_vertices, max_woven_of_aKind}
+use Rattle.model.specs.Limits.{max_woven_vertices, max_woven_of_a_kind}
 use Rattle.model.specs.Names.{Name, mem}
 use Rattle.model.specs.Refusal.{Row, lowest, ◌if◌}
 use Rattle.model.specs.QueryText.{QueryText}
@@ -102,8 +102,8 @@ is_excluded (edge_has e a r x) = false
 -- more vertices or more of another kind than fit
 unfoldable pub woven_too_many : WovenPattern → Bool
 woven_too_many p =
-    ltb max_woven_vertices (length p.vertices) || ltb max_woven_of_aKind (length p.edges)
-    || ltb max_woven_of_aKind (length (keep is_excluded p.clauses)) || ltb max_woven_of_aKind (length (keep (λ c. not (is_excluded c)) p.clauses))
+    ltb max_woven_vertices (length p.vertices) || ltb max_woven_of_a_kind (length p.edges)
+    || ltb max_woven_of_a_kind (length (keep is_excluded p.clauses)) || ltb max_woven_of_a_kind (length (keep (λ c. not (is_excluded c)) p.clauses))
 
 -- an identity is that of a woven vertex: of the actor vertex of its name
 unfoldable pub identified_by : WovenVertex → Identity → Bool

@@ -46,7 +46,7 @@ module _ (needed : Bool) (b : Book) (text : Bytes) where
   query_needed e v h = subst (λ (t : Bool). QueryGiven text (query_if t b text) v) (sym e) (go v h)
     where
       go : (v : Verdict) → QueryReads b text v → QueryGiven text (read_query b text) v
-      go Accepted (tree, is) = is ∙ ap accepted (sym (ap tree_or (query_accepted b text tree is).is_text_law))
+      go Accepted (tree, is) = is ∙ ap accepted (sym (ap tree_or (query_accepted b text tree is).is_text))
       go (Refused x) h = h
 
   pub query_not_needed : needed ≡ false → QueryGiven text (query_if needed b text) Accepted

@@ -83,7 +83,7 @@ module _ (n : Needs) (book rules query request : Bytes) (words table : List ℕ)
 
           by : (v : Verdict) → rd.verdict ≡ v → RequestBy k.nodes rules table m.categories request (request_if true b the_rules request) rd v
               → Goal true rd v
-          by Accepted d a = record { rules_ready = ready; query_read_law = asked; request_ready = a; is = rw (asked, a.is) }
+          by Accepted d a = record { rules_ready = ready; query_read = asked; request_ready = a; is = rw (asked, a.is) }
           by (Refused x) d a = record {
             is = rw (asked, a.is);
             none = λ i.
@@ -93,7 +93,7 @@ module _ (n : Needs) (book rules query request : Bytes) (words table : List ℕ)
           go : (t : Bool) → RequestGiven t book words k rules table m request rd → Goal t rd rd.verdict
           go true h = by rd.verdict refl h
           go false h = subst (λ (z : RequestRead). Goal false z z.verdict) (sym h)
-              (record { rules_ready = ready; query_read_law = asked; request_ready = tt; is = rw asked })
+              (record { rules_ready = ready; query_read = asked; request_ready = tt; is = rw asked })
 
     -- the rules
     module _ (l : RulesLoad) (given : RulesGiven rules table (rules_if n.rules b rules) l) where

@@ -82,7 +82,7 @@ texts_of n book rules query request words table r a = record {
 -- all texts that are needed are accepted
 pub record AllReady (n : Needs) (book rules query request : Bytes) (words table : List ℕ) (o : Outcome Texts) (r : Ready) : Type 0 where
   pub rules_ready : RulesReady n.rules book words r.book rules table r.rules
-  pub query_read_law : query_if n.query (book_at book words r.book) query ≡ accepted (tree_of query)
+  pub query_read : query_if n.query (book_at book words r.book) query ≡ accepted (tree_of query)
   pub request_ready : RequestReady n.request book words rules table request r
   pub is : o ≡ accepted (texts_of n book rules query request words table r request_ready)
 

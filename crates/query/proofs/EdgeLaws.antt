@@ -25,7 +25,7 @@ use Rattle.model.specs.WholeAnswers.{first_part, edge_data, edges_data}
 use Rattle.model.specs.declared.Part.{Part}
 use Rattle.model.specs.declared.Edge.{Edge as EdgeData}
 use Rattle.model.proofs.Members.{◌∈◌, firsts_i}
-use Rattle.model.proofs.Places.{at_place, get_d_in, get_d_map, map_to}
+use Rattle.model.proofs.Places.{at_place, get_or_in, get_or_map, map_to}
 use Rattle.query_pieces.specs.Walk.{may_stand, Ordered}
 use Rattle.query_pieces.specs.Named.{vertex_in, vertices_in, links_from}
 use Rattle.query_pieces.specs.Faults.{some_where, undeclared_at}
@@ -321,14 +321,14 @@ module _ (book : Bytes) (words : List ℕ) (c : BookCounts) (s : Bytes) (vertice
     link = get_or links i no_link
 
     link_in : link ∈ links
-    link_in = get_d_in links i no_link (omega (arith, edges_counted))
+    link_in = get_or_in links i no_link (omega (arith, edges_counted))
 
     link_at : numbered_in s (get_or edges.edges i no_edge) ≡ link_numbered b vs link
     link_at =
-        sym (get_d_map (numbered_in s) (take edges.count edges.edges) i no_edge (numbered_in s no_edge)
+        sym (get_or_map (numbered_in s) (take edges.count edges.edges) i no_edge (numbered_in s no_edge)
         (omega (arith, length-take-le edges.count edges.edges in_array)) ∙ ap (numbered_in s) (get_or-take edges.count edges.edges i no_edge l))
         ∙ ap (λ z. get_or z i (numbered_in s no_edge)) all-numbered
-        ∙ get_d_map (link_numbered b vs) links i no_link (numbered_in s no_edge) (omega (arith, edges_counted))
+        ∙ get_or_map (link_numbered b vs) links i no_link (numbered_in s no_edge) (omega (arith, edges_counted))
 
     edge_stands : EdgeStands c vertices (get_or edges.edges i no_edge)
     unfolding numbered_in link_numbered numbered

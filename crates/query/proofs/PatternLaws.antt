@@ -22,7 +22,7 @@ use Rattle.model.specs.declared.Condition.TheVariants.{Excluded, OfVertex, OfEdg
 use Rattle.model.specs.declared.Clause.{Clause}
 use Rattle.model.specs.declared.Pattern.{Pattern}
 use Rattle.model.proofs.Members.{◌∈◌, map_i, map_e}
-use Rattle.model.proofs.Places.{get_d_in, length_map}
+use Rattle.model.proofs.Places.{get_or_in, length_map}
 use Rattle.book_tables.specs.declared.BookCounts.{BookCounts}
 use Rattle.book_tables.specs.View.{book_at}
 use Rattle.query_pieces.specs.Named.{edges_in, links_from}
@@ -50,7 +50,7 @@ use Rattle.query.proofs.ClearLaws.{Clear, clear_pieces, clear_tree, some_return,
 -- f of a counted element is among f of those counted
 taken_in : {A B : Type 0} (f : A → B) (l : List A) (n i : ℕ) (d : A) → n ≤ length l → i < n → f (get_or l i d) ∈ map f (take n l)
 taken_in f l n i d h k = subst (λ x. f x ∈ map f (take n l)) (get_or-take n l i d k)
-    (map_i f (take n l) (get_or (take n l) i d) (get_d_in (take n l) i d (omega (arith, length-take-le n l h))))
+    (map_i f (take n l) (get_or (take n l) i d) (get_or_in (take n l) i d (omega (arith, length-take-le n l h))))
 
 -- a name, a value, a condition fits its words
 module _ (s : Bytes) (base : ℕ) (fit : base + length s ≤ 65536) where

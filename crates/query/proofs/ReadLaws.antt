@@ -97,4 +97,4 @@ pub pattern_asked : (book : Bytes) (words : List ℕ) (c : BookCounts) (s : Byte
 unfolding text_fault tree_fault number_or
 pattern_asked book words c s tree fits e =
     let q = query_accepted (book_at book words c) s tree e in
-    record { fits = fits; clear = ap (tree_fault (book_at book words c)) q.is_text_law ∙ ap number_or q.faultless; allowed = line_allowed 1 s q.allowed }
+    record { fits = fits; clear = ap (tree_fault (book_at book words c)) q.is_text ∙ ap number_or q.faultless; allowed = line_allowed 1 s q.allowed }

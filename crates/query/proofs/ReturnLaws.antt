@@ -11,7 +11,7 @@ use Rattle.model.specs.Bytes.{Bytes}
 use Rattle.model.specs.Lists.{joined}
 use Rattle.model.specs.Names.{place}
 use Rattle.model.specs.Book.{Book}
-use Rattle.model.proofs.Places.{at_place, get_d_in, get_d_map, map_append}
+use Rattle.model.proofs.Places.{at_place, get_or_in, get_or_map, map_append}
 use Rattle.query_pieces.specs.Named.{return_in, returns_in}
 use Rattle.query_pieces.specs.Faults.{some_where, undeclared_at}
 use Rattle.query_pieces.specs.Steps.{piece_of, StepAt}
@@ -132,9 +132,9 @@ module _ (b : Book) (s : Bytes) (vertices : Vertices) (found : Found s vertices 
   return_stands : (i : ℕ) → i < returns.count → get_or returns.numbers i 0 < vertices.count
   return_stands i l =
       let m : i < length all_names = omega (arith, returns_counted) in
-      let n = sym (get_or-take returns.count returns.numbers i 0 l) ∙ ap (λ z. get_or z i 0) all-numbered ∙ get_d_map (λ v. place v vs) all_names i [] 0 m in
+      let n = sym (get_or-take returns.count returns.numbers i 0 l) ∙ ap (λ z. get_or z i 0) all-numbered ∙ get_or_map (λ v. place v vs) all_names i [] 0 m in
       let p = (at_place vs (get_or all_names i [])
-      (return_declared b (text_pieces s) (text_ordered s) declared (get_or all_names i []) (get_d_in all_names i [] m))).0 in
+      (return_declared b (text_pieces s) (text_ordered s) declared (get_or all_names i []) (get_or_in all_names i [] m))).0 in
       omega (arith, found_counted s vertices vs found)
 
   pub returns_are : ReturnsRead s vertices returns

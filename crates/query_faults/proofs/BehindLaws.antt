@@ -41,7 +41,7 @@ module _ (b : Book) (s : Bytes) (done : List Piece) (t : Survey) (vertices edges
   pub behind_start : (v : Bytes) → Seen (start v) → Vertices (names_in Vertex done ++ (v ∷ [])) → Edges (names_in Edge done)
       → Returns (names_in Returned done) → Now (start v)
   unfolding name_in vertex_in edge_in return_in
-  behind_start v k hv he hr = record { seen = k; vertex_names_law = hv; edge_names_law = holds_same s edges _ _ he; return_names = holds_same s returned _ _ hr }
+  behind_start v k hv he hr = record { seen = k; vertex_names = hv; edge_names = holds_same s edges _ _ he; return_names = holds_same s returned _ _ hr }
 
   pub behind_link : (e l v : Bytes) → ((rest : List Piece)
       → (r.survey ≡ surveyed b done t (goes e l v) rest) × (r.survey ≡ surveyed b done t (comes e l v) rest))
@@ -49,8 +49,8 @@ module _ (b : Book) (s : Bytes) (done : List Piece) (t : Survey) (vertices edges
       → Now (goes e l v) × Now (comes e l v)
   unfolding name_in vertex_in edge_in return_in
   behind_link e l v k hv he hr = (
-    record { seen = λ rest. (k rest).0; vertex_names_law = hv; edge_names_law = he; return_names = holds_same s returned _ _ hr },
-    record { seen = λ rest. (k rest).1; vertex_names_law = hv; edge_names_law = he; return_names = holds_same s returned _ _ hr },
+    record { seen = λ rest. (k rest).0; vertex_names = hv; edge_names = he; return_names = holds_same s returned _ _ hr },
+    record { seen = λ rest. (k rest).1; vertex_names = hv; edge_names = he; return_names = holds_same s returned _ _ hr },
   )
 
   pub behind_asks : (c : Condition) → Seen (asks c) → Vertices (names_in Vertex done) → Edges (names_in Edge done) → Returns (names_in Returned done)
@@ -58,8 +58,8 @@ module _ (b : Book) (s : Bytes) (done : List Piece) (t : Survey) (vertices edges
   unfolding name_in vertex_in edge_in return_in
   behind_asks c k hv he hr = record {
     seen = k;
-    vertex_names_law = holds_same s vertices _ _ hv;
-    edge_names_law = holds_same s edges _ _ he;
+    vertex_names = holds_same s vertices _ _ hv;
+    edge_names = holds_same s edges _ _ he;
     return_names =
         holds_same s returned _ _ hr;
   }
@@ -67,7 +67,7 @@ module _ (b : Book) (s : Bytes) (done : List Piece) (t : Survey) (vertices edges
   pub behind_return : (v : Bytes) → Seen (returns v) → Vertices (names_in Vertex done) → Edges (names_in Edge done)
       → Returns (names_in Returned done ++ (v ∷ [])) → Now (returns v)
   unfolding name_in vertex_in edge_in return_in
-  behind_return v k hv he hr = record { seen = k; vertex_names_law = holds_same s vertices _ _ hv; edge_names_law = holds_same s edges _ _ he; return_names = hr }
+  behind_return v k hv he hr = record { seen = k; vertex_names = holds_same s vertices _ _ hv; edge_names = holds_same s edges _ _ he; return_names = hr }
 
   -- a link, whichever way it points
   pub behind_linked : (l : Link) → Now (goes (name_at s l.edge) (name_at s l.label) (name_at s l.vertex))

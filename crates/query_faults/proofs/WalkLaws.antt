@@ -34,15 +34,15 @@ use Rattle.query_faults.proofs.SurveyLaws.{survey_parts, survey_fault}
 pub record Walked (b : Book) (s : Bytes) (vertices edges returned : List ℕ) (place : Place) (i : ℕ) (t : Passed) : Type 0 where
   pub rest : drop i (text_pieces s) ≡ found_at s place
   pub whole : (walk_at s place).whole ≡ (walk_at s text_start).whole
-  pub vertex_names_law : Holds s vertices t.met.vertices (names_in Vertex (take i (text_pieces s)))
-  pub edge_names_law : Holds s edges t.met.edges (names_in Edge (take i (text_pieces s)))
+  pub vertex_names : Holds s vertices t.met.vertices (names_in Vertex (take i (text_pieces s)))
+  pub edge_names : Holds s edges t.met.edges (names_in Edge (take i (text_pieces s)))
   pub return_names : Holds s returned t.met.returned (names_in Returned (take i (text_pieces s)))
   pub survey : survey_from b t.survey (take i (text_pieces s)) (found_at s place) ≡ survey_from b unseen [] (text_pieces s)
 
 pub walked_start : (b : Book) (s : Bytes) (vertices edges returned : List ℕ) (m : Met) → Holds s vertices m.vertices [] → Holds s edges m.edges []
     → Holds s returned m.returned [] → Walked b s vertices edges returned text_start 0 (record { survey = unseen; met = m })
 unfolding joined
-walked_start b s vertices edges returned m hv he hr = record { rest = refl; whole = refl; vertex_names_law = hv; edge_names_law = he; return_names = hr; survey = refl }
+walked_start b s vertices edges returned m hv he hr = record { rest = refl; whole = refl; vertex_names = hv; edge_names = he; return_names = hr; survey = refl }
 
 -- 4 is seen, and nothing lower but a broken grammar
 undeclared_fault : (w : Bool) (t : Survey) → t.undeclared ≡ true → verdict w t ≡ pick w 4 3
@@ -97,8 +97,8 @@ module _ (b : Book) (s : Bytes) (vertices edges returned : List ℕ) (place : Pl
       walked_on = record {
         rest = further_rest (text_pieces s) i piece (found_at s x.next) on;
         whole = sym (step_whole s place got at x z) ∙ h.whole;
-        vertex_names_law = listed_on Vertex vertices' r.met.vertices k.vertex_names_law;
-        edge_names_law = listed_on Edge edges' r.met.edges k.edge_names_law;
+        vertex_names = listed_on Vertex vertices' r.met.vertices k.vertex_names;
+        edge_names = listed_on Edge edges' r.met.edges k.edge_names;
         return_names = listed_on Returned returned' r.met.returned k.return_names;
         survey = survey_on;
       }

@@ -14,6 +14,6 @@ use Rattle.query_survey.specs.declared.Survey.{Survey}
 -- behind a piece more: the survey goes on from t, and the tables have the names of the piece too
 pub record Behind (b : Book) (s : Bytes) (done : List Piece) (t : Survey) (p : Piece) (vertices edges returned : Table) (r : Passed) : Type 0 where
   pub seen : (rest : List Piece) → r.survey ≡ surveyed b done t p rest
-  pub vertex_names_law : Holds s vertices r.met.vertices (names_in Vertex done ++ name_in Vertex p)
-  pub edge_names_law : Holds s edges r.met.edges (names_in Edge done ++ name_in Edge p)
+  pub vertex_names : Holds s vertices r.met.vertices (names_in Vertex done ++ name_in Vertex p)
+  pub edge_names : Holds s edges r.met.edges (names_in Edge done ++ name_in Edge p)
   pub return_names : Holds s returned r.met.returned (names_in Returned done ++ name_in Returned p)

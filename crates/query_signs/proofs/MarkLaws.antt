@@ -17,12 +17,12 @@ use Rattle.model.specs.Signs.{Sign, mark, broken, marks, begins, mark_at}
 use Rattle.model.proofs.Decides.{each_all, and_iff}
 use Rattle.model.proofs.Members.{each_e, below_i}
 use Rattle.text.specs.Places.{peek_at}
-use Rattle.text.proofs.PlaceLaws.{below_or_not, peek_end, get_d_any, drop_peek, drop_end}
+use Rattle.text.proofs.PlaceLaws.{below_or_not, peek_end, get_or_any, drop_peek, drop_end}
 use Rattle.query_signs.specs.Marks.{mark_bytes, mark_size, mark_got, is_single, is_pair, is_arrow}
 
 -- a byte is below 256, and the end is 256
 pub peek_bound : (s : Bytes) (i : ℕ) → get_or s i 0 < 256 → peek_at s i ≤ 256
-peek_bound s i h = ⊎_elim (λ l. rw (get_d_any s i 256 0 l) (omega arith)) (λ g. rw (peek_end s i g) (omega arith)) (below_or_not i (length s))
+peek_bound s i h = ⊎_elim (λ l. rw (get_or_any s i 256 0 l) (omega arith)) (λ g. rw (peek_end s i g) (omega arith)) (below_or_not i (length s))
 
 test_same : (a b c d : ℕ) → (a ≡ b → c ≡ d) → (c ≡ d → a ≡ b) → eqb a b ≡ eqb c d
 test_same a b c d f g = go (eqb a b) refl
@@ -176,7 +176,7 @@ module _ (s : Bytes) (at : ℕ) (l : at < length s) (h : peek_at s at < 256) (k 
 module _ (s : Bytes) (at : ℕ) (l : at < length s) (byte : (i : ℕ) → get_or s i 0 < 256) (b c : ℕ) (eb : b ≡ peek_at s at) (ec : c ≡ peek_at s (at + 1))
     (chain : Bool) where
   first_byte : peek_at s at < 256
-  first_byte = rw (get_d_any s at 256 0 l) (byte at)
+  first_byte = rw (get_or_any s at 256 0 l) (byte at)
 
   read_mark : pick (chain && is_arrow (b * 256 + c)) (mark_got (b * 256 + c))
       (pick (is_pair (b * 256 + c)) (mark_got (b * 256 + c)) (pick (is_single b) (mark_got b) (mark_got 0))) ≡ mark_at (marks chain) (drop at s)

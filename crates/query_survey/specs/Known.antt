@@ -13,5 +13,5 @@ Table = List ℕ
 
 -- the vertices and edge variables of these pieces
 pub record Known (s : Bytes) (vertices edges : Table) (met : Met) (done : List Piece) : Type 0 where
-  pub vertex_names_law : Holds s vertices met.vertices (names_in Vertex done)
-  pub edge_names_law : Holds s edges met.edges (names_in Edge done)
+  pub vertex_names : Holds s vertices met.vertices (names_in Vertex done)
+  pub edge_names : Holds s edges met.edges (names_in Edge done)

@@ -20,7 +20,7 @@ use Rattle.model.specs.declared.Pattern.{Pattern}
 use Rattle.book_tables.specs.declared.BookCounts.{BookCounts}
 use Rattle.book_tables.specs.Layout.{vattr_names, eattr_names, label_names}
 use Rattle.book_tables.specs.View.{name_of, names_at, attrs_at, book_at}
-use Rattle.book_tables.proofs.ListedLaws.{get_d_listed}
+use Rattle.book_tables.proofs.ListedLaws.{get_or_listed}
 use Rattle.book_tables.proofs.NameLaws.{attr_names_law}
 use Rattle.model.specs.PlainData.{no_part, no_edge, no_clause}
 use Rattle.putting.specs.Listing.{listing}
@@ -44,11 +44,11 @@ edge_named_law b q p e h =
 module _ (book : Bytes) (words : List ℕ) (c : BookCounts) where
   label_named : (l : ℕ) → l < c.labels → get_or (book_at book words c).labels l [] ≡ name_of book words label_names l
   unfolding book_at names_at
-  label_named l h = get_d_listed (name_of book words label_names) c.labels l [] h
+  label_named l h = get_or_listed (name_of book words label_names) c.labels l [] h
 
   attr_named : (offset n a : ℕ) → a < n → get_or (attr_names (attrs_at book words offset n)) a [] ≡ name_of book words offset a
   unfolding names_at
-  attr_named offset n a h = ap (λ l. get_or l a []) (attr_names_law book words offset n) ∙ get_d_listed (name_of book words offset) n a [] h
+  attr_named offset n a h = ap (λ l. get_or l a []) (attr_names_law book words offset n) ∙ get_or_listed (name_of book words offset) n a [] h
 
   vattr_named : (a : ℕ) → a < c.vattrs → get_or (attr_names (book_at book words c).vattrs) a [] ≡ name_of book words vattr_names a
   unfolding book_at

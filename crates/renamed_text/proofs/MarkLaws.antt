@@ -10,14 +10,14 @@ use Rattle.model.specs.Names.{Name, place}
 use Rattle.model.specs.Book.{node_names}
 use Rattle.book_tables.specs.declared.BookCounts.{BookCounts}
 use Rattle.book_tables.specs.View.{book_at}
-use Rattle.book_tables.specs.Layout.{node_names as nodesAt}
+use Rattle.book_tables.specs.Layout.{node_names as nodes_at}
 use Rattle.book_tables.proofs.NameLaws.{length_names, node_names_law}
 use Rattle.renamed_text.specs.Marks.{is_marked, marked_in}
 
 module _ (text : Bytes) (words : List ℕ) (c : BookCounts) (marks : List Bool) (w : Name) (node : ℕ)
     (found : node ≡ place w (node_names (book_at text words c))) where
   nodes_length : length (node_names (book_at text words c)) ≡ c.nodes
-  nodes_length = ap length (node_names_law text words c) ∙ length_names text words nodesAt c.nodes
+  nodes_length = ap length (node_names_law text words c) ∙ length_names text words nodes_at c.nodes
 
   -- a node's mark
   pub mark_of : node < c.nodes → get_or marks node false ≡ marked_in text words c marks w

@@ -25,7 +25,7 @@ use Rattle.model.specs.BookLines.{label, BookLine, vattr, eattr, node, rel, book
 use Rattle.model.specs.ReadBook.{NamesAlike, undeclared, node_faults, node_fault, rel_faults, rel_fault, line_fault, add_line, book_step, read_book_by, read_book}
 use Rattle.model.proofs.Decides.{or_l, or_r, not_e, same→eq, same_refl}
 use Rattle.model.proofs.Members.{◌∈◌, test, is_false, any_i, mem_e}
-use Rattle.model.proofs.Places.{length_map, map_append, at_place, get_d_in}
+use Rattle.model.proofs.Places.{length_map, map_append, at_place, get_or_in}
 use Rattle.renaming.proofs.RenamedLines.{word_short}
 use Rattle.renaming.proofs.RenamedItems.{begins, one_list}
 use Rattle.renaming.proofs.RenamedForms.{Says, of_node, of_rel, of_other, says, line_read}
@@ -99,7 +99,7 @@ apart_more alike names n new apart i j l k t = ⊎_elim
     apart i j l u (rw (get_or-append names (n ∷ []) [] j u, get_or-append names (n ∷ []) [] i v) at t))
     (λ h. let u : length names ≡ j = omega (arith, length-append names (n ∷ []), behind h) in
     let v : i < length names = omega arith in
-    new (any_i (alike n) names (get_or names i []) (get_d_in names i [] v)
+    new (any_i (alike n) names (get_or names i []) (get_or_in names i [] v)
     (rw (get_or_at names n [] [] j u, get_or-append names (n ∷ []) [] i v) at t)))
     (test (ltb j (length names)))
   where

@@ -17,7 +17,7 @@ use Rattle.model.specs.Names.{Name, mem, twice, place, same_but_case}
 use Rattle.model.specs.Renaming.{suffix, later_names, renamed, cannot_have, first_stuck, new_name}
 use Rattle.model.proofs.Decides.{or_l, or_r}
 use Rattle.model.proofs.Members.{◌∈◌, test, is_true, is_false, any_i, map_i, mem_e, mem_i}
-use Rattle.model.proofs.Places.{get_d_in, get_d_map, place_at}
+use Rattle.model.proofs.Places.{get_or_in, get_or_map, place_at}
 use Rattle.model.proofs.Outcomes.{no_just}
 use Rattle.renaming.proofs.AcceptedBook.{case_turned}
 
@@ -175,8 +175,8 @@ module _ (s : Bytes) (names : List Name) (free : first_stuck s names [] (later_n
       → same_but_case (get_or (map (new_name (later_names [] names)) names) i []) (get_or (map (new_name (later_names [] names)) names) j []) ≡ false
   apart once i j l k = is_false _ (λ t.
       let h : i < length names = omega arith in
-      let e = one_name (get_or names i []) (get_or names j []) (get_d_in names i [] h) (get_d_in names j [] k)
-      (rw (get_d_map (new_name (later_names [] names)) names i [] [] h, get_d_map (new_name (later_names [] names)) names j [] [] k) at t) in
+      let e = one_name (get_or names i []) (get_or names j []) (get_or_in names i [] h) (get_or_in names j [] k)
+      (rw (get_or_map (new_name (later_names [] names)) names i [] [] h, get_or_map (new_name (later_names [] names)) names j [] [] k) at t) in
       let p = place_at names i once h in
       let q = place_at names j once k in
       let r : i ≡ j = sym p ∙ ap (λ z. place z names) e ∙ q in

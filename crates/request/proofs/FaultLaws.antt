@@ -18,7 +18,7 @@ use Rattle.model.specs.Request.{Claim, request_fault}
 use Rattle.model.proofs.Decides.{not_e, or_l}
 use Rattle.model.proofs.Members.{◌∈◌, any_i, map_e, mem_e}
 use Rattle.book_tables.specs.declared.BookCounts.{BookCounts}
-use Rattle.book_tables.specs.Layout.{node_names as nodesFrom}
+use Rattle.book_tables.specs.Layout.{node_names as nodes_from}
 use Rattle.book_tables.specs.View.{word_at, name_of, names_at, book_at}
 use Rattle.book_tables.proofs.NameLaws.{mem_place, length_names, node_names_law, place_named, place_mem, place_out}
 use Rattle.rules_tables.specs.declared.RulesCounts.{RulesCounts}
@@ -143,7 +143,7 @@ few_actors text words c f k l =
 -- a node's name that was looked up is one of the book's exactly if its place is below their count
 module _ (book : Bytes) (words : List ℕ) (counts : BookCounts) (w : Bytes) (r : ℕ) (e : r ≡ place w (node_names (book_at book words counts))) where
   pub node_test : ltb r counts.nodes ≡ mem w (node_names (book_at book words counts))
-  node_test = rw (node_names_law book words counts) (named_test book words nodesFrom counts.nodes w r (rw (node_names_law book words counts) at e))
+  node_test = rw (node_names_law book words counts) (named_test book words nodes_from counts.nodes w r (rw (node_names_law book words counts) at e))
 
   pub node_unknown : counts.nodes ≤ r → mem w (node_names (book_at book words counts)) ≡ false
   node_unknown l = sym node_test ∙ le-ltb r counts.nodes l

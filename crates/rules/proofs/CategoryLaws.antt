@@ -20,12 +20,12 @@ use Rattle.model.specs.ReadRules.{category, rules_fault, add_rule}
 use Rattle.model.proofs.Members.{◌∈◌, is_false, all_e, mem_e}
 use Rattle.model.proofs.Decides.{not_e, or_l, or_r}
 use Rattle.model.proofs.Outcomes.{no_fault}
-use Rattle.model.proofs.Places.{at_place, place_at, get_d_in}
+use Rattle.model.proofs.Places.{at_place, place_at, get_or_in}
 use Rattle.book_tables.specs.Listed.{listed}
 use Rattle.book_tables.specs.View.{word_at, name_in, name_of, names_at}
 use Rattle.book_tables.specs.Fits.{Inside, NamesFit}
 use Rattle.book_tables.specs.Agree.{At}
-use Rattle.book_tables.proofs.ListedLaws.{get_d_listed}
+use Rattle.book_tables.proofs.ListedLaws.{get_or_listed}
 use Rattle.book_tables.proofs.NameLaws.{length_names}
 use Rattle.book_tables.proofs.AgreeLaws.{name_kept, names_kept}
 use Rattle.rules_tables.specs.declared.RulesCounts.{RulesCounts}
@@ -90,7 +90,7 @@ fit_once text words offset ns are once inside = record {
 }
   where
     at : (i : ℕ) → i < length ns → get_or ns i [] ≡ name_of text words offset i
-    at i l = ap (λ (v : List Bytes). get_or v i []) (sym are) ∙ get_d_listed (name_of text words offset) (length ns) i [] l
+    at i l = ap (λ (v : List Bytes). get_or v i []) (sym are) ∙ get_or_listed (name_of text words offset) (length ns) i [] l
 
 -- storing in the words of the next category changes nothing that is counted
 pub stored_agrees : (words words' : List ℕ) (c : RulesCounts) (j : ℕ) (s : Bytes) (base : ℕ) (ns : List Bytes)
@@ -177,12 +177,12 @@ module _ (text : Bytes) (words words1 words2 : List ℕ) (c : RulesCounts) (s : 
   over_name : (i : ℕ) → i < length ys → get_or ys i [] ≡ name_of text words2 (over_from c.categories) i
   unfolding names_at
   over_name i l = ap (λ (v : List Bytes). get_or v i []) (sym (st2.are text line))
-      ∙ get_d_listed (name_of text words2 (over_from c.categories)) (length ys) i [] l
+      ∙ get_or_listed (name_of text words2 (over_from c.categories)) (length ys) i [] l
 
   over_earlier : (i : ℕ) → i < length ys → rank text words2 c.categories (name_of text words2 (over_from c.categories) i) < c.categories
   over_earlier i l =
       let e = over_name i l in
-      let m = clear.declared (get_or ys i []) (get_d_in ys i [] l) in
+      let m = clear.declared (get_or ys i []) (get_or_in ys i [] l) in
       let z = (at_place (names_at text words names c.categories) (get_or ys i []) m).0 in
       rw (names2, ← e) (omega (arith, z, length_names text words names c.categories))
 

@@ -17,7 +17,7 @@ use Rattle.model.proofs.Members.{◌∈◌, is_true, is_false, keep_e, keep_i, m
 use Rattle.model.proofs.Places.{joined_end, keep_same, map_keep}
 use Rattle.book_tables.specs.Listed.{listed}
 use Rattle.book_tables.specs.View.{name_of, names_at}
-use Rattle.book_tables.proofs.ListedLaws.{length_listed, get_d_listed, scan_found, place_inside, place_passes, place_none}
+use Rattle.book_tables.proofs.ListedLaws.{length_listed, get_or_listed, scan_found, place_inside, place_passes, place_none}
 use Rattle.book_tables.proofs.NameLaws.{equal_same, same_equal}
 use Rattle.rules_tables.specs.declared.RulesCounts.{RulesCounts}
 use Rattle.rules_tables.specs.Layout.{names}
@@ -126,7 +126,7 @@ module _ (text : Bytes) (words : List ℕ) (c : RulesCounts) (f : Fits text word
             let n = length_listed (policy_category words) c.policies in
             let i = place_inside is_m all_of e in
             let l : place_where is_m all_of < c.policies = omega arith in
-            let q = ap is_m (sym (get_d_listed (policy_category words) c.policies (place_where is_m all_of) 0 l)) ∙ place_passes is_m all_of 0 i in
+            let q = ap is_m (sym (get_or_listed (policy_category words) c.policies (place_where is_m all_of) 0 l)) ∙ place_passes is_m all_of 0 i in
             one_kept c.policies (place_where is_m all_of) (omega arith) l (eqb→eq _ m (subst T (sym q) tt)) ∙ rw (lt-ltb _ _ l)
         go false e =
             let n = place_none is_m all_of e ∙ length_listed (policy_category words) c.policies in

@@ -12,7 +12,7 @@ use Rattle.model.specs.Bytes.{Bytes}
 use Rattle.model.specs.Choice.{pick}
 use Rattle.model.specs.Names.{twice, place}
 use Rattle.model.proofs.Members.{◌∈◌}
-use Rattle.model.proofs.Places.{at_place, place_injective, get_d_in, place_at}
+use Rattle.model.proofs.Places.{at_place, place_injective, get_or_in, place_at}
 
 -- a number is given somewhere below p, or nowhere
 given : (f : ℕ → ℕ) (v p : ℕ) → ((i : ℕ) × (i < p) × (f i ≡ v)) ⊎ ((i : ℕ) → i < p → f i ≢ v)
@@ -62,4 +62,4 @@ fewer_names ws vs once within = fewer (length vs) (length ws) (λ i. place (get_
     ∙ place_at ws j once m)
   where
     at : (i : ℕ) → i < length ws → get_or ws i [] ∈ vs
-    at i l = within (get_or ws i []) (get_d_in ws i [] l)
+    at i l = within (get_or ws i []) (get_or_in ws i [] l)

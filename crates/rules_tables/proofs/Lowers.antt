@@ -6,7 +6,7 @@ use mathlib.Core.List.{List}
 use native.Mathlib.Omega.{arith}
 use lib.Dec.{T, eqb, eqb→eq}
 use Rattle.logic.specs.Tests.{same_test, eq→eqb}
-use Rattle.logic.specs.Lists.{in_get_d, get_d_in}
+use Rattle.logic.specs.Lists.{in_get_or, get_or_in}
 use Rattle.bits.specs.Word.{bit}
 use Rattle.model.specs.Bytes.{Bytes}
 use Rattle.model.specs.Names.{mem}
@@ -16,7 +16,7 @@ use Rattle.model.proofs.Decides.{or_l, or_r, or_cases}
 use Rattle.model.proofs.Enforced.{Reaches, itself, over, down_is_reached}
 use Rattle.book_tables.specs.Listed.{listed}
 use Rattle.book_tables.specs.View.{word_at, name_of, names_at}
-use Rattle.book_tables.proofs.ListedLaws.{length_listed, get_d_listed, map_listed}
+use Rattle.book_tables.proofs.ListedLaws.{length_listed, get_or_listed, map_listed}
 use Rattle.book_tables.proofs.NameLaws.{place_named}
 use Rattle.rules_tables.specs.declared.RulesCounts.{RulesCounts}
 use Rattle.rules_tables.specs.Layout.{names, over_count_at, over_from}
@@ -25,13 +25,13 @@ use Rattle.rules_tables.specs.Fits.{rank, Fits}
 
 -- the elements of `listed`
 pub listed_i : {A : Type 0} (f : ℕ → A) (n i : ℕ) → i < n → f i ∈ listed f n
-listed_i f n i l = subst (λ x. x ∈ listed f n) (get_d_listed f n i (f i) l) (get_d_in (f i) (listed f n) i (rw length_listed l))
+listed_i f n i l = subst (λ x. x ∈ listed f n) (get_or_listed f n i (f i) l) (get_or_in (f i) (listed f n) i (rw length_listed l))
 
 pub listed_e : {A : Type 0} (f : ℕ → A) (n : ℕ) (x : A) → x ∈ listed f n → (i : ℕ) × (i < n) × (f i ≡ x)
 listed_e f n x m =
-    let r = in_get_d x x (listed f n) m in
+    let r = in_get_or x x (listed f n) m in
     let l : r.0 < n = rw (length_listed f n) at r.1 in
-    (r.0, l, sym (get_d_listed f n r.0 x l) ∙ r.2)
+    (r.0, l, sym (get_or_listed f n r.0 x l) ∙ r.2)
 
 reaches_on : (r : Rules) (a b c : Bytes) → Reaches r a b → Reaches r b c → Reaches r a c
 reaches_on r a b c p itself = p

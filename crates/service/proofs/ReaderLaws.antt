@@ -143,7 +143,7 @@ module _ (work : ℕ) (book rules query request : Bytes) (words table : List ℕ
       all = all_ready the_query work book rules query request of_query_law words table r given e
 
       pub query_asked_law : PatternAsked book words r.book query
-      query_asked_law = pattern_asked book words r.book query (tree_of query) all.rules_ready.fits all.query_read_law
+      query_asked_law = pattern_asked book words r.book query (tree_of query) all.rules_ready.fits all.query_read
 
       pub query_accepted_as : (p : PatternData) → PatternRead (book_at book words r.book) r.book query p
           → QuerySays (record { verdict = r.request.verdict; pattern = p })
@@ -151,7 +151,7 @@ module _ (work : ℕ) (book rules query request : Bytes) (words table : List ℕ
       query_accepted_as p read =
           let b = book_at book words r.book in
           let is = query_is ∙ ready_through the_query work book rules query request of_query_law words table r given all in
-          let text = (query_accepted b query (tree_of query) all.query_read_law).is_text_law in
+          let text = (query_accepted b query (tree_of query) all.query_read).is_text in
           let same : book_of (read_book book) ≡ b = ap book_of all.rules_ready.book_read in (
             rw (e, same) (ap accepted (read.is (tree_of query) text) ∙ sym is),
             (λ i. record { verdict = e i; pattern = read.whole (tree_of query) text i })

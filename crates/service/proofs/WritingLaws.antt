@@ -67,7 +67,7 @@ module _ (work : ℕ) (text book rules query request : Bytes) (words table : Lis
     b = book_at book words r.book
 
     pub writer_asked : PatternAsked book words r.book query
-    writer_asked = pattern_asked book words r.book query (tree_of query) all.rules_ready.fits all.query_read_law
+    writer_asked = pattern_asked book words r.book query (tree_of query) all.rules_ready.fits all.query_read
 
     module _ (p : PatternData) (read : PatternRead b r.book query p) where
       pub writable : Writable book words r.book query p
@@ -78,7 +78,7 @@ module _ (work : ℕ) (text book rules query request : Bytes) (words table : Lis
 
       fits_as : through needed work book rules query request of_texts ≡ fitting written
       fits_as = ready_through needed work book rules query request of_texts words table r given all
-          ∙ ap (λ (t : Bytes). fitting t) (ap written_query (sym (read.is (tree_of query) (query_accepted b query (tree_of query) all.query_read_law).is_text_law)))
+          ∙ ap (λ (t : Bytes). fitting t) (ap written_query (sym (read.is (tree_of query) (query_accepted b query (tree_of query) all.query_read).is_text)))
 
       module _ (text' : Bytes) (w : Written) (writes : Writes 2048 written text text' w) where
         pub wrote : (a : TextWritten) → a ≡ writer_answered w → WriterSays text' a

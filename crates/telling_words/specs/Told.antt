@@ -12,10 +12,10 @@ pub record QueryTold (q : QueryRead) (r : Bool) (x y z w : ℕ) (vs es cs rs : L
   pub edges : y ≡ q.pattern.counts.edges
   pub conditions : z ≡ q.pattern.counts.clauses
   pub returns : w ≡ q.pattern.counts.returns
-  pub vertex_words_law : vs ≡ vertex_words q.pattern
-  pub edge_words_law : es ≡ edge_words q.pattern
-  pub condition_words_law : cs ≡ condition_words q.pattern
-  pub return_words_law : rs ≡ return_words q.pattern
+  pub vertex_words : vs ≡ vertex_words q.pattern
+  pub edge_words : es ≡ edge_words q.pattern
+  pub condition_words : cs ≡ condition_words q.pattern
+  pub return_words : rs ≡ return_words q.pattern
 
 -- a request told by all that its reader answers
 pub record RequestTold (q : RequestRead) (r : Bool) (x y : ℕ) (words : List ℕ) (n t l : ℕ) : Type 0 where

@@ -19,7 +19,7 @@ use Rattle.model.specs.Lines.{is_allowed, bad_line, Line, add_byte, lines_of, re
 use Rattle.text.specs.declared.BytesRead.TheVariants.{TooLong}
 use Rattle.text.specs.Places.{peek_at, past, is_other}
 use Rattle.text.specs.Lines.{is_bad, is_in_line, feed_count, on_line, bytes_of, on_bytes}
-use Rattle.text.proofs.PlaceLaws.{below_or_not, drop_at, drop_end, peek_drop, get_d_any, past_part, past_within, past_stops}
+use Rattle.text.proofs.PlaceLaws.{below_or_not, drop_at, drop_end, peek_drop, get_or_any, past_part, past_within, past_stops}
 
 -- whether some byte is bad, byte by byte
 module _ (s : Bytes) (i : ℕ) where
@@ -149,7 +149,7 @@ module _ (s : Bytes) (i : ℕ) where
     lines_ended l =
         let n : ℕ = length (run is_in_line (drop i s)) in
         let f : get_or s q 0 ≡ 10 = rw e (eqb-true (get_or s (past is_in_line s i) 0) 10 (not_false _ (past_stops is_in_line s i (omega arith)))) in
-        let h : get_or (drop i s) n 256 ≡ 10 = peek_drop s i n ∙ ap (peek_at s) (sym e) ∙ get_d_any s q 256 0 l ∙ f in
+        let h : get_or (drop i s) n 256 ≡ 10 = peek_drop s i n ∙ ap (peek_at s) (sym e) ∙ get_or_any s q 256 0 l ∙ f in
         let a : run is_in_line (drop i s) ≡ part_of s i (q - i) = sym (past_part is_in_line s i) ∙ ap (λ (x : ℕ). part_of s i (x - i)) (sym e) in
         let k : i + suc n ≡ q + 1 = omega arith in
         let b : drop (suc n) (drop i s) ≡ drop (q + 1) s = drop-drop (suc n) i s ∙ ap (λ (m : ℕ). drop m s) k in

@@ -15,7 +15,7 @@ use Rattle.model.specs.Words.{Got, run, is_digit, between, biased, decimal, plai
 use Rattle.text.specs.declared.NumberRead.TheVariants.{Number, None}
 use Rattle.text.specs.declared.numbers.Magnitude.TheVariants.{Value, TooLarge}
 use Rattle.text.specs.Places.{peek_at, past, number_of, digits_of, whole_to}
-use Rattle.text.proofs.PlaceLaws.{below_or_not, drop_peek, drop_end, peek_end, get_d_any, test_in, past_step}
+use Rattle.text.proofs.PlaceLaws.{below_or_not, drop_peek, drop_end, peek_end, get_or_any, test_in, past_step}
 
 and_left : (t u : Bool) → (t && u) ≡ true → t ≡ true
 and_left true u h = refl
@@ -38,7 +38,7 @@ module _ (s : Bytes) (i : ℕ) (h : is_digit (peek_at s i) ≡ true) where
   unfolding is_digit between
   digit_at =
       let l : i < length s = test_in is_digit s i refl h in
-      let e : get_or s i 0 ≡ peek_at s i = get_d_any s i 0 256 l in
+      let e : get_or s i 0 ≡ peek_at s i = get_or_any s i 0 256 l in
       let a : 48 ≤ peek_at s i = leb-true 48 (peek_at s i) (and_left _ _ h) in
       let b : peek_at s i ≤ 57 = leb-true (peek_at s i) 57 (and_right (leb 48 (peek_at s i)) _ h) in
       record { inside = l; low = omega arith; high = omega arith; onward = past_step is_digit s i refl h }
@@ -46,7 +46,7 @@ module _ (s : Bytes) (i : ℕ) (h : is_digit (peek_at s i) ≡ true) where
   pub decimal_step : (v : ℕ) → decimal v (run is_digit (drop i s)) ≡ decimal (v * 10 + (get_or s i 0 - 48)) (run is_digit (drop (i + 1) s))
   unfolding decimal run
   decimal_step v =
-      let e : peek_at s i ≡ get_or s i 0 = get_d_any s i 256 0 digit_at.inside in
+      let e : peek_at s i ≡ get_or s i 0 = get_or_any s i 256 0 digit_at.inside in
       rw (drop_peek s i digit_at.inside, h, e)
 
 -- no digit at a place: the run is empty

@@ -25,10 +25,10 @@ pub peek_in : (s : Bytes) (i : ℕ) → peek_at s i < 256 → i < length s
 peek_in s i h = ⊎_elim (λ l. l) (λ g. omega (arith, peek_end s i g)) (below_or_not i (length s))
 
 -- the default of an index within the list does not matter
-pub get_d_any : (s : Bytes) (i d e : ℕ) → i < length s → get_or s i d ≡ get_or s i e
-get_d_any [] i d e h = omega arith
-get_d_any (b ∷ s) zero d e h = refl
-get_d_any (b ∷ s) (suc i) d e h = get_d_any s i d e (omega arith)
+pub get_or_any : (s : Bytes) (i d e : ℕ) → i < length s → get_or s i d ≡ get_or s i e
+get_or_any [] i d e h = omega arith
+get_or_any (b ∷ s) zero d e h = refl
+get_or_any (b ∷ s) (suc i) d e h = get_or_any s i d e (omega arith)
 
 -- the text from a place on is its byte and what follows
 pub drop_peek : (s : Bytes) (i : ℕ) → i < length s → drop i s ≡ peek_at s i ∷ drop (i + 1) s

@@ -10,7 +10,7 @@ use Rattle.book_tables.specs.declared.BookCounts.{BookCounts}
 use Rattle.book_tables.specs.Layout.{vattr_names, eattr_names, label_names, node_names, node_entries, relationship_entries, book_words}
 use Rattle.book_tables.specs.View.{word_at, name_of, names_at, label_part, from_part, to_part, rel_word, node_of, rel_of}
 use Rattle.book_tables.specs.Fits.{NamesFit, EntriesFit, Fits}
-use Rattle.book_tables.proofs.ListedLaws.{get_d_listed}
+use Rattle.book_tables.proofs.ListedLaws.{get_or_listed}
 use Rattle.tidy_size.specs.Pieces.{node_line, rel_line, entries_text}
 use Rattle.tidy_size.specs.Sizes.{LineSize}
 use Rattle.tidy_size.specs.Ready.{SomeText, OwnerIn, OwnerShort}
@@ -71,7 +71,7 @@ module _ (words : List ℕ) (c : BookCounts) (i : ℕ) where
     -- the names of the two nodes
     node_at : (text : Bytes) (n : ℕ) → n < c.nodes → get_or (names_at text words node_names c.nodes) n [] ≡ name_of text words node_names n
     unfolding names_at
-    node_at text n m = get_d_listed (name_of text words node_names) c.nodes n [] m
+    node_at text n m = get_or_listed (name_of text words node_names) c.nodes n [] m
 
     -- a relationship's line: its three names, its entries, and nine bytes
     rel_line_law : (text : Bytes) → Fits text words c → length (line_text (rel_line c text words i))

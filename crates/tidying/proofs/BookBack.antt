@@ -17,7 +17,7 @@ use Rattle.model.specs.Graph.{Each}
 use Rattle.model.specs.Tidy.{attr_line_of, node_line_of, rel_line_of, lines_by_kind}
 use Rattle.model.proofs.WrittenConditions.{IsName, WritableValue}
 use Rattle.model.proofs.Members.{◌∈◌, each_e, each_i, all_e, map_i, mem_e}
-use Rattle.model.proofs.Places.{get_d_in}
+use Rattle.model.proofs.Places.{get_or_in}
 use Rattle.renaming.proofs.AcceptedBook.{names_length}
 use Rattle.tidying.proofs.Made.{NamesMade, EntriesMade, RelMade, Made, EntryMade, LineMade, written}
 use Rattle.tidying.proofs.Apart.{suited_name}
@@ -49,20 +49,20 @@ lead_on b [] c ks d p q = subst (λ z. Lead z ks d) (sym p) q
 lead_on b (l ∷ ls) c ks d p q = (p.0, p.1, lead_on (add_line b l) ls c ks d p.2 q)
 
 -- the lines of one kind, by the book with some of them
-module _ {A : Type 0} (bookWith : List A → Book) (line_of : A → BookLine) (whole : List A) where
+module _ {A : Type 0} (book_with : List A → Book) (line_of : A → BookLine) (whole : List A) where
   -- the next of them leads from the book with those before it to the book with it too
   abbrev Next : List A → A → Type 0
-  Next done x = LineMade (line_of x) × (line_fault same_but_case (bookWith done) (line_of x) ≡ nothing)
-      × (add_line (bookWith done) (line_of x) ≡ bookWith (done ++ (x ∷ [])))
+  Next done x = LineMade (line_of x) × (line_fault same_but_case (book_with done) (line_of x) ≡ nothing)
+      × (add_line (book_with done) (line_of x) ≡ book_with (done ++ (x ∷ [])))
 
   -- then they lead from the book with the first of them to the book with all
   lead_kind : ((done : List A) (x : A) (todo : List A) → done ++ (x ∷ todo) ≡ whole → Next done x)
-      → (done todo : List A) → done ++ todo ≡ whole → Lead (bookWith done) (map line_of todo) (bookWith whole)
-  lead_kind h done [] e = ap bookWith (sym (append-nil done) ∙ e)
+      → (done todo : List A) → done ++ todo ≡ whole → Lead (book_with done) (map line_of todo) (book_with whole)
+  lead_kind h done [] e = ap book_with (sym (append-nil done) ∙ e)
   lead_kind h done (x ∷ todo) e =
       let (m, f, a) = h done x todo e in
       let behind = lead_kind h (done ++ (x ∷ [])) todo (append_assoc done (x ∷ []) todo ∙ e) in
-      (m, f, subst (λ z. Lead z (map line_of todo) (bookWith whole)) (sym a) behind)
+      (m, f, subst (λ z. Lead z (map line_of todo) (book_with whole)) (sym a) behind)
 
 -- a declared attribute has a name
 attr_name : (ds : List Attr) → NamesMade (attr_names ds) → (d : Attr) → d ∈ ds → IsName d.name
@@ -115,7 +115,7 @@ module _ (c : Book) (h : Made c) where
       let made = each_e (RelMade c) c.rels h.rels r (next_in done r todo c.rels e) in
       let labelled = each_e IsName c.labels h.labels.each r.label (mem_e r.label c.labels (rw made.label tt)) in
       let named : (i : ℕ) → i < length c.nodes → IsName (get_or (node_names c) i []) =
-      λ i l. each_e IsName (node_names c) h.names _ (get_d_in (node_names c) i [] (omega (arith, names_length c))) in
+      λ i l. each_e IsName (node_names c) h.names _ (get_or_in (node_names c) i [] (omega (arith, names_length c))) in
       let entries = entries_made c.eattrs r.entries h.eattrs made.entries in
       let gives = ap₂ (λ (i j : ℕ). with_rels c (done ++ (record { label = r.label; from = i; to = j; entries = r.entries } ∷ [])))
       (end_place c h r.from made.from) (end_place c h r.to made.to) in

@@ -18,7 +18,7 @@ use Rattle.model.specs.ReadBook.{suits, undeclared, related, name_faults, name_f
 use Rattle.model.specs.Tidy.{node_line_of, rel_line_of}
 use Rattle.model.proofs.Decides.{or_cases}
 use Rattle.model.proofs.Members.{◌∈◌, each_e, mem_i}
-use Rattle.model.proofs.Places.{map_append, get_d_in, place_at}
+use Rattle.model.proofs.Places.{map_append, get_or_in, place_at}
 use Rattle.model.proofs.Outcomes.{no_fault}
 use Rattle.renaming.proofs.AcceptedBook.{names_length}
 use Rattle.tidying.proofs.Made.{NoneAlike, NamesMade, EntriesMade, same_run, RelMade, Made}
@@ -98,7 +98,7 @@ module _ (c : Book) (h : Made c) where
 
   -- the name of a node is declared
   end_declared : (i : ℕ) → i < length c.nodes → T (mem (get_or (node_names c) i []) (node_names c))
-  end_declared i l = mem_i _ (node_names c) (get_d_in (node_names c) i [] (omega (arith, names_length c)))
+  end_declared i l = mem_i _ (node_names c) (get_or_in (node_names c) i [] (omega (arith, names_length c)))
 
   -- and gives the number of that node back
   pub end_place : (i : ℕ) → i < length c.nodes → place (get_or (node_names c) i []) (node_names c) ≡ i

@@ -15,9 +15,9 @@ use Rattle.model.specs.Pattern.{Edge}
 use Rattle.model.specs.Request.{Identity}
 use Rattle.model.specs.Weave.{no_vertex, identified_by, is_excluded, woven_too_many, with_identity, steps_along, tied, woven_fault}
 use Rattle.model.proofs.Members.{below_e, each_e}
-use Rattle.model.proofs.Places.{get_d_in}
+use Rattle.model.proofs.Places.{get_or_in}
 use Rattle.bits.specs.Word.{bit}
-use Rattle.book_tables.proofs.ListedLaws.{get_d_listed}
+use Rattle.book_tables.proofs.ListedLaws.{get_or_listed}
 use Rattle.woven_tables.specs.declared.WovenCounts.{WovenCounts}
 use Rattle.woven_tables.specs.Tables.{vertex_of_word, edge_at, vertices_at, edges_at, clauses_at, woven_at}
 use Rattle.woven_tables.specs.Reading.{ClausesInside}
@@ -35,7 +35,7 @@ use Rattle.weave.proofs.TieLaws.{all_same, marked_mem}
 
 vertex_at_law : (q r : Bytes) (words : List ℕ) (n v : ℕ) → v < n → get_or (vertices_at q r words n) v no_vertex ≡ vertex_of_word q r (get_or words v 0)
 unfolding vertices_at
-vertex_at_law q r words n v h = get_d_listed (λ i. vertex_of_word q r (get_or words i 0)) n v no_vertex h
+vertex_at_law q r words n v h = get_or_listed (λ i. vertex_of_word q r (get_or words i 0)) n v no_vertex h
 
 -- a woven pattern whose counts are kept passes no limit
 pub kept_within : (b : Book) (q r : Bytes) (words : List ℕ) (c : WovenCounts) → Kept q r words c → woven_too_many (woven_at b q r words c) ≡ false
@@ -56,8 +56,8 @@ unfolding woven_at edges_at edge_at
 edges_low b q r words c ranged i h =
     let none : Edge = record { name = []; label = []; from = 0; to = 0 } in
     let es = edges_at b q r words c.edges in
-    let here = each_e _ es ranged.edges (get_or es i none) (get_d_in es i none (omega (arith, length_edges b q r words c.edges))) in
-    let e = get_d_listed (λ i. edge_at b q r (get_or words (24 + i) 0) (get_or words (72 + i) 0)) c.edges i none h in
+    let here = each_e _ es ranged.edges (get_or es i none) (get_or_in es i none (omega (arith, length_edges b q r words c.edges))) in
+    let e = get_or_listed (λ i. edge_at b q r (get_or words (24 + i) 0) (get_or words (72 + i) 0)) c.edges i none h in
     let n = length_vertices q r words c.vertices in
     (omega (arith, here.0, ap (λ (x : Edge). x.from) e), omega (arith, here.1, ap (λ (x : Edge). x.to) e))
 

@@ -17,7 +17,7 @@ use Rattle.model.specs.Request.{Identity}
 use Rattle.model.specs.Weave.{WovenVertex, identified_by}
 use Rattle.model.specs.Answers.{name_at, identity_in}
 use Rattle.model.specs.declared.Identity.{Identity as IdentityData}
-use Rattle.model.proofs.Places.{get_d_map, length_map}
+use Rattle.model.proofs.Places.{get_or_map, length_map}
 use Rattle.bits.specs.Word.{bit, with}
 use Rattle.bits.specs.WordLaws.{bit_zero}
 use Rattle.woven_tables.specs.Tables.{vertex_of_word, name_of, no_node, node_in, identity_at, woven_words}
@@ -81,7 +81,7 @@ module _ (request : Bytes) (identities : List IdentityData) (count : ℕ) (few :
   at_identity : (i : ℕ) → i < count → get_or (identities_in request identities count) i nobody ≡ identity_in request (get_or identities i no_identity)
   at_identity i h =
       let l = length-take-le count identities few in
-      get_d_map (identity_in request) (take count identities) i no_identity nobody (omega arith)
+      get_or_map (identity_in request) (take count identities) i no_identity nobody (omega arith)
       ∙ ap (identity_in request) (get_or-take count identities i no_identity h)
 
   pub found_in : (v : WovenVertex) (i : ℕ) → i < count → ((j : ℕ) → j < i → identified_by v (identity_in request (get_or identities j no_identity)) ≡ false)

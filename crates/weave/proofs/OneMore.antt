@@ -16,7 +16,7 @@ use Rattle.model.specs.Weave.{moved_clause, moved_clauses, returns_of, weave}
 use Rattle.model.proofs.Members.{◌∈◌, joined_i}
 use Rattle.model.proofs.FirstNames.{firsts_by_append}
 use Rattle.model.proofs.WovenVertices.{first_vertices_i}
-use Rattle.model.proofs.Places.{get_d_in, length_map, joined_append}
+use Rattle.model.proofs.Places.{get_or_in, length_map, joined_append}
 use Rattle.weave.specs.OneMore.{under_names, more_vertices, one_more, ClauseWithin, Ranged}
 use Rattle.woven_tables.proofs.Places.{place_firsts}
 
@@ -115,7 +115,7 @@ stay_all ps ws (q ∷ qs) f =
     let vs = first_vertices [] (joined (λ (p : WovenPattern). p.vertices) ps) in (
       λ i h. place_firsts (get_or q.vertices i no_vertex) vs ws
           (first_vertices_i [] (joined (λ (p : WovenPattern). p.vertices) ps) (get_or q.vertices i no_vertex)
-          (joined_i (λ (p : WovenPattern). p.vertices) ps q (f q (Memᴰ.head refl)) (get_or q.vertices i no_vertex) (get_d_in q.vertices i no_vertex h))),
+          (joined_i (λ (p : WovenPattern). p.vertices) ps q (f q (Memᴰ.head refl)) (get_or q.vertices i no_vertex) (get_or_in q.vertices i no_vertex h))),
       stay_all ps ws qs (λ p i. f p (Memᴰ.tail i)),
     )
 

@@ -21,7 +21,7 @@ use Rattle.model.specs.declared.Condition.TheVariants.{Excluded, OfVertex, OfEdg
 use Rattle.model.specs.declared.Edge.{Edge as EdgeData}
 use Rattle.model.specs.declared.Clause.{Clause as ClauseData}
 use Rattle.model.specs.declared.Pattern.{Pattern as PatternData}
-use Rattle.model.proofs.Places.{get_d_in, length_map}
+use Rattle.model.proofs.Places.{get_or_in, length_map}
 use Rattle.book_tables.proofs.ListedLaws.{length_listed}
 use Rattle.woven_tables.specs.declared.WovenCounts.{WovenCounts}
 use Rattle.woven_tables.specs.declared.vertices.Numbers.{Numbers}
@@ -51,7 +51,7 @@ each_take P d (x ∷ xs) (suc n) f = (f 0 (omega arith), each_take P d xs n (λ 
 
 -- a vertex of a text has a place among the woven vertices
 place_in : (vs us : List WovenVertex) (i : ℕ) → i < length us → place_vertex (get_or us i no_vertex) (first_vertices vs us) < length (first_vertices vs us)
-place_in vs us i h = (at_vertex (first_vertices vs us) (get_or us i no_vertex) (first_vertices_i vs us (get_or us i no_vertex) (get_d_in us i no_vertex h))).0
+place_in vs us i h = (at_vertex (first_vertices vs us) (get_or us i no_vertex) (first_vertices_i vs us (get_or us i no_vertex) (get_or_in us i no_vertex h))).0
 
 -- what a test keeps and what it does not
 pub keep_both : {A : Type 0} (p : A → Bool) (xs : List A) → length (keep p xs) + length (keep (λ x. not (p x)) xs) ≡ length xs

@@ -20,7 +20,7 @@ use Rattle.model.specs.Weave.{Asked, moved, moved_edge, moved_clause, named, mov
 use Rattle.model.proofs.Members.{◌∈◌, mem_e, mem_i, each_e, each_i, joined_e, joined_i, firsts_i}
 use Rattle.model.proofs.ByNodes.{NamedIn, Named}
 use Rattle.model.proofs.Chains.{chain_ends}
-use Rattle.model.proofs.Places.{at_place, get_d_in, length_map}
+use Rattle.model.proofs.Places.{at_place, get_or_in, length_map}
 use Rattle.weave.specs.OneMore.{under_names, more_vertices, one_more, ClauseWithin, Ranged}
 use Rattle.weave.proofs.OneMore.{Sound, ranged_under, weave_keeps}
 use Rattle.model.proofs.WovenVertices.{at_vertex, first_vertices_i}
@@ -50,7 +50,7 @@ pub moved_below : (own : WovenPattern) (vs : List WovenVertex) (i : ℕ) → i <
     → moved (first_vertices vs own.vertices) own i < length (first_vertices vs own.vertices)
 unfolding moved
 moved_below own vs i h = (at_vertex (first_vertices vs own.vertices) (get_or own.vertices i no_vertex)
-    (first_vertices_i vs own.vertices (get_or own.vertices i no_vertex) (get_d_in own.vertices i no_vertex h))).0
+    (first_vertices_i vs own.vertices (get_or own.vertices i no_vertex) (get_or_in own.vertices i no_vertex h))).0
 
 -- the edges and clauses of a text, moved to woven numbers
 module _ (own : WovenPattern) (ranged : Ranged own) (ws : List WovenVertex) (m : ℕ) where
@@ -172,7 +172,7 @@ module _ (p : WovenPattern) (ranged : Ranged p) where
   pub ends_within : (e : ℕ) → e < length p.edges → ((edge_at p e).from < length p.vertices) × ((edge_at p e).to < length p.vertices)
   unfolding edge_at
   ends_within e h = each_e (λ (e : Edge). (e.from < length p.vertices) × (e.to < length p.vertices)) p.edges ranged.edges _
-      (get_d_in p.edges e _ h)
+      (get_or_in p.edges e _ h)
 
   pub clause_within : (c : Clause) → c ∈ p.clauses → ClauseWithin (length p.vertices) (length p.edges) c
   clause_within c i = each_e (ClauseWithin (length p.vertices) (length p.edges)) p.clauses ranged.clauses c i

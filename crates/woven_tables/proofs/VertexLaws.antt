@@ -16,7 +16,7 @@ use Rattle.model.specs.Weave.{WovenVertex, same_vertex, place_vertex, first_vert
 use Rattle.model.specs.declared.Part.{Part}
 use Rattle.model.proofs.Members.{◌∈◌}
 use Rattle.model.proofs.FirstNames.{firsts_by_append}
-use Rattle.model.proofs.Places.{get_d_in, get_d_map, length_map}
+use Rattle.model.proofs.Places.{get_or_in, get_or_map, length_map}
 use Rattle.book_tables.proofs.ListedLaws.{listed_more, listed_same, length_listed}
 use Rattle.woven_tables.specs.declared.vertices.Placed.{Placed}
 use Rattle.woven_tables.specs.Tables.{NameInside, VerticesInside, vertices_at, vertex_of_word, woven_words}
@@ -133,7 +133,7 @@ module _ (vs names : List WovenVertex) (i : ℕ) (all : List WovenVertex) (numbe
       let there : get_or names j no_vertex ∈ all = subst (λ z. get_or names j no_vertex ∈ z) (sym so_far.vertices)
       (first_vertices_i vs (take i names) (get_or names j no_vertex)
       (subst (λ z. z ∈ take i names) (get_or-take i names j no_vertex h)
-      (get_d_in (take i names) j no_vertex (omega (arith, length-take-le i names (omega arith)))))) in
+      (get_or_in (take i names) j no_vertex (omega (arith, length-take-le i names (omega arith)))))) in
       place_firsts (get_or names j no_vertex) all (get_or names i no_vertex ∷ []) there
 
   pub numbered_more : i < length numbers → Numbered vs names (i + 1) (add_new_by same_vertex all (get_or names i no_vertex))
@@ -171,8 +171,8 @@ module _ (text : Bytes) (k : ℕ) (actors : List Bytes) (parts : List Part) (cou
   own_name i h =
       let few-taken = length-take-le count parts few in
       let few-mapped = length_map (name_at text) (take count parts) in
-      get_d_map (weave_vertex k actors) (map (name_at text) (take count parts)) i [] no_vertex (omega arith)
-      ∙ ap (weave_vertex k actors) (get_d_map (name_at text) (take count parts) i no_part [] (omega arith) ∙ ap (name_at text) (get_or-take count parts i no_part h))
+      get_or_map (weave_vertex k actors) (map (name_at text) (take count parts)) i [] no_vertex (omega arith)
+      ∙ ap (weave_vertex k actors) (get_or_map (name_at text) (take count parts) i no_part [] (omega arith) ∙ ap (name_at text) (get_or-take count parts i no_part h))
 
 -- the same, the text being what stands from a base on
 pub own_says : (text : Bytes) (base k : ℕ) (actors : List Bytes) (parts : List Part) (count : ℕ) → count ≤ length parts → (i : ℕ) → i < count

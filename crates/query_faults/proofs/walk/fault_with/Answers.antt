@@ -13,7 +13,7 @@ loop-x-init c =
 pub piece_passed-t-requires : goal.piece_passed-t-requires
 piece_passed-t-requires c = (
   c.requires.0,
-  record { vertex_names_law = c.loop-x.invariant.0.vertex_names_law; edge_names_law = c.loop-x.invariant.0.edge_names_law },
+  record { vertex_names = c.loop-x.invariant.0.vertex_names; edge_names = c.loop-x.invariant.0.edge_names },
   c.loop-x.invariant.0.return_names,
   subst (StepInside c.args.s.now) c.in-Found.is c.next_piece.ensures.inside,
 )

@@ -4,5 +4,5 @@ use Rattle.query_faults.proofs.walk.link_passed.Goals as goal
 
 pub returns : goal.returns
 returns c =
-    λ returned h. behind_link _ _ _ _ _ _ _ _ _ _ _ c.link_seen-r.ensures (c.with_name.ensures _ c.requires.1.vertex_names_law)
-    (c.with_name-2.ensures _ c.requires.1.edge_names_law) h
+    λ returned h. behind_link _ _ _ _ _ _ _ _ _ _ _ c.link_seen-r.ensures (c.with_name.ensures _ c.requires.1.vertex_names)
+    (c.with_name-2.ensures _ c.requires.1.edge_names) h

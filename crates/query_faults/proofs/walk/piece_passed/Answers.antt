@@ -27,14 +27,14 @@ demand_seen-r-requires c =
 pub return_seen-r-requires : goal.return_seen-r-requires
 return_seen-r-requires c =
     let inside = subst (PieceInside c.args.s.now) c.in-Returns.is c.requires.3 in
-    (c.requires.1.vertex_names_law, c.requires.2, inside)
+    (c.requires.1.vertex_names, c.requires.2, inside)
 
 pub returns-in-Start : goal.returns-in-Start
 unfolding piece_of
 returns-in-Start c =
     behind_is _ _ _ _ _ _ _ _ _ _ c.in-Start.is
-    (behind_start _ _ _ _ _ _ _ _ _ (c.start_seen-r.ensures _) (c.with_name.ensures _ c.requires.1.vertex_names_law)
-    c.requires.1.edge_names_law c.requires.2)
+    (behind_start _ _ _ _ _ _ _ _ _ (c.start_seen-r.ensures _) (c.with_name.ensures _ c.requires.1.vertex_names)
+    c.requires.1.edge_names c.requires.2)
 
 pub returns-in-Linked : goal.returns-in-Linked
 returns-in-Linked c =
@@ -44,17 +44,17 @@ pub returns-in-Differ : goal.returns-in-Differ
 unfolding piece_of
 returns-in-Differ c =
     behind_is _ _ _ _ _ _ _ _ _ _ c.in-Differ.is
-    (behind_asks _ _ _ _ _ _ _ _ _ (c.differ_seen-r.ensures _) c.requires.1.vertex_names_law c.requires.1.edge_names_law c.requires.2)
+    (behind_asks _ _ _ _ _ _ _ _ _ (c.differ_seen-r.ensures _) c.requires.1.vertex_names c.requires.1.edge_names c.requires.2)
 
 pub returns-in-Asks : goal.returns-in-Asks
 unfolding piece_of
 returns-in-Asks c =
     behind_is _ _ _ _ _ _ _ _ _ _ c.in-Asks.is
-    (behind_asks _ _ _ _ _ _ _ _ _ c.demand_seen-r.ensures c.requires.1.vertex_names_law c.requires.1.edge_names_law c.requires.2)
+    (behind_asks _ _ _ _ _ _ _ _ _ c.demand_seen-r.ensures c.requires.1.vertex_names c.requires.1.edge_names c.requires.2)
 
 pub returns-in-Returns : goal.returns-in-Returns
 unfolding piece_of
 returns-in-Returns c =
     behind_is _ _ _ _ _ _ _ _ _ _ c.in-Returns.is
-    (behind_return _ _ _ _ _ _ _ _ _ (c.return_seen-r.ensures _) c.requires.1.vertex_names_law c.requires.1.edge_names_law
+    (behind_return _ _ _ _ _ _ _ _ _ (c.return_seen-r.ensures _) c.requires.1.vertex_names c.requires.1.edge_names
     (c.with_name-in-Returns.ensures _ c.requires.2))

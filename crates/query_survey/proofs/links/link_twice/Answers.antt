@@ -18,19 +18,19 @@ returns-then-before c =
     c.if-before.true
 
 pub stands_before-requires : goal.stands_before-requires
-stands_before-requires c = (c.requires.0.edge_names_law, c.requires.1)
+stands_before-requires c = (c.requires.0.edge_names, c.requires.1)
 
 pub returns-then-stands_before : goal.returns-then-stands_before
 returns-then-stands_before c = rw (← c.stands_before.ensures, c.if-stands_before.true)
 
 pub stands_before-requires-2 : goal.stands_before-requires-2
-stands_before-requires-2 c = (c.requires.0.vertex_names_law, c.requires.1)
+stands_before-requires-2 c = (c.requires.0.vertex_names, c.requires.1)
 
 pub returns-then-stands_before-2 : goal.returns-then-stands_before-2
 returns-then-stands_before-2 c = rw (← c.stands_before.ensures, c.if-stands_before.false, ← c.stands_before-2.ensures, c.if-stands_before-2.true)
 
 pub stands_before-requires-3 : goal.stands_before-requires-3
-stands_before-requires-3 c = (c.requires.0.edge_names_law, c.requires.2)
+stands_before-requires-3 c = (c.requires.0.edge_names, c.requires.2)
 
 pub returns-then-stands_before-3 : goal.returns-then-stands_before-3
 returns-then-stands_before-3 c =

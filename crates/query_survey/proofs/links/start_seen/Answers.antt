@@ -2,10 +2,10 @@ use Rattle.query_survey.proofs.SeenLaws.{start_is}
 use Rattle.query_survey.proofs.links.start_seen.Goals as goal
 
 pub seen_before-twice-requires : goal.seen_before-twice-requires
-seen_before-twice-requires c = (c.requires.0.edge_names_law, c.requires.1)
+seen_before-twice-requires c = (c.requires.0.edge_names, c.requires.1)
 
 pub vertices_left-left-requires : goal.vertices_left-left-requires
-vertices_left-left-requires c = (c.requires.0.vertex_names_law, c.requires.1)
+vertices_left-left-requires c = (c.requires.0.vertex_names, c.requires.1)
 
 pub returns : goal.returns
 returns c = λ b rest. start_is b _ c.args.t rest _ _ _ c.seen_before-twice.ensures c.vertices_left-left.ensures
