@@ -1,5 +1,5 @@
 -- Words of rows: a word past the last row is 0, another is that word of its row; and a condition's row from its value's.
-use Prim.Native.Nat.{ℕ, ◌/◌, ◌%◌, ◌≤◌, ◌<◌}
+use Prim.Native.Nat.{ℕ, ◌+◌, ◌/◌, ◌%◌, ◌≤◌, ◌<◌}
 use mathlib.Core.Path.{◌≡◌, refl, sym, ap, ◌∙◌}
 use mathlib.Core.Bool.{Bool, true, false}
 use mathlib.Core.List.{List, [], ◌∷◌}
@@ -8,7 +8,12 @@ use borrow.Author.Tests.{le-leb, lt-leb}
 use Rattle.model.specs.declared.Value.{Value}
 use Rattle.model.specs.declared.Value.TheVariants.{Number, Text, Truth}
 use Rattle.model.specs.declared.Requirement.{Requirement}
-use Rattle.answer_words.specs.Words.{row_word, relation_word, value_row, requirement_row, return_word}
+use denote.Enum.Declared.{tag_of}
+use Rattle.model.specs.contracts.Relation.{the_type}
+use Rattle.model.specs.declared.Relation.{Relation}
+use Rattle.model.specs.declared.Relation.TheVariants.{Equal, Differs, Less, AtMost, Greater, AtLeast}
+use Rattle.std.specs.Int.{from_bool}
+use Rattle.answer_words.specs.Words.{row_word, relation_word, value_row, requirement_row}
 
 module _ (width count : ℕ) (row : ℕ → List ℕ) (k : ℕ) where
   pub past_rows : count ≤ k / width → 0 ≡ row_word width count row k
@@ -19,24 +24,11 @@ module _ (width count : ℕ) (row : ℕ → List ℕ) (k : ℕ) where
   unfolding row_word
   in_row xs h e = ap (λ (l : List ℕ). get_or l (k % width) 0) e ∙ sym (rw (lt-leb count (k / width) h))
 
-module _ (rs : List ℕ) (count k : ℕ) where
-  pub past_returns : count ≤ k → 0 ≡ return_word rs count k
-  unfolding return_word
-  past_returns h = rw (le-leb count k h)
-
-  pub in_returns : k < count → get_or rs k 0 ≡ return_word rs count k
-  unfolding return_word
-  in_returns h = sym (rw (lt-leb count k h))
-
 -- the row of a truth value
-module _ (v : Value) (t : Bool) (e : v ≡ Truth t) where
-  pub row_of_true : t ≡ true → 3 ∷ 1 ∷ 0 ∷ [] ≡ value_row v
-  unfolding value_row
-  row_of_true h = rw (e, h)
-
-  pub row_of_false : t ≡ false → 3 ∷ 0 ∷ 0 ∷ [] ≡ value_row v
-  unfolding value_row
-  row_of_false h = rw (e, h)
+pub row_of_truth : (v : Value) (t : Bool) (n : ℕ) → v ≡ Truth t → n ≡ from_bool t → 3 ∷ n ∷ 0 ∷ [] ≡ value_row v
+unfolding value_row
+row_of_truth v true n e f = rw (e, f)
+row_of_truth v false n e f = rw (e, f)
 
 -- a value's row has three words
 three_words : (v : Value) → get_or (value_row v) 0 0 ∷ get_or (value_row v) 1 0 ∷ get_or (value_row v) 2 0 ∷ [] ≡ value_row v
@@ -44,6 +36,16 @@ unfolding value_row
 three_words (Number n) = refl
 three_words (Text s n) = refl
 three_words (Truth t) = refl
+
+-- a relation's word is one more than its place among the relations
+pub relation_told : (r : Relation) → 1 + tag_of the_type r ≡ relation_word r
+unfolding relation_word
+relation_told Equal = refl
+relation_told Differs = refl
+relation_told Less = refl
+relation_told AtMost = refl
+relation_told Greater = refl
+relation_told AtLeast = refl
 
 -- a requirement's row from the relation's number and the value's row
 pub row_of_requirement : (kind owner : ℕ) (x : Requirement) (n : ℕ) (w : List ℕ) → n ≡ relation_word x.relation → w ≡ value_row x.value

@@ -1,7 +1,8 @@
 // The vertices, the edges and the Return names of a pattern in words.
-ghost use Rattle.std.specs.Prelude.{◌≡◌, ◌<◌};
-ghost use Rattle.answer_words.specs.Words.{vertex_row, edge_row, row_word, return_word, vertex_words, edge_words, return_words};
+ghost use Rattle.std.specs.Prelude.{◌≡◌, [], ◌∷◌};
+ghost use Rattle.answer_words.specs.Words.{vertex_row, edge_row, vertex_words, edge_words, return_words};
 
+use crate::rows::{Told, words_of};
 use model::limits::MAX_RETURNS;
 use model::{Edge, Part, Pattern};
 
@@ -15,102 +16,56 @@ const EDGE_WORDS: usize = 5;
 
 pub const ALL_EDGE_WORDS: usize = 80;
 
+// A Return name is told in one word, the number of its vertex.
+const RETURN_WORDS: usize = 1;
+
+impl Told<VERTEX_WORDS> for Part {
+    ghost row_of = { vertex_row };
+
+    fn row(self) -> [usize; VERTEX_WORDS] {
+        [self.start, self.length]
+    }
+}
+
+impl Told<EDGE_WORDS> for Edge {
+    ghost row_of = { edge_row };
+
+    fn row(self) -> [usize; EDGE_WORDS] {
+        [
+            self.name.start,
+            self.name.length,
+            self.label,
+            self.from,
+            self.to,
+        ]
+    }
+}
+
+impl Told<RETURN_WORDS> for usize {
+    ghost row_of = { λ vertex. vertex ∷ [] };
+
+    fn row(self) -> [usize; RETURN_WORDS] {
+        [self]
+    }
+}
+
 // The words of a pattern's vertices.
 pub fn vertex_words(pattern: Pattern) -> [usize; ALL_VERTEX_WORDS]
     ensures { result ≡ vertex_words pattern }
 {
-    let given = pattern.vertices;
-    let count = pattern.counts.vertices;
-    let mut words = [0; ALL_VERTEX_WORDS];
-    let mut k = 0;
-    while k < ALL_VERTEX_WORDS {
-        words[k] = vertex_word(given[k / VERTEX_WORDS], count, k);
-        k += 1;
-    }
-    words
-}
-
-// One of those words, of which the vertex is given.
-fn vertex_word(vertex: Part, count: usize, k: usize) -> usize
-    requires { k < 16 }
-    ensures { result ≡ row_word 2 count (λ _. vertex_row vertex) k }
-{
-    if count <= k / VERTEX_WORDS {
-        return 0;
-    }
-    let row = vertex_row(vertex);
-    row[k % VERTEX_WORDS]
-}
-
-// The words of one vertex.
-fn vertex_row(vertex: Part) -> [usize; VERTEX_WORDS]
-    ensures { result ≡ vertex_row vertex }
-{
-    [vertex.start, vertex.length]
+    words_of::<_, VERTEX_WORDS, _, _>(pattern.vertices, pattern.counts.vertices)
 }
 
 // The words of a pattern's edges.
 pub fn edge_words(pattern: Pattern) -> [usize; ALL_EDGE_WORDS]
     ensures { result ≡ edge_words pattern }
 {
-    let given = pattern.edges;
-    let count = pattern.counts.edges;
-    let mut words = [0; ALL_EDGE_WORDS];
-    let mut k = 0;
-    while k < ALL_EDGE_WORDS {
-        words[k] = edge_word(given[k / EDGE_WORDS], count, k);
-        k += 1;
-    }
-    words
-}
-
-// One of those words, of which the edge is given.
-fn edge_word(edge: Edge, count: usize, k: usize) -> usize
-    requires { k < 80 }
-    ensures { result ≡ row_word 5 count (λ _. edge_row edge) k }
-{
-    if count <= k / EDGE_WORDS {
-        return 0;
-    }
-    let row = edge_row(edge);
-    row[k % EDGE_WORDS]
-}
-
-// The words of one edge.
-fn edge_row(edge: Edge) -> [usize; EDGE_WORDS]
-    ensures { result ≡ edge_row edge }
-{
-    [
-        edge.name.start,
-        edge.name.length,
-        edge.label,
-        edge.from,
-        edge.to,
-    ]
+    words_of::<_, EDGE_WORDS, _, _>(pattern.edges, pattern.counts.edges)
 }
 
 // The words of a pattern's Return names.
 pub fn return_words(pattern: Pattern) -> [usize; MAX_RETURNS]
     ensures { result ≡ return_words pattern }
 {
-    let given = pattern.returns;
-    let count = pattern.counts.returns;
-    let mut words = [0; MAX_RETURNS];
-    let mut k = 0;
-    while k < MAX_RETURNS {
-        words[k] = return_word(given, count, k);
-        k += 1;
-    }
-    words
-}
-
-// One of those words.
-fn return_word(given: [usize; MAX_RETURNS], count: usize, k: usize) -> usize
-    requires { k < 4 }
-    ensures { result ≡ return_word given count k }
-{
-    if count <= k {
-        return 0;
-    }
-    given[k]
+    words_of::<_, RETURN_WORDS, _, _>(pattern.returns, pattern.counts.returns)
 }

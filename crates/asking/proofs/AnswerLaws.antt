@@ -5,6 +5,7 @@ use mathlib.Core.Bool.{Bool, true, false}
 use mathlib.Core.List.{List}
 use native.Mathlib.Omega.{arith}
 use lib.ListN.{length}
+use Rattle.std.specs.Prelude.{Result, Ok, Err, Option, Some, None}
 use Rattle.model.specs.Refusal.{Outcome, accepted, refused}
 use Rattle.model.specs.Book.{Book}
 use Rattle.model.specs.Request.{Identity}
@@ -19,23 +20,22 @@ use Rattle.weave.specs.Given.{Identified}
 use Rattle.problem.specs.Rows.{RowsFound}
 use Rattle.model.specs.Answers.{refusal_of}
 use Rattle.model.specs.declared.Refusal.{Refusal as RefusalData}
-use Rattle.asking.specs.declared.RowsAsked.{RowsAsked}
-use Rattle.asking.specs.declared.RowsAsked.TheVariants as answer
+use Rattle.model.specs.declared.RowsSize.{RowsSize}
 use Rattle.asking.specs.Asks.{AreFound, TooManyRows, ByAnswer, Asks}
 
 -- the same answer, of an outcome that is the same
-pub asks_as : (o o' : Outcome FoundRows) (n : ℕ) (after : List ℕ) (r : RowsAsked) → o ≡ o' → Asks o' n after r → Asks o n after r
+pub asks_as : (o o' : Outcome FoundRows) (n : ℕ) (after : List ℕ) (r : Result (Option RowsSize) RefusalData) → o ≡ o' → Asks o' n after r → Asks o n after r
 asks_as o o' n after r e h = subst (λ (x : Outcome FoundRows). Asks x n after r) (sym e) h
 
 -- what is said, the answer being known
-module _ {o : Outcome FoundRows} {words : ℕ} {after : List ℕ} {r : RowsAsked} where
-  pub told_found : {n w : ℕ} → r ≡ answer.Found n w → Asks o words after r → AreFound o words after n w
+module _ {o : Outcome FoundRows} {words : ℕ} {after : List ℕ} {r : Result (Option RowsSize) RefusalData} where
+  pub told_found : {s : RowsSize} → r ≡ Ok (Some s) → Asks o words after r → AreFound o words after s.rows s.width
   told_found e h = subst (ByAnswer o words after) e h.given
 
-  pub told_full : r ≡ answer.Full → Asks o words after r → TooManyRows o words
+  pub told_full : r ≡ Ok None → Asks o words after r → TooManyRows o words
   told_full e h = subst (ByAnswer o words after) e h.given
 
-  pub told_refused : {x : RefusalData} → r ≡ answer.Refused x → Asks o words after r → o ≡ refused (refusal_of x)
+  pub told_refused : {x : RefusalData} → r ≡ Err x → Asks o words after r → o ≡ refused (refusal_of x)
   told_refused e h = subst (ByAnswer o words after) e h.given
 
 -- all rows of a problem, as the search found them

@@ -6,6 +6,7 @@ use native.Mathlib.Omega.{arith}
 use lib.ListN.{length, take, drop, length-drop}
 use lib.Seq.{length-take-le}
 use borrow.Author.Tests.{lt-ltb, le-ltb}
+use Rattle.std.specs.Prelude.{Result, Ok, Err}
 use Rattle.model.specs.Bytes.{Bytes}
 use Rattle.model.specs.Choice.{and_then}
 use Rattle.model.specs.Lists.{sum}
@@ -30,8 +31,6 @@ use Rattle.book_tables.specs.Fits.{Fits}
 use Rattle.book_tables.specs.Stores.{no_counts, without_chains}
 use Rattle.fill.specs.Filled.{filled}
 use Rattle.fill.specs.FilledLaws.{length_filled, filled_whole}
-use Rattle.book_steps.specs.declared.LineStep.{LineStep}
-use Rattle.book_steps.specs.declared.LineStep.TheVariants.{Fault, Known}
 use Rattle.book_steps.specs.Steps.{step_of, Stepped}
 use Rattle.book_lines.specs.Forms.{form_step_of, FormAsked}
 use Rattle.book.specs.Loaded.{LineAsked}
@@ -73,12 +72,12 @@ unfolding book_step line_at form_of form_step and_then
 line_open rule text from to b h = rw (le-ltb to (length text) h)
 
 -- what a line's step says, by its case
-pub step_refuses : (text : Bytes) (words : List ℕ) (s : Step Book) (r : LineStep) (n : ℕ) → r ≡ Fault n → Stepped text words r s → s ≡ fault n
-step_refuses text words s r n e h = subst (λ (x : LineStep). Stepped text words x s) e h
+pub step_refuses : (text : Bytes) (words : List ℕ) (s : Step Book) (r : Result BookCounts ℕ) (n : ℕ) → r ≡ Err n → Stepped text words r s → s ≡ fault n
+step_refuses text words s r n e h = subst (λ (x : Result BookCounts ℕ). Stepped text words x s) e h
 
-pub step_adds : (text : Bytes) (words : List ℕ) (s : Step Book) (r : LineStep) (c : BookCounts) → r ≡ Known c → Stepped text words r s
+pub step_adds : (text : Bytes) (words : List ℕ) (s : Step Book) (r : Result BookCounts ℕ) (c : BookCounts) → r ≡ Ok c → Stepped text words r s
     → (s ≡ known (book_at text words c)) × Fits text words c
-step_adds text words s r c e h = subst (λ (x : LineStep). Stepped text words x s) e h
+step_adds text words s r c e h = subst (λ (x : Result BookCounts ℕ). Stepped text words x s) e h
 
 -- words that were filled are all ones
 pub filled_ones : (words words' : List ℕ) → words' ≡ filled 0 words → words' ≡ ones (length words')

@@ -10,16 +10,14 @@ ghost use Rattle.book_tables.specs.View.{book_at};
 ghost use Rattle.book_steps.specs.Steps.{Stepped};
 ghost use Rattle.book.specs.Loaded.{LineAsked, Loaded};
 
-use crate::BookLoad;
-use book_steps::LineStep;
 use book_tables::{BookCounts, NameRule, no_counts};
 use model::Refusal;
 use model::limits::MAX_BOOK_BYTES;
 use model::refusal_numbers::{BOOK, BROKEN, NOT_ALLOWED, TOO_LONG};
-use text::BytesRead;
+use text::BytesFault;
 
-// Reads a book into the tables, by names of nodes that are equal but for case; on a refusal they are all ones.
-pub fn load(text: &[u8], words: &mut [u32]) -> BookLoad
+// Reads a book into the tables, and answers their counts, by names of nodes that are equal but for case; on a refusal they are all ones.
+pub fn load(text: &[u8], words: &mut [u32]) -> Result<BookCounts, Refusal>
     requires { book_words ≤ length words.old }
     ensures { Loaded text.now words.new result (read_book text.now) }
 {
@@ -27,35 +25,35 @@ pub fn load(text: &[u8], words: &mut [u32]) -> BookLoad
 }
 
 // The same by a rule for the names of nodes: which of them are given a second time.
-pub fn load_by(text: &[u8], words: &mut [u32], rule: NameRule) -> BookLoad
+pub fn load_by(text: &[u8], words: &mut [u32], rule: NameRule) -> Result<BookCounts, Refusal>
     requires { book_words ≤ length words.old }
     ensures { Loaded text.now words.new result (read_book_by (alike rule) text.now) }
 {
     match text::lines::bytes_read(text, MAX_BOOK_BYTES) {
-        BytesRead::TooLong => {
+        Err(BytesFault::TooLong) => {
             fill::fill(words, 0);
-            return BookLoad::Refused(Refusal {
+            return Err(Refusal {
                 number: TOO_LONG,
                 text: BOOK,
                 line: 0,
             });
         }
-        BytesRead::BadLine(line) => {
+        Err(BytesFault::BadLine(line)) => {
             fill::fill(words, 0);
-            return BookLoad::Refused(Refusal {
+            return Err(Refusal {
                 number: NOT_ALLOWED,
                 text: BOOK,
                 line: line as u32,
             });
         }
-        BytesRead::Allowed => {
+        Ok(()) => {
             return load_lines(text, words, rule);
         }
     }
 }
 
 // Reads the lines of a book into the tables; on a refusal they are all ones.
-fn load_lines(text: &[u8], words: &mut [u32], rule: NameRule) -> BookLoad
+fn load_lines(text: &[u8], words: &mut [u32], rule: NameRule) -> Result<BookCounts, Refusal>
     requires { (length text.now ≤ 65536) × (book_words ≤ length words.old) }
     ensures { Loaded text.now words.new result (read_lines 1 (book_step (alike rule)) 1 empty_book (lines_of text.now)) }
 {
@@ -66,22 +64,22 @@ fn load_lines(text: &[u8], words: &mut [u32], rule: NameRule) -> BookLoad
     while at < text.len() {
         let to = text::lines::line_end(text, at);
         match line_step(text, at, to, words, counts, rule) {
-            LineStep::Fault(number) => {
+            Err(number) => {
                 fill::fill(words, 0);
-                return BookLoad::Refused(Refusal {
+                return Err(Refusal {
                     number,
                     text: BOOK,
                     line,
                 });
             }
-            LineStep::Known(more) => {
+            Ok(more) => {
                 counts = more;
             }
         }
         at = to + 1;
         line += 1;
     }
-    BookLoad::Loaded(counts)
+    Ok(counts)
 }
 
 // Reads one line from its start to its line feed; without a line feed it breaks the grammar.
@@ -92,13 +90,13 @@ fn line_step(
     words: &mut [u32],
     counts: BookCounts,
     rule: NameRule,
-) -> LineStep
+) -> Result<BookCounts, u32>
     requires { LineAsked text.now words.old counts from to }
     ensures { Stepped text.now words.new result
         (book_step (alike rule) (book_at text.now words.old counts) (line_at text.now from to)) }
 {
     if text.len() <= to {
-        return LineStep::Fault(BROKEN);
+        return Err(BROKEN);
     }
     book_lines::forms::read_line(text, &text[from..to], from, words, counts, rule)
 }

@@ -4,7 +4,8 @@ use mathlib.Core.Path.{◌≡◌, refl, sym, ap, ◌∙◌}
 use mathlib.Core.List.{List, [], ◌∷◌, ◌++◌, map}
 use mathlib.Core.Bool.{Bool, true, false}
 use native.Mathlib.Omega.{arith}
-use lib.ListN.{length, take, drop, length-append}
+use lib.ListN.{take, drop, length-append}
+use Rattle.std.specs.Prelude.{Some}
 use Rattle.bits.specs.Word.{bit, with}
 use Rattle.model.specs.Bytes.{Bytes}
 use Rattle.model.specs.Names.{mem, place}
@@ -36,7 +37,7 @@ module _ (text : Bytes) (words : List ℕ) (c : BookCounts) (offset declared : �
   undeclared_mem l = place_out text words offset declared (name_at text name) (rw (← found) l)
 
   pub entry_undeclared : declared ≤ a
-      → EntryAdded text words words c offset declared name value known (record { fault = 4; seen = known.seen; count = known.count + 1 })
+      → EntryAdded text words words c offset declared name value known (record { fault = Some 4; seen = known.seen; count = known.count + 1 })
   entry_undeclared l = record {
     agrees = agree_same c words;
     counted = refl;
@@ -45,7 +46,7 @@ module _ (text : Bytes) (words : List ℕ) (c : BookCounts) (offset declared : �
       fault = sym (fault_undeclared (attrs_at text words offset declared) es entry
           (ap (mem (name_at text name)) (attr_names_law text words offset declared) ∙ undeclared_mem l));
       seen = seen_same text words offset declared asked.table.names entry (undeclared_mem l) known.seen es h.seen;
-      stored = λ z room. absurd (omega arith);
+      stored = λ z room. cc;
     };
   }
 

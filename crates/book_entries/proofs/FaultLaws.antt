@@ -3,9 +3,7 @@ use Prim.Native.Nat.{ℕ}
 use mathlib.Core.Path.{◌≡◌, refl}
 use mathlib.Core.List.{List, [], ◌∷◌, ◌++◌, map}
 use mathlib.Core.Bool.{Bool, true, false, not, ◌||◌, ◌&&◌}
-use lib.Dec.{ltb}
-use borrow.Author.Tests.{ne_eqb}
-use Rattle.logic.specs.Tests.{either, equal_or_not}
+use Rattle.std.specs.Prelude.{Option, None, Some}
 use Rattle.model.specs.Choice.{pick}
 use Rattle.model.specs.Lists.{all}
 use Rattle.model.specs.Names.{mem, twice}
@@ -18,7 +16,8 @@ use Rattle.book_tables.proofs.MemberLaws.{twice_end}
 
 -- undeclared, twice, suited of the entries before; declared, seen, suited of the new one
 cases : (u t s d n w : Bool)
-    → pick (u || not d) 4 (pick (t || n) 5 (pick (s && w) 0 6)) ≡ lower (pick u 4 (pick t 5 (pick s 0 6))) (entry_fault d n w)
+    → pick (u || not d) (Some 4) (pick (t || n) (Some 5) (pick (s && w) None (Some 6)))
+    ≡ lower (pick u (Some 4) (pick t (Some 5) (pick s None (Some 6)))) (entry_fault d n w)
 unfolding lower entry_fault
 cases true t s true true w = refl
 cases true t s true false true = refl
@@ -52,21 +51,17 @@ fault_more ds es e =
     (mem e.attr (map (λ (x : Entry). x.attr) es)) (suits ds e))
 
 -- an attribute that is not declared
-pub fault_undeclared : (ds : List Attr) (es : List Entry) (e : Entry) → mem e.attr (attr_names ds) ≡ false → entries_fault ds (es ++ (e ∷ [])) ≡ 4
+pub fault_undeclared : (ds : List Attr) (es : List Entry) (e : Entry) → mem e.attr (attr_names ds) ≡ false → entries_fault ds (es ++ (e ∷ [])) ≡ Some 4
 unfolding entries_fault undeclared
 fault_undeclared ds es e h = rw (any_end (λ (x : Entry). not (mem x.attr (attr_names ds))) es e, h) (go (undeclared ds es) _)
   where
-    go : (u : Bool) (a : ℕ) → pick (u || true) 4 a ≡ 4
+    go : (u : Bool) (a : Option ℕ) → pick (u || true) (Some 4) a ≡ Some 4
     go true a = refl
     go false a = refl
 
 -- no fault with the new entry, none before
-pub lower_none : (f n : ℕ) → lower f n ≡ 0 → f ≡ 0
+pub lower_none : (f n : Option ℕ) → lower f n ≡ None → f ≡ None
 unfolding lower
-lower_none f n h = either (equal_or_not f 0) (λ e. e) (λ x. either (equal_or_not n 0)
-    (λ e. rw e at h)
-    (λ y. absurd (third (ltb n f) x.1 y.1 (rw (ne_eqb n 0 y.1, ne_eqb f 0 x.1) at h))))
-  where
-    third : (t : Bool) → (f ≡ 0 → ⊥) → (n ≡ 0 → ⊥) → pick t n f ≡ 0 → ⊥
-    third true x y e = y e
-    third false x y e = x e
+lower_none None n h = refl
+lower_none (Some x) None h = h
+lower_none (Some x) (Some y) h = cc

@@ -14,7 +14,6 @@ use Rattle.model.specs.Values.{Entry}
 use Rattle.model.specs.Answers.{value_of}
 use Rattle.model.specs.declared.Value.{Value}
 use Rattle.book_tables.specs.declared.BookCounts.{BookCounts}
-use Rattle.book_tables.specs.declared.ValueWords.{ValueWords}
 use Rattle.book_tables.specs.Layout.{entries, book_words}
 use Rattle.book_tables.specs.View.{word_at, name_of, entry_head, entry_of}
 use Rattle.book_tables.specs.Fits.{Within, EntryFits}

@@ -1,5 +1,5 @@
 -- What is known after some entries of a line, and what one entry more gives.
-use Rattle.std.specs.Prelude.{ℕ, ◌+◌, ◌*◌, ◌≤◌, ◌<◌, ◌≡◌, List, [], ◌∷◌, ◌++◌, map, length, ltb}
+use Rattle.std.specs.Prelude.{ℕ, ◌+◌, ◌*◌, ◌≤◌, ◌<◌, ◌≡◌, List, [], ◌∷◌, ◌++◌, map, length, ltb, None}
 use Rattle.bits.specs.Word.{bit}
 use Rattle.model.specs.Bytes.{Bytes}
 use Rattle.model.specs.Choice.{pick}
@@ -25,7 +25,7 @@ pub record EntriesKnown (text : Bytes) (words : List ℕ) (c : BookCounts) (offs
   pub count : known.count ≡ length es
   pub fault : known.fault ≡ entries_fault (attrs_at text words offset declared) es
   pub seen : (a : ℕ) → a < declared → bit known.seen a ≡ mem (name_of text words offset a) (map (λ e. e.attr) es)
-  pub stored : known.fault ≡ 0 → c.entries + length es ≤ 2048 → EntriesStored text words offset declared c.entries es
+  pub stored : known.fault ≡ None → c.entries + length es ≤ 2048 → EntriesStored text words offset declared c.entries es
 
 -- what adding an entry asks
 pub record EntryAsked (text : Bytes) (words : List ℕ) (c : BookCounts) (offset declared : ℕ) (name : Part) (value : Value) (known : EntriesRead) : Type 0 where

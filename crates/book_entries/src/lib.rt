@@ -13,41 +13,36 @@ use model::limits::{MAX_DECLARED, MAX_ENTRIES};
 use model::refusal_numbers::{NOT_DECLARED, OTHER_TYPE, SECOND_TIME};
 use model::{Part, Value};
 
-// What is known after some entries of a line: their lowest fault or 0, a bit for each attribute that stands among them, and how many they are.
+// What is known after some entries of a line: their lowest fault if they have one, a bit for each attribute that stands among them, and how many they are.
 #[derive(Clone, Copy)]
 pub struct EntriesRead {
-    pub fault: u32,
+    pub fault: Option<u32>,
     pub seen: u32,
     pub count: usize,
 }
 
-// The fault of an entry whose attribute is declared, or 0.
-fn entry_fault(seen: bool, suited: bool) -> u32
+// The fault of an entry whose attribute is declared, if it has one.
+fn entry_fault(seen: bool, suited: bool) -> Option<u32>
     ensures { result ≡ entry_fault true seen suited }
 {
     if seen {
-        return SECOND_TIME;
+        return Some(SECOND_TIME);
     }
     if suited {
-        return 0;
+        return None;
     }
-    OTHER_TYPE
+    Some(OTHER_TYPE)
 }
 
-// The lower of two faults, where 0 is none.
-fn lower_fault(fault: u32, other: u32) -> u32
+// The lower of two faults, if there are any.
+fn lower_fault(fault: Option<u32>, other: Option<u32>) -> Option<u32>
     ensures { result ≡ lower fault other }
 {
-    if other == 0 {
-        return fault;
+    match (fault, other) {
+        (Some(n), Some(m)) => Some(n.min(m)),
+        (Some(_), None) => fault,
+        (None, _) => other,
     }
-    if fault == 0 {
-        return other;
-    }
-    if other < fault {
-        return other;
-    }
-    fault
 }
 
 // Stores entry k of an attribute, if there is room for it.
@@ -110,7 +105,7 @@ pub fn add_entry(
     );
     if declared <= attribute {
         return EntriesRead {
-            fault: NOT_DECLARED,
+            fault: Some(NOT_DECLARED),
             seen: known.seen,
             count: known.count + 1,
         };

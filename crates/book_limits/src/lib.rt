@@ -3,7 +3,6 @@
 // are held to what the program prints.
 #![tactic(auto)]
 
-use model::BookRead;
 use model::limits::{MAX_BOOK_BYTES, MAX_DECLARED, MAX_NODES, MAX_RELATIONSHIPS, WORK_WORDS};
 use putting::bytes::{put_byte, put_bytes};
 use std::io;
@@ -96,13 +95,13 @@ fn try_book(
         return Ok(());
     }
     match service::read_book(&text[0..n], work) {
-        BookRead::Counts(nodes, relationships, entries) => {
+        Ok(size) => {
             out.write_all(b": counts")?;
-            print(out, nodes as u64)?;
-            print(out, relationships as u64)?;
-            print(out, entries as u64)?;
+            print(out, size.nodes as u64)?;
+            print(out, size.relationships as u64)?;
+            print(out, size.entries as u64)?;
         }
-        BookRead::Refused(refusal) => {
+        Err(refusal) => {
             out.write_all(b": refused")?;
             print(out, refusal.number as u64)?;
             print(out, refusal.text as u64)?;

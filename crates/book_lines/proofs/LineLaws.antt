@@ -3,6 +3,7 @@ use Prim.Native.Nat.{ℕ}
 use mathlib.Core.Path.{◌≡◌, refl, sym, ap, ◌∙◌, fun_ext}
 use mathlib.Core.List.{List, [], ◌∷◌}
 use mathlib.Core.Bool.{Bool, true, false}
+use Rattle.std.specs.Prelude.{Option, None, Some}
 use Rattle.model.specs.Bytes.{Bytes}
 use Rattle.model.specs.Choice.{pick, Maybe, nothing, just, and_then}
 use Rattle.model.specs.Items.{Item, line_items}
@@ -13,10 +14,6 @@ use Rattle.model.specs.Book.{Book}
 use Rattle.model.specs.BookLines.{BookLine, label, attr_line, label_line, book_line}
 use Rattle.model.specs.Answers.{name_at}
 use Rattle.model.specs.declared.Part.{Part}
-use Rattle.text.specs.declared.End.{End}
-use Rattle.text.specs.declared.End.TheVariants as end
-use Rattle.item_forms.specs.declared.ItemAt.{ItemAt}
-use Rattle.item_forms.specs.declared.ItemAt.TheVariants as piece
 use Rattle.item_forms.specs.declared.Form.{Form}
 use Rattle.item_forms.specs.Ends.{form_depth, form_ends, form_at, line_at}
 use Rattle.item_forms.specs.Places.{NextWord, NextName}
@@ -28,10 +25,6 @@ use Rattle.book_tables.specs.declared.NameRule.{NameRule}
 use Rattle.book_tables.specs.View.{kind_in}
 use Rattle.book_lines.specs.declared.Head.{Head}
 use Rattle.book_lines.specs.declared.Head.TheVariants as head
-use Rattle.book_lines.specs.declared.AttrRead.{AttrRead}
-use Rattle.book_lines.specs.declared.AttrRead.TheVariants as attr
-use Rattle.book_lines.specs.declared.KindRead.{KindRead}
-use Rattle.book_lines.specs.declared.KindRead.TheVariants as kind
 use Rattle.book_steps.specs.Steps.{step_of}
 use Rattle.book_lines.specs.Forms.{form_step_of, head_of, line_of, kind_piece, on_kind, on_attr}
 use Rattle.book_lines.proofs.PieceLaws.{name_form, kind_word, line_head}
@@ -46,23 +39,23 @@ unfolding form_step_of form_step
 step_broken rule b m e = rw e
 
 -- the form of a line opens, or does not
-pub opens_at : (line : Bytes) (r : End) (i : ℕ) → r ≡ form_opens line 0 → r ≡ end.At i → and_then (line_items line) book_line ≡ line_at true i line book_line
+pub opens_at : (line : Bytes) (r : Option ℕ) (i : ℕ) → r ≡ form_opens line 0 → r ≡ Some i → and_then (line_items line) book_line ≡ line_at true i line book_line
 unfolding on_place
 opens_at line r i e h = line_form_law book_line line ∙ rw (sym e ∙ h)
 
-pub opens_none : (line : Bytes) (r : End) → r ≡ form_opens line 0 → r ≡ end.None → and_then (line_items line) book_line ≡ nothing
+pub opens_none : (line : Bytes) (r : Option ℕ) → r ≡ form_opens line 0 → r ≡ None → and_then (line_items line) book_line ≡ nothing
 unfolding on_place
 opens_none line r e h = line_form_law book_line line ∙ rw (sym e ∙ h)
 
 -- the first word, or none
-module _ (within : Form) (line : Bytes) (from : ℕ) (r : ItemAt) (e : NextWord within.inner true line from r) where
-  pub headed : (w : Part) → r ≡ piece.At w → form_at within true from line book_line ≡ form_at within false (behind w) line (line_of (head_of (name_at line w)))
+module _ (within : Form) (line : Bytes) (from : ℕ) (r : Option Part) (e : NextWord within.inner true line from r) where
+  pub headed : (w : Part) → r ≡ Some w → form_at within true from line book_line ≡ form_at within false (behind w) line (line_of (head_of (name_at line w)))
   unfolding book_line on_piece
   headed w h =
       form_word within true from line within.inner _ ∙ rw (sym e.is ∙ h)
       (ap (λ (f : List Item → Maybe BookLine). form_at within false (behind w) line f) (fun_ext (line_head (name_at line w))))
 
-  pub headless : r ≡ piece.None → form_at within true from line book_line ≡ nothing
+  pub headless : r ≡ None → form_at within true from line book_line ≡ nothing
   unfolding book_line on_piece
   headless h = form_word within true from line within.inner _ ∙ rw (sym e.is ∙ h)
 
@@ -97,19 +90,19 @@ kind_form within line i k =
     ∙ form_word within false i line within.inner (λ w is. and_then (kind_of w) (λ t. k t is))
     ∙ go (word_next within.inner false line i)
   where
-    go : (r : ItemAt) → on_piece r (λ w. form_at within false (behind w) line (λ is. and_then (kind_of (name_at line w)) (λ t. k t is)))
+    go : (r : Option Part) → on_piece r (λ w. form_at within false (behind w) line (λ is. and_then (kind_of (name_at line w)) (λ t. k t is)))
         ≡ on_kind (kind_piece line r) (λ t q. form_at within false q line (k t))
-    go (piece.At w) = form_then within false (behind w) line (kind_of (name_at line w)) k
+    go (Some w) = form_then within false (behind w) line (kind_of (name_at line w)) k
         ∙ kind_word line i (name_at line w) (behind w) (λ t q. form_at within false q line (k t))
-    go piece.None = refl
+    go None = refl
 
 -- NAME TYPE
-module _ (within : Form) (line : Bytes) (from : ℕ) (make : Bytes → Kind → BookLine) (r : ItemAt) (e : NextName within.inner line from r) where
-  pub attr_nameless : r ≡ piece.None → form_at within false from line (attr_line make) ≡ nothing
+module _ (within : Form) (line : Bytes) (from : ℕ) (make : Bytes → Kind → BookLine) (r : Option Part) (e : NextName within.inner line from r) where
+  pub attr_nameless : r ≡ None → form_at within false from line (attr_line make) ≡ nothing
   unfolding attr_line on_piece
   attr_nameless h = name_form within line from _ ∙ rw (sym e.is ∙ h)
 
-  module _ (w : Part) (h : r ≡ piece.At w) (t : KindRead) (te : t ≡ kind_piece line (word_next within.inner false line (behind w))) where
+  module _ (w : Part) (h : r ≡ Some w) (t : Option (ℕ × ℕ)) (te : t ≡ kind_piece line (word_next within.inner false line (behind w))) where
     attr_typed : form_at within false from line (attr_line make) ≡ on_kind t (λ k z. form_at within false z line (λ is. at_end is (make (name_at line w) k)))
     unfolding attr_line on_piece
     attr_typed =
@@ -117,13 +110,13 @@ module _ (within : Form) (line : Bytes) (from : ℕ) (make : Bytes → Kind → 
         ≡ form_at within false (behind w) line (λ is. first (λ x. and_then (as_word x) kind_of) is (λ k is. at_end is (make (name_at line w) k))) =
         name_form within line from _ ∙ rw (sym e.is ∙ h) in
         named ∙ kind_form within line (behind w) (λ k is. at_end is (make (name_at line w) k))
-        ∙ ap (λ (x : KindRead). on_kind x (λ k z. form_at within false z line (λ is. at_end is (make (name_at line w) k)))) (sym te)
+        ∙ ap (λ (x : Option (ℕ × ℕ)). on_kind x (λ k z. form_at within false z line (λ is. at_end is (make (name_at line w) k)))) (sym te)
 
-    pub attr_kindless : t ≡ kind.None → form_at within false from line (attr_line make) ≡ nothing
+    pub attr_kindless : t ≡ None → form_at within false from line (attr_line make) ≡ nothing
     unfolding on_kind
     attr_kindless k = attr_typed ∙ rw k
 
-    pub attr_ends : (k z : ℕ) → t ≡ kind.Kind k z → (c : Bool) → c ≡ form_closes within.closes line z
+    pub attr_ends : (k z : ℕ) → t ≡ Some (k, z) → (c : Bool) → c ≡ form_closes within.closes line z
         → form_at within false from line (attr_line make) ≡ pick c (just (make (name_at line w) (kind_in k))) nothing
     unfolding on_kind
     attr_ends k z th c ce =
@@ -134,24 +127,24 @@ module _ (within : Form) (line : Bytes) (from : ℕ) (make : Bytes → Kind → 
         ∙ ap (λ (x : Bool). pick {A = Maybe BookLine} x (just (make (name_at line w) (kind_in k))) nothing) (sym ce)
 
 -- what was read of an attribute's line
-module _ (within : Form) (line : Bytes) (from : ℕ) (r : AttrRead)
+module _ (within : Form) (line : Bytes) (from : ℕ) (r : Option (Part × ℕ))
     (form : (make : Bytes → Kind → BookLine) → form_at within false from line (attr_line make) ≡ on_attr line r (λ n k. just (make n k)))
     (make : Bytes → Kind → BookLine) where
-  pub attr_got : (w : Part) (k : ℕ) → r ≡ attr.Attr w k → form_at within false from line (attr_line make) ≡ just (make (name_at line w) (kind_in k))
+  pub attr_got : (w : Part) (k : ℕ) → r ≡ Some (w, k) → form_at within false from line (attr_line make) ≡ just (make (name_at line w) (kind_in k))
   unfolding on_attr
   attr_got w k e = form make ∙ rw e
 
-  pub attr_none : r ≡ attr.None → form_at within false from line (attr_line make) ≡ nothing
+  pub attr_none : r ≡ None → form_at within false from line (attr_line make) ≡ nothing
   unfolding on_attr
   attr_none e = form make ∙ rw e
 
 -- NAME
-module _ (within : Form) (line : Bytes) (from : ℕ) (r : ItemAt) (e : NextName within.inner line from r) where
-  pub label_nameless : r ≡ piece.None → form_at within false from line label_line ≡ nothing
+module _ (within : Form) (line : Bytes) (from : ℕ) (r : Option Part) (e : NextName within.inner line from r) where
+  pub label_nameless : r ≡ None → form_at within false from line label_line ≡ nothing
   unfolding label_line on_piece
   label_nameless h = name_form within line from _ ∙ rw (sym e.is ∙ h)
 
-  pub label_ends : (w : Part) → r ≡ piece.At w → (c : Bool) → c ≡ form_closes within.closes line (behind w)
+  pub label_ends : (w : Part) → r ≡ Some w → (c : Bool) → c ≡ form_closes within.closes line (behind w)
       → form_at within false from line label_line ≡ pick c (just (label (name_at line w))) nothing
   unfolding label_line on_piece
   label_ends w h c ce =

@@ -6,6 +6,7 @@ use mathlib.Core.Bool.{Bool, true, false}
 use native.Mathlib.Omega.{arith}
 use lib.ListN.{length, take, drop, take-append-drop, length-drop}
 use lib.Seq.{take-append-le, drop-append-le, drop-drop}
+use Rattle.std.specs.Prelude.{None, Some, Option}
 use Rattle.model.specs.Bytes.{Bytes, bytes_of, same}
 use Rattle.model.specs.Choice.{pick, Maybe, nothing, just, and_then}
 use Rattle.model.specs.Items.{Item}
@@ -16,21 +17,18 @@ use Rattle.model.specs.Answers.{part_of, name_at, value_of}
 use Rattle.model.specs.declared.Part.{Part}
 use Rattle.model.specs.declared.Value.{Value}
 use Rattle.model.specs.declared.Value.TheVariants.{Number, Text, Truth}
-use Rattle.item_forms.specs.declared.NameItem.{NameItem}
-use Rattle.item_forms.specs.declared.NameItem.TheVariants as name
+use Rattle.items.specs.declared.Next.{Next}
+use Rattle.items.specs.declared.Next.TheVariants.{Item as ItemAt, Close}
 use Rattle.item_forms.specs.declared.Form.{Form}
 use Rattle.item_forms.specs.Ends.{form_at}
 use Rattle.item_forms.specs.Places.{WordPlaces, ValueInside}
-use Rattle.item_forms.specs.Pieces.{behind, name_places, name_next, on_piece, on_name}
+use Rattle.item_forms.specs.Pieces.{behind, item_place, name_next, on_piece, on_name}
 use Rattle.item_forms.proofs.FormLaws.{form_name}
 use Rattle.book_tables.specs.declared.BookCounts.{BookCounts}
 use Rattle.book_tables.specs.View.{kind_in}
 use Rattle.book_tables.specs.ValueWords.{EndsBefore}
-use Rattle.book_lines.specs.declared.Head.{Head}
 use Rattle.book_tables.specs.declared.Owner.TheVariants.{Node, Relationship}
 use Rattle.book_lines.specs.declared.Head.TheVariants as head
-use Rattle.book_lines.specs.declared.KindRead.{KindRead}
-use Rattle.book_lines.specs.declared.KindRead.TheVariants as kind
 use Rattle.book_steps.specs.Steps.{NameAsked}
 use Rattle.book_lines.specs.Forms.{FormAsked, head_of, line_of, kind_read, on_kind}
 use Rattle.book_lines.specs.Names.{moved_part}
@@ -40,15 +38,15 @@ use Rattle.book_lines.specs.Entries.{shift}
 module _ {B : Type 0} (within : Form) (line : Bytes) (i : ℕ) where
   pub name_form : (k : Bytes → List Item → Maybe B)
       → form_at within false i line (λ is. first as_name is k)
-      ≡ on_piece (name_places (name_next within.inner false line i)) (λ w. form_at within false (behind w) line (k (name_at line w)))
+      ≡ on_piece (item_place (name_next within.inner false line i)) (λ w. form_at within false (behind w) line (k (name_at line w)))
   unfolding on_name on_piece
   name_form k = form_name within false i line within.inner k ∙ go (name_next within.inner false line i)
     where
-      go : (r : NameItem) → on_name line r (λ n q. form_at within false q line (k n)) (λ e. nothing)
-          ≡ on_piece (name_places r) (λ w. form_at within false (behind w) line (k (name_at line w)))
-      go (name.Name w) = refl
-      go (name.Close e) = refl
-      go name.None = refl
+      go : (r : Option (Next Part)) → on_name line r (λ n q. form_at within false q line (k n)) (λ e. nothing)
+          ≡ on_piece (item_place r) (λ w. form_at within false (behind w) line (k (name_at line w)))
+      go (Some (ItemAt w)) = refl
+      go (Some (Close e)) = refl
+      go None = refl
 
 -- a type, and the rest behind it
 module _ {B : Type 0} (line : Bytes) (i : ℕ) where
@@ -58,7 +56,7 @@ module _ {B : Type 0} (line : Bytes) (i : ℕ) where
     where
       go : (x y z : Bool)
           → and_then (pick x (just ints) (pick y (just strs) (pick z (just bools) nothing))) (λ k. f k q)
-          ≡ on_kind (pick x (kind.Kind 0 q) (pick y (kind.Kind 1 q) (pick z (kind.Kind 2 q) kind.None))) f
+          ≡ on_kind (pick x (Some (0, q)) (pick y (Some (1, q)) (pick z (Some (2, q)) None))) f
       go true y z = refl
       go false true z = refl
       go false false true = refl

@@ -1,5 +1,5 @@
 -- The entries at the end of a line, read by places of the line and stored behind those counted.
-use Rattle.std.specs.Prelude.{ℕ, ◌+◌, ◌≤◌, ◌≡◌, List, false}
+use Rattle.std.specs.Prelude.{ℕ, ◌+◌, ◌≤◌, ◌≡◌, List, false, Option, None, Some}
 use Rattle.model.specs.Bytes.{Bytes}
 use Rattle.model.specs.Choice.{Maybe, nothing, and_then}
 use Rattle.model.specs.Lists.{each}
@@ -14,8 +14,6 @@ use Rattle.book_tables.specs.declared.BookCounts.{BookCounts}
 use Rattle.book_tables.specs.Agree.{Agree}
 use Rattle.book_entries.specs.declared.EntriesRead.{EntriesRead}
 use Rattle.book_entries.specs.Known.{EntriesKnown}
-use Rattle.book_lines.specs.declared.EntriesAnswer.{EntriesAnswer}
-use Rattle.book_lines.specs.declared.EntriesAnswer.TheVariants as answer
 
 -- a value whose text stands in a part that begins at the base
 abbrev pub shift : ℕ → Value → Value
@@ -34,12 +32,12 @@ pub record EntriesGot (within : Form) (text line : Bytes) (words : List ℕ) (c 
   pub after : EntriesKnown text words c offset declared got known
   pub few : known.count ≤ 65536
 
-abbrev pub EntriesTold : Form → Bytes → Bytes → List ℕ → BookCounts → ℕ → ℕ → ℕ → EntriesAnswer → Type 0
-EntriesTold within text line words c offset declared from (answer.Read known) = EntriesGot within text line words c offset declared from known
-EntriesTold within text line words c offset declared from answer.None = (k : List Entry → Maybe BookLine) → entries_form within line from k ≡ nothing
+abbrev pub EntriesTold : Form → Bytes → Bytes → List ℕ → BookCounts → ℕ → ℕ → ℕ → Option EntriesRead → Type 0
+EntriesTold within text line words c offset declared from (Some known) = EntriesGot within text line words c offset declared from known
+EntriesTold within text line words c offset declared from None = (k : List Entry → Maybe BookLine) → entries_form within line from k ≡ nothing
 
 -- what reading the entries gives
 pub record EntriesDone (within : Form) (text line : Bytes) (words words' : List ℕ) (c : BookCounts) (offset declared from : ℕ)
-    (r : EntriesAnswer) : Type 0 where
+    (r : Option EntriesRead) : Type 0 where
   pub agrees : Agree c words words'
   pub told : EntriesTold within text line words' c offset declared from r

@@ -1,5 +1,5 @@
 -- The form of a line, read by places of the line.
-use Rattle.std.specs.Prelude.{ℕ, ◌+◌, ◌≤◌, ◌≡◌, List, length}
+use Rattle.std.specs.Prelude.{ℕ, ◌+◌, ◌≤◌, ◌≡◌, List, length, Option, None, Some}
 use Rattle.model.specs.Bytes.{Bytes, bytes_of, same}
 use Rattle.model.specs.Choice.{pick, Maybe, nothing}
 use Rattle.model.specs.Items.{Item}
@@ -8,8 +8,7 @@ use Rattle.model.specs.Values.{Kind}
 use Rattle.model.specs.Book.{Book}
 use Rattle.model.specs.BookLines.{BookLine, attr_line, label_line, node_line, rel_line}
 use Rattle.model.specs.Answers.{part_of, name_at}
-use Rattle.item_forms.specs.declared.ItemAt.{ItemAt}
-use Rattle.item_forms.specs.declared.ItemAt.TheVariants as piece
+use Rattle.model.specs.declared.Part.{Part}
 use Rattle.item_forms.specs.Pieces.{behind}
 use Rattle.book_tables.specs.declared.BookCounts.{BookCounts}
 use Rattle.book_tables.specs.declared.Owner.TheVariants.{Node, Relationship}
@@ -19,10 +18,6 @@ use Rattle.book_tables.specs.declared.NameRule.{NameRule}
 use Rattle.book_tables.specs.Fits.{Fits}
 use Rattle.book_lines.specs.declared.Head.{Head}
 use Rattle.book_lines.specs.declared.Head.TheVariants as head
-use Rattle.book_lines.specs.declared.AttrRead.{AttrRead}
-use Rattle.book_lines.specs.declared.AttrRead.TheVariants as attr
-use Rattle.book_lines.specs.declared.KindRead.{KindRead}
-use Rattle.book_lines.specs.declared.KindRead.TheVariants as kind
 use Rattle.book_steps.specs.Steps.{step_of}
 
 -- what a line gives after a book: 3 if it has no form
@@ -54,22 +49,22 @@ line_of head.Rel is = rel_line is
 line_of head.Other is = nothing
 
 -- a type in words: 0 int, 1 str, 2 bool
-unfoldable pub kind_read : Bytes → ℕ → KindRead
+unfoldable pub kind_read : Bytes → ℕ → Option (ℕ × ℕ)
 kind_read w q =
-    pick (same w (bytes_of "int")) (kind.Kind 0 q)
-    (pick (same w (bytes_of "str")) (kind.Kind 1 q)
-    (pick (same w (bytes_of "bool")) (kind.Kind 2 q) kind.None))
+    pick (same w (bytes_of "int")) (Some (0, q))
+    (pick (same w (bytes_of "str")) (Some (1, q))
+    (pick (same w (bytes_of "bool")) (Some (2, q)) None))
 
 -- the type that a piece of the line is
-unfoldable pub kind_piece : Bytes → ItemAt → KindRead
-kind_piece line (piece.At w) = kind_read (name_at line w) (behind w)
-kind_piece line piece.None = kind.None
+unfoldable pub kind_piece : Bytes → Option Part → Option (ℕ × ℕ)
+kind_piece line (Some w) = kind_read (name_at line w) (behind w)
+kind_piece line None = None
 
 -- go on with a type, or with an attribute
-unfoldable pub on_kind : {B : Type 0} → KindRead → (Kind → ℕ → Maybe B) → Maybe B
-on_kind (kind.Kind k q) f = f (kind_in k) q
-on_kind kind.None f = nothing
+unfoldable pub on_kind : {B : Type 0} → Option (ℕ × ℕ) → (Kind → ℕ → Maybe B) → Maybe B
+on_kind (Some (k, q)) f = f (kind_in k) q
+on_kind None f = nothing
 
-unfoldable pub on_attr : {B : Type 0} → Bytes → AttrRead → (Bytes → Kind → Maybe B) → Maybe B
-on_attr line (attr.Attr w k) f = f (name_at line w) (kind_in k)
-on_attr line attr.None f = nothing
+unfoldable pub on_attr : {B : Type 0} → Bytes → Option (Part × ℕ) → (Bytes → Kind → Maybe B) → Maybe B
+on_attr line (Some (w, k)) f = f (name_at line w) (kind_in k)
+on_attr line None f = nothing

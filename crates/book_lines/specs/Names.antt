@@ -1,5 +1,5 @@
 -- The names of a line by their places in the line.
-use Rattle.std.specs.Prelude.{ℕ, ◌+◌, ◌≤◌, ◌≡◌, List, false, length}
+use Rattle.std.specs.Prelude.{ℕ, ◌+◌, ◌≤◌, ◌≡◌, List, false, length, Option, None, Some}
 use Rattle.model.specs.Bytes.{Bytes}
 use Rattle.model.specs.Choice.{Maybe, nothing}
 use Rattle.model.specs.Items.{Item}
@@ -11,19 +11,16 @@ use Rattle.item_forms.specs.declared.Form.{Form}
 use Rattle.item_forms.specs.Ends.{form_at}
 use Rattle.item_forms.specs.Places.{WordPlaces}
 use Rattle.item_forms.specs.Pieces.{behind}
-use Rattle.book_lines.specs.declared.AttrRead.{AttrRead}
-use Rattle.book_lines.specs.declared.AttrRead.TheVariants as attr
 use Rattle.book_lines.specs.declared.RelNames.{RelNames}
-use Rattle.book_lines.specs.declared.RelNames.TheVariants as names
 
 -- a part of the line that begins at the base, as a part of the whole text
 abbrev pub moved_part : ℕ → Part → Part
 moved_part base p = record { start = base + p.start; length = p.length }
 
 -- the name of an attribute that was read stands in the line
-abbrev pub AttrFits : Bytes → ℕ → AttrRead → Type 0
-AttrFits line from (attr.Attr w k) = WordPlaces line from w
-AttrFits line from attr.None = Unit {0}
+abbrev pub AttrFits : Bytes → ℕ → Option (Part × ℕ) → Type 0
+AttrFits line from (Some (w, k)) = WordPlaces line from w
+AttrFits line from None = Unit {0}
 
 -- three names, and then the rest of the form
 abbrev pub names_form : Form → Bytes → ℕ → (Bytes → Bytes → Bytes → List Item → Maybe BookLine) → Maybe BookLine
@@ -38,6 +35,6 @@ pub record NamesGot (within : Form) (line : Bytes) (from : ℕ) (l x y : Part) (
   pub end : WordPlaces line (behind x) y
   pub inside : q ≤ length line
 
-abbrev pub NamesTold : Form → Bytes → ℕ → RelNames → Type 0
-NamesTold within line from (names.Read l x y q) = NamesGot within line from l x y q
-NamesTold within line from names.None = (k : Bytes → Bytes → Bytes → List Item → Maybe BookLine) → names_form within line from k ≡ nothing
+abbrev pub NamesTold : Form → Bytes → ℕ → Option RelNames → Type 0
+NamesTold within line from (Some r) = NamesGot within line from r.label r.from r.to r.end
+NamesTold within line from None = (k : Bytes → Bytes → Bytes → List Item → Maybe BookLine) → names_form within line from k ≡ nothing

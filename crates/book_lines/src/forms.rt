@@ -13,12 +13,12 @@ ghost use Rattle.book_steps.specs.Steps.{Stepped};
 ghost use Rattle.book_lines.specs.Forms.{form_step_of, FormAsked, line_of, on_attr};
 ghost use Rattle.book_lines.specs.Names.{AttrFits};
 
-use crate::{AttrRead, Head, KindRead, owners, pieces};
-use book_steps::LineStep;
+use crate::{Head, owners, pieces};
 use book_tables::{BookCounts, NameRule, Owner};
-use item_forms::{Form, ItemAt, LINE_CLOSES, LIST_DEPTH, places};
+use item_forms::{Form, LINE_CLOSES, LIST_DEPTH, places};
+use model::Part;
 use model::refusal_numbers::BROKEN;
-use text::{End, parts};
+use text::parts;
 
 // Reads a line, which begins at the base in the text, and adds it; a node is given a second time by the rule for names.
 pub fn read_line(
@@ -28,13 +28,13 @@ pub fn read_line(
     words: &mut [u32],
     counts: BookCounts,
     rule: NameRule,
-) -> LineStep
+) -> Result<BookCounts, u32>
     requires { FormAsked text.now line.now words.old counts base }
     ensures { Stepped text.now words.new result
         (form_step_of rule (book_at text.now words.old counts) (and_then (line_items line.now) book_line)) }
 {
     match item_forms::open_form(line, 0) {
-        End::At(from) => read_head(
+        Some(from) => read_head(
             text,
             line,
             base,
@@ -47,7 +47,7 @@ pub fn read_line(
             counts,
             rule,
         ),
-        End::None => LineStep::Fault(BROKEN),
+        None => Err(BROKEN),
     }
 }
 
@@ -61,13 +61,13 @@ pub fn read_head(
     words: &mut [u32],
     counts: BookCounts,
     rule: NameRule,
-) -> LineStep
+) -> Result<BookCounts, u32>
     requires { FormAsked text.now line.now words.old counts base }
     ensures { Stepped text.now words.new result
         (form_step_of rule (book_at text.now words.old counts) (form_at form true from line.now book_line)) }
 {
     match places::next_word(line, from, true, form.inner) {
-        ItemAt::At(word) => read_rest(
+        Some(word) => read_rest(
             text,
             line,
             base,
@@ -78,7 +78,7 @@ pub fn read_head(
             counts,
             rule,
         ),
-        ItemAt::None => LineStep::Fault(BROKEN),
+        None => Err(BROKEN),
     }
 }
 
@@ -93,7 +93,7 @@ fn read_rest(
     words: &mut [u32],
     counts: BookCounts,
     rule: NameRule,
-) -> LineStep
+) -> Result<BookCounts, u32>
     requires { FormAsked text.now line.now words.old counts base }
     ensures { Stepped text.now words.new result
         (form_step_of rule (book_at text.now words.old counts) (form_at form false from line.now (line_of head))) }
@@ -103,28 +103,22 @@ fn read_rest(
         Head::Label => label_line(text, line, base, from, form, words, counts),
         Head::Node => owners::node_line(text, line, base, from, form, words, counts, rule),
         Head::Rel => owners::rel_line(text, line, base, from, form, words, counts),
-        Head::Other => LineStep::Fault(BROKEN),
+        Head::Other => Err(BROKEN),
     }
 }
 
-// NAME TYPE, and nothing more.
-fn read_attr(line: &[u8], from: usize, form: Form) -> AttrRead
+// NAME TYPE, and nothing more: where the name stands, and the type.
+fn read_attr(line: &[u8], from: usize, form: Form) -> Option<(Part, u32)>
     ensures form { (make : Bytes → Kind → BookLine)
         → form_at form false from line.now (attr_line make) ≡ on_attr line.now result (λ n k. just (make n k)) }
     ensures fits { AttrFits line.now from result }
 {
-    match places::next_name(line, from, form.inner) {
-        ItemAt::At(name) => match pieces::next_kind(line, name.start + name.length, form.inner) {
-            KindRead::Kind(kind, end) => {
-                if item_forms::form_closes(line, end, form.closes) {
-                    return AttrRead::Attr(name, kind);
-                }
-                AttrRead::None
-            }
-            KindRead::None => AttrRead::None,
-        },
-        ItemAt::None => AttrRead::None,
+    let name = places::next_name(line, from, form.inner)?;
+    let (kind, end) = pieces::next_kind(line, name.start + name.length, form.inner)?;
+    if item_forms::form_closes(line, end, form.closes) {
+        return Some((name, kind));
     }
+    None
 }
 
 // (vattr NAME TYPE), (eattr NAME TYPE)
@@ -137,22 +131,15 @@ fn attr_line(
     owner: Owner,
     words: &mut [u32],
     counts: BookCounts,
-) -> LineStep
+) -> Result<BookCounts, u32>
     requires { FormAsked text.now line.now words.old counts base }
     ensures { (rule : Rule) → Stepped text.now words.new result
         (form_step_of rule (book_at text.now words.old counts) (form_at form false from line.now (attr_line (declares owner)))) }
 {
-    match read_attr(line, from, form) {
-        AttrRead::Attr(name, kind) => book_steps::add_attr(
-            text,
-            words,
-            counts,
-            owner,
-            pieces::moved(name, base),
-            kind,
-        ),
-        AttrRead::None => LineStep::Fault(BROKEN),
-    }
+    let Some((name, kind)) = read_attr(line, from, form) else {
+        return Err(BROKEN);
+    };
+    book_steps::add_attr(text, words, counts, owner, pieces::moved(name, base), kind)
 }
 
 // (label NAME)
@@ -164,18 +151,18 @@ fn label_line(
     form: Form,
     words: &mut [u32],
     counts: BookCounts,
-) -> LineStep
+) -> Result<BookCounts, u32>
     requires { FormAsked text.now line.now words.old counts base }
     ensures { (rule : Rule) → Stepped text.now words.new result
         (form_step_of rule (book_at text.now words.old counts) (form_at form false from line.now label_line)) }
 {
     match places::next_name(line, from, form.inner) {
-        ItemAt::At(name) => {
+        Some(name) => {
             if item_forms::form_closes(line, name.start + name.length, form.closes) {
                 return book_steps::add_label(text, words, counts, pieces::moved(name, base));
             }
-            LineStep::Fault(BROKEN)
+            Err(BROKEN)
         }
-        ItemAt::None => LineStep::Fault(BROKEN),
+        None => Err(BROKEN),
     }
 }

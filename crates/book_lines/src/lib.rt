@@ -5,7 +5,6 @@ pub mod forms;
 pub mod owners;
 pub mod pieces;
 
-use book_entries::EntriesRead;
 use book_tables::Owner;
 use model::Part;
 
@@ -19,30 +18,11 @@ pub enum Head {
     Other,
 }
 
-// The rest of a line that declares an attribute: where its name stands, and its type; or that the grammar is broken.
+// The three names of a relationship's line by their places in the line, and the place behind them.
 #[derive(Clone, Copy)]
-pub enum AttrRead {
-    Attr(Part, u32),
-    None,
-}
-
-// A type and the place behind it; or that none can be read there.
-#[derive(Clone, Copy)]
-pub enum KindRead {
-    Kind(u32, usize),
-    None,
-}
-
-// The three names of a relationship's line by their places in the line, and the place behind them; or that the grammar is broken.
-#[derive(Clone, Copy)]
-pub enum RelNames {
-    Read(Part, Part, Part, usize),
-    None,
-}
-
-// The entries at the end of a line: what is known after them; or that the grammar is broken.
-#[derive(Clone, Copy)]
-pub enum EntriesAnswer {
-    Read(EntriesRead),
-    None,
+pub struct RelNames {
+    pub label: Part,
+    pub from: Part,
+    pub to: Part,
+    pub end: usize,
 }

@@ -11,11 +11,11 @@ ghost use Rattle.book_lines.specs.Forms.{form_step_of, FormAsked};
 ghost use Rattle.book_lines.specs.Names.{NamesTold};
 ghost use Rattle.book_lines.specs.Entries.{shift, EntriesDone};
 
-use crate::{EntriesAnswer, RelNames, pieces};
+use crate::{RelNames, pieces};
 use book_entries::EntriesRead;
-use book_steps::LineStep;
 use book_tables::{BookCounts, NameRule, Owner};
-use item_forms::{EntryRead, Form, ItemAt, places};
+use item_forms::{Form, places};
+use items::Next;
 use model::Value;
 use model::refusal_numbers::BROKEN;
 
@@ -43,7 +43,7 @@ fn read_entries(
     words: &mut [u32],
     counts: BookCounts,
     owner: Owner,
-) -> EntriesAnswer
+) -> Option<EntriesRead>
     requires { FormAsked text.now line.now words.old counts base × (from ≤ length line.now) }
     ensures { EntriesDone (record { inner = inner; closes = closes }) text.now line.now words.old
         words.new counts (tables_of owner counts).attributes (tables_of owner counts).declared from result }
@@ -53,33 +53,33 @@ fn read_entries(
     let declared = tables.declared;
     let mut at = from;
     let mut known = EntriesRead {
-        fault: 0,
+        fault: None,
         seen: 0,
         count: 0,
     };
     loop {
         match item_forms::entry(line, at, inner) {
-            EntryRead::Entry { name, value, next } => {
+            Some(Next::Item(found)) => {
                 known = book_entries::add_entry(
                     text,
                     words,
                     counts,
                     offset,
                     declared,
-                    pieces::moved(name, base),
-                    shifted(value, base),
+                    pieces::moved(found.name, base),
+                    shifted(found.value, base),
                     known,
                 );
-                at = next;
+                at = found.next;
             }
-            EntryRead::Close(e) => {
+            Some(Next::Close(e)) => {
                 if item_forms::form_ends(line, e, closes) {
-                    return EntriesAnswer::Read(known);
+                    return Some(known);
                 }
-                return EntriesAnswer::None;
+                return None;
             }
-            EntryRead::None => {
-                return EntriesAnswer::None;
+            None => {
+                return None;
             }
         }
     }
@@ -95,53 +95,43 @@ pub fn node_line(
     words: &mut [u32],
     counts: BookCounts,
     rule: NameRule,
-) -> LineStep
+) -> Result<BookCounts, u32>
     requires { FormAsked text.now line.now words.old counts base }
     ensures { Stepped text.now words.new result
         (form_step_of rule (book_at text.now words.old counts) (form_at form false from line.now node_line)) }
 {
-    match places::next_name(line, from, form.inner) {
-        ItemAt::At(name) => {
-            match read_entries(
-                text,
-                line,
-                base,
-                name.start + name.length,
-                form.inner,
-                form.closes,
-                words,
-                counts,
-                Owner::Node,
-            ) {
-                EntriesAnswer::Read(read) => book_steps::add_node(
-                    text,
-                    words,
-                    counts,
-                    rule,
-                    pieces::moved(name, base),
-                    read,
-                ),
-                EntriesAnswer::None => LineStep::Fault(BROKEN),
-            }
-        }
-        ItemAt::None => LineStep::Fault(BROKEN),
-    }
+    let Some(name) = places::next_name(line, from, form.inner) else {
+        return Err(BROKEN);
+    };
+    let Some(read) = read_entries(
+        text,
+        line,
+        base,
+        name.start + name.length,
+        form.inner,
+        form.closes,
+        words,
+        counts,
+        Owner::Node,
+    ) else {
+        return Err(BROKEN);
+    };
+    book_steps::add_node(text, words, counts, rule, pieces::moved(name, base), read)
 }
 
 // LABEL FROM TO
-fn read_names(line: &[u8], from: usize, form: Form) -> RelNames
+fn read_names(line: &[u8], from: usize, form: Form) -> Option<RelNames>
     ensures { NamesTold form line.now from result }
 {
-    match places::next_name(line, from, form.inner) {
-        ItemAt::At(label) => match places::next_name(line, label.start + label.length, form.inner) {
-            ItemAt::At(x) => match places::next_name(line, x.start + x.length, form.inner) {
-                ItemAt::At(y) => RelNames::Read(label, x, y, y.start + y.length),
-                ItemAt::None => RelNames::None,
-            },
-            ItemAt::None => RelNames::None,
-        },
-        ItemAt::None => RelNames::None,
-    }
+    let label = places::next_name(line, from, form.inner)?;
+    let x = places::next_name(line, label.start + label.length, form.inner)?;
+    let y = places::next_name(line, x.start + x.length, form.inner)?;
+    Some(RelNames {
+        label,
+        from: x,
+        to: y,
+        end: y.start + y.length,
+    })
 }
 
 // (rel LABEL FROM TO (ATTR VALUE)...)
@@ -153,36 +143,34 @@ pub fn rel_line(
     form: Form,
     words: &mut [u32],
     counts: BookCounts,
-) -> LineStep
+) -> Result<BookCounts, u32>
     requires { FormAsked text.now line.now words.old counts base }
     ensures { (rule : Rule) → Stepped text.now words.new result
         (form_step_of rule (book_at text.now words.old counts) (form_at form false from line.now rel_line)) }
 {
-    match read_names(line, from, form) {
-        RelNames::Read(label, x, y, q) => {
-            match read_entries(
-                text,
-                line,
-                base,
-                q,
-                form.inner,
-                form.closes,
-                words,
-                counts,
-                Owner::Relationship,
-            ) {
-                EntriesAnswer::Read(read) => book_steps::add_relationship(
-                    text,
-                    words,
-                    counts,
-                    pieces::moved(label, base),
-                    pieces::moved(x, base),
-                    pieces::moved(y, base),
-                    read,
-                ),
-                EntriesAnswer::None => LineStep::Fault(BROKEN),
-            }
-        }
-        RelNames::None => LineStep::Fault(BROKEN),
-    }
+    let Some(names) = read_names(line, from, form) else {
+        return Err(BROKEN);
+    };
+    let Some(read) = read_entries(
+        text,
+        line,
+        base,
+        names.end,
+        form.inner,
+        form.closes,
+        words,
+        counts,
+        Owner::Relationship,
+    ) else {
+        return Err(BROKEN);
+    };
+    book_steps::add_relationship(
+        text,
+        words,
+        counts,
+        pieces::moved(names.label, base),
+        pieces::moved(names.from, base),
+        pieces::moved(names.to, base),
+        read,
+    )
 }

@@ -4,11 +4,11 @@ ghost use Rattle.item_forms.specs.Pieces.{word_next};
 ghost use Rattle.book_lines.specs.Forms.{head_of, kind_read, kind_piece};
 ghost use Rattle.book_lines.specs.Names.{moved_part};
 
-use crate::{Head, KindRead};
+use crate::Head;
 use book_tables::Owner;
 use book_tables::values::{BOOL, INT, STR};
 use compare::same_bytes;
-use item_forms::{ItemAt, places};
+use item_forms::places;
 use model::Part;
 use text::parts;
 
@@ -34,30 +34,28 @@ pub fn head(word: &[u8]) -> Head
     Head::Other
 }
 
-// Which type a word is, and the place behind it.
-fn kind_of(word: &[u8], end: usize) -> KindRead
+// Which type a word is, if it is one, and the place behind it.
+fn kind_of(word: &[u8], end: usize) -> Option<(u32, usize)>
     ensures { result ≡ kind_read word.now end }
 {
     if same_bytes(word, b"int") {
-        return KindRead::Kind(INT, end);
+        return Some((INT, end));
     }
     if same_bytes(word, b"str") {
-        return KindRead::Kind(STR, end);
+        return Some((STR, end));
     }
     if same_bytes(word, b"bool") {
-        return KindRead::Kind(BOOL, end);
+        return Some((BOOL, end));
     }
-    KindRead::None
+    None
 }
 
-// The type that follows a name.
-pub fn next_kind(line: &[u8], from: usize, depth: usize) -> KindRead
+// The type that follows a name, and the place behind it.
+pub fn next_kind(line: &[u8], from: usize, depth: usize) -> Option<(u32, usize)>
     ensures { result ≡ kind_piece line.now (word_next depth false line.now from) }
 {
-    match places::next_word(line, from, false, depth) {
-        ItemAt::At(word) => kind_of(parts::part_of(line, word), word.start + word.length),
-        ItemAt::None => KindRead::None,
-    }
+    let word = places::next_word(line, from, false, depth)?;
+    kind_of(parts::part_of(line, word), word.start + word.length)
 }
 
 // A part of the line as a part of the whole text.

@@ -8,7 +8,7 @@ pub mod names;
 pub mod testing;
 pub mod values;
 
-// What the test of one requirement answers: whether it is met, and how many entries it looked at.
+// What the test of one requirement answers: whether it is met, and how many entries it looked at. No `Option`: the number stands for both.
 #[derive(Clone, Copy)]
 pub struct Tested {
     pub met: bool,

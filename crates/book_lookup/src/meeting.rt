@@ -10,8 +10,8 @@ ghost use Rattle.book_lookup.specs.Ready.{Room, EntryReady, ValueInside};
 
 use crate::values::{kind_of, number_of, text_of, truth_of};
 use book_tables::values::{INT, STR};
-use compare::Order;
 use model::{Relation, Value};
+use std::cmp::Ordering;
 
 // Whether an entry's value stands in a relation to a value whose text is part of `text`; values of two types stand in none.
 pub fn entry_meets(
@@ -96,9 +96,9 @@ fn texts_meet(relation: Relation, x: &[u8], y: &[u8]) -> bool
     ensures { result ≡ by_order (relation_of relation) (byte_order x.now y.now) }
 {
     match compare::compare(x, y) {
-        Order::Less => numbers_meet(relation, 0, 1),
-        Order::Equal => numbers_meet(relation, 0, 0),
-        Order::Greater => numbers_meet(relation, 1, 0),
+        Ordering::Less => numbers_meet(relation, 0, 1),
+        Ordering::Equal => numbers_meet(relation, 0, 0),
+        Ordering::Greater => numbers_meet(relation, 1, 0),
     }
 }
 

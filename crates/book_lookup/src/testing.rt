@@ -54,6 +54,7 @@ fn test_entries(
 {
     let start = (entries / ENTRY_COUNTS) as usize;
     let count = (entries % ENTRY_COUNTS) as usize;
+    // Two at a time, counted by hand, since each node of a search is tested so: for speed.
     let mut i: usize = 0;
     while i + 1 < count {
         if is_of(words, start + i, attribute) {

@@ -6,9 +6,9 @@ use mathlib.Core.Bool.{Bool, true, false, not, ◌||◌}
 use native.Mathlib.Omega.{arith}
 use lib.ListN.{length}
 use lib.Dec.{leb, ltb, eqb}
-use borrow.Author.Tests.{ne_eqb, leb-false, ltb-false}
+use borrow.Author.Tests.{leb-false, ltb-false}
+use Rattle.std.specs.Prelude.{Option, None, Some}
 use Rattle.logic.specs.Flags.{neither}
-use Rattle.logic.specs.Tests.{either, equal_or_not}
 use Rattle.model.specs.Bytes.{Bytes}
 use Rattle.model.specs.Choice.{pick, Maybe, nothing, just}
 use Rattle.model.specs.Lists.{all}
@@ -40,13 +40,14 @@ use Rattle.book_entries.specs.Known.{EntriesKnown}
 use Rattle.book_steps.specs.Steps.{step_of, NameAsked, owner_fault}
 use Rattle.book_steps.proofs.StepLaws.{step_fault, step_added, word_name, word_new}
 
--- a fault's number, 0 being none
-abbrev pub numbered : ℕ → Maybe ℕ
-numbered n = pick (eqb n 0) nothing (just n)
+-- a fault, as the definitions have it
+abbrev pub numbered : Option ℕ → Maybe ℕ
+numbered None = nothing
+numbered (Some n) = just n
 
 -- the table of a node or a relationship: its entries' three tests, whether it is there, whether a count passes its limit
 pub table : (u there t s full : Bool)
-    → lowest ((4 if u) ∷ (5 if (there || t)) ∷ (6 if not s) ∷ (7 if full) ∷ []) ≡ numbered (owner_fault there (pick u 4 (pick t 5 (pick s 0 6))) full)
+    → lowest ((4 if u) ∷ (5 if (there || t)) ∷ (6 if not s) ∷ (7 if full) ∷ []) ≡ numbered (owner_fault there (pick u (Some 4) (pick t (Some 5) (pick s None (Some 6)))) full)
 unfolding lowest owner_fault
 table true there t s full = refl
 table false true true s full = refl
@@ -58,29 +59,22 @@ table false false false true false = refl
 table false false false false full = refl
 
 -- no fault: not there, none of its entries, no limit passed
-pub record Fine (there : Bool) (own : ℕ) (full : Bool) : Type 0 where
+pub record Fine (there : Bool) (own : Option ℕ) (full : Bool) : Type 0 where
   pub new : there ≡ false
-  pub none : own ≡ 0
+  pub none : own ≡ None
   pub room : full ≡ false
 
-pub owner_fine : (there : Bool) (own : ℕ) (full : Bool) → owner_fault there own full ≡ 0 → Fine there own full
+pub owner_fine : (there : Bool) (own : Option ℕ) (full : Bool) → owner_fault there own full ≡ None → Fine there own full
 unfolding owner_fault
-owner_fine there own full h = either (equal_or_not own 0)
-    (λ e. last there full e (rw e at h))
-    (λ n. absurd (some (eqb own 4) there n.1 (rw (ne_eqb own 0 n.1) at h)))
+owner_fine true None full h = absurd cc
+owner_fine false None true h = absurd cc
+owner_fine false None false h = record { new = refl; none = refl; room = refl }
+owner_fine there (Some n) full h = absurd (some (eqb n 4) there h)
   where
-    last : (there full : Bool) → own ≡ 0 → ◌≡◌ {A = ℕ} (pick there 5 (pick full 7 0)) 0 → Fine there own full
-    last true full e q = absurd (omega arith)
-    last false true e q = absurd (omega arith)
-    last false false e q = record { new = refl; none = e; room = refl }
-
-    some : (four there : Bool) → (own ≡ 0 → ⊥) → ◌≡◌ {A = ℕ} (pick four 4 (pick there 5 own)) 0 → ⊥
-    some true there n q = omega arith
-    some false true n q = omega arith
-    some false false n q = n q
-
-pub numbered_fault : (n : ℕ) → (n ≡ 0 → ⊥) → numbered n ≡ just n
-numbered_fault n h = rw (ne_eqb n 0 h)
+    some : (four there : Bool) → ◌≡◌ {A = Option ℕ} (pick four (Some n) (pick there (Some 5) (Some n))) None → ⊥
+    some true there q = cc
+    some false true q = cc
+    some false false q = cc
 
 module _ (text : Bytes) (words : List ℕ) (c : BookCounts) (fits : Fits text words c) (read : EntriesRead) (es : List Entry) where
   abbrev book : Book
@@ -114,12 +108,12 @@ module _ (text : Bytes) (words : List ℕ) (c : BookCounts) (fits : Fits text wo
     node_fault_law =
         rw (alike_there rule text words c (name_at text name) a found, nodes_count, fits.counted, ← after.count)
         (table (undeclared book.vattrs es) (ltb a c.nodes) (twice (map (λ e. e.attr) es)) (all (suits book.vattrs) es) full
-        ∙ ap (λ (n : ℕ). numbered (owner_fault (ltb a c.nodes) n full)) (sym after.fault))
+        ∙ ap (λ (n : Option ℕ). numbered (owner_fault (ltb a c.nodes) n full)) (sym after.fault))
 
-    pub node_refused : (n : ℕ) → n ≡ owner_fault (ltb a c.nodes) read.fault full → (n ≡ 0 → ⊥) → step_of rule book (node (name_at text name) es) ≡ fault n
-    node_refused n e h = step_fault rule book (node (name_at text name) es) n (node_fault_law ∙ rw (← e) (numbered_fault n h))
+    pub node_refused : (n : ℕ) → Some n ≡ owner_fault (ltb a c.nodes) read.fault full → step_of rule book (node (name_at text name) es) ≡ fault n
+    node_refused n e = step_fault rule book (node (name_at text name) es) n (node_fault_law ∙ rw (← e))
 
-    pub node_fine : owner_fault (ltb a c.nodes) read.fault full ≡ 0
+    pub node_fine : owner_fault (ltb a c.nodes) read.fault full ≡ None
         → (step_of rule book (node (name_at text name) es)
         ≡ known (book_at text (with_owner words c Node (name.start * 32 + name.length) (slot_in text (name.start * 32 + name.length)) read.count)
         (more_owners Node c read.count)))
@@ -141,8 +135,8 @@ module _ (text : Bytes) (words : List ℕ) (c : BookCounts) (fits : Fits text wo
         )
 
 -- without a fault there is room
-pub owner_room : (there : Bool) (own : ℕ) (full : Bool) (count limit total : ℕ)
-    → owner_fault there own full ≡ 0 → full ≡ (leb limit count || ltb 2048 total) → (count < limit) × (total ≤ 2048)
+pub owner_room : (there : Bool) (own : Option ℕ) (full : Bool) (count limit total : ℕ)
+    → owner_fault there own full ≡ None → full ≡ (leb limit count || ltb 2048 total) → (count < limit) × (total ≤ 2048)
 owner_room there own full count limit total z e =
     let ok = owner_fine there own full z in
     let r = neither (leb limit count) (ltb 2048 total) (sym e ∙ ok.room) in

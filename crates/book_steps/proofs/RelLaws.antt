@@ -5,6 +5,7 @@ use mathlib.Core.List.{List, map}
 use mathlib.Core.Bool.{Bool, true, false, not, ◌||◌, ◌&&◌}
 use native.Mathlib.Omega.{arith}
 use lib.Dec.{leb, ltb}
+use Rattle.std.specs.Prelude.{Option, None, Some}
 use borrow.Author.Tests.{lt-ltb, le-ltb, leb-false, ltb-false}
 use Rattle.logic.specs.Flags.{neither}
 use Rattle.model.specs.Bytes.{Bytes}
@@ -32,7 +33,7 @@ use Rattle.book_entries.specs.Faults.{entries_fault}
 use Rattle.book_entries.specs.Known.{EntriesKnown}
 use Rattle.book_steps.specs.Steps.{step_of, owner_fault}
 use Rattle.book_steps.proofs.StepLaws.{step_fault, step_added}
-use Rattle.book_steps.proofs.OwnerLaws.{numbered, table, owner_fine, numbered_fault, holds, rels_count, node_mem}
+use Rattle.book_steps.proofs.OwnerLaws.{numbered, table, owner_fine, holds, rels_count, node_mem}
 
 -- one of three names is missing
 some_missing : (a b c u : Bool) → (a && b && c) ≡ false → (not a || not b || not c || u) ≡ true
@@ -108,12 +109,12 @@ module _ (rule : NameRule) (text : Bytes) (words : List ℕ) (c : BookCounts) (f
             ← after.count,
           )
           (table (undeclared book.eattrs es) there (twice (map (λ e. e.attr) es)) (all (suits book.eattrs) es) full
-          ∙ ap (λ (n : ℕ). numbered (owner_fault there n full)) (sym after.fault))
+          ∙ ap (λ (n : Option ℕ). numbered (owner_fault there n full)) (sym after.fault))
 
-      pub rel_refused : (n : ℕ) → n ≡ owner_fault there read.fault full → (n ≡ 0 → ⊥) → step_of rule book (rel label from to es) ≡ fault n
-      rel_refused n e h = step_fault rule book (rel label from to es) n (rel_fault_law ∙ rw (← e) (numbered_fault n h))
+      pub rel_refused : (n : ℕ) → Some n ≡ owner_fault there read.fault full → step_of rule book (rel label from to es) ≡ fault n
+      rel_refused n e = step_fault rule book (rel label from to es) n (rel_fault_law ∙ rw (← e))
 
-      pub rel_fine : owner_fault there read.fault full ≡ 0
+      pub rel_fine : owner_fault there read.fault full ≡ None
           → (step_of rule book (rel label from to es)
           ≡ known (book_at text (with_owner words c Relationship (l * 65536 + x * 256 + y) x read.count) (more_owners Relationship c read.count)))
           × Fits text (with_owner words c Relationship (l * 65536 + x * 256 + y) x read.count) (more_owners Relationship c read.count)

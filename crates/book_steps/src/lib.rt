@@ -1,4 +1,5 @@
 // One line more, after its form was read: the lowest of its faults 4 to 7, or its words in the tables.
+// What a line gives is the counts with it, or its fault in the paper's numbers.
 #![tactic(auto)]
 
 ghost use Rattle.std.specs.Prelude.{◌≡◌, List, ◌+◌, ◌*◌, ◌≤◌, ◌<◌, ◌||◌, leb, ltb};
@@ -22,13 +23,6 @@ use model::limits::{MAX_DECLARED, MAX_ENTRIES, MAX_NODES, MAX_RELATIONSHIPS};
 use model::refusal_numbers::{LIMIT_PASSED, NOT_DECLARED, SECOND_TIME};
 use text::parts;
 
-// What one line gives: its fault, in the paper's numbers, or the counts with it.
-#[derive(Clone, Copy)]
-pub enum LineStep {
-    Fault(u32),
-    Known(BookCounts),
-}
-
 // A name's word.
 fn name_word(name: Part) -> u32
     requires { (name.start ≤ 65536) × (name.length < 32) }
@@ -45,7 +39,7 @@ pub fn add_attr(
     owner: Owner,
     name: Part,
     kind: u32,
-) -> LineStep
+) -> Result<BookCounts, u32>
     requires { NameAsked text.now name × Fits text.now words.old counts }
     ensures { (rule : Rule) → Stepped text.now words.new result
         (step_of rule (book_at text.now words.old counts) (declares owner (name_at text.now name) (kind_in kind))) }
@@ -53,47 +47,49 @@ pub fn add_attr(
     let tables = owners::tables(counts, owner);
     let count = tables.declared;
     if names::find_attr(text, words, counts, owner, parts::part_of(text, name)) < count {
-        return LineStep::Fault(SECOND_TIME);
+        return Err(SECOND_TIME);
     }
     if MAX_DECLARED <= count {
-        return LineStep::Fault(LIMIT_PASSED);
+        return Err(LIMIT_PASSED);
     }
-    LineStep::Known(stores::store_attr(words, counts, owner, name_word(name), kind))
+    Ok(stores::store_attr(words, counts, owner, name_word(name), kind))
 }
 
 // (label NAME)
-pub fn add_label(text: &[u8], words: &mut [u32], counts: BookCounts, name: Part) -> LineStep
+pub fn add_label(
+    text: &[u8],
+    words: &mut [u32],
+    counts: BookCounts,
+    name: Part,
+) -> Result<BookCounts, u32>
     requires { NameAsked text.now name × Fits text.now words.old counts }
     ensures { (rule : Rule) → Stepped text.now words.new result
         (step_of rule (book_at text.now words.old counts) (label (name_at text.now name))) }
 {
     let count = counts.labels;
     if names::find_label(text, words, counts, parts::part_of(text, name)) < count {
-        return LineStep::Fault(SECOND_TIME);
+        return Err(SECOND_TIME);
     }
     if MAX_DECLARED <= count {
-        return LineStep::Fault(LIMIT_PASSED);
+        return Err(LIMIT_PASSED);
     }
-    LineStep::Known(stores::store_label(words, counts, name_word(name)))
+    Ok(stores::store_label(words, counts, name_word(name)))
 }
 
-// The lowest fault of a node or a relationship, or 0: whether it is there already, the lowest fault of its entries, whether a count passes its limit.
-fn owner_fault(there: bool, fault: u32, full: bool) -> u32
+// The lowest fault of a node or a relationship, if it has one: whether it is there already, the lowest fault of its entries, whether a count passes its limit.
+fn owner_fault(there: bool, fault: Option<u32>, full: bool) -> Option<u32>
     ensures { result ≡ owner_fault there fault full }
 {
-    if fault == NOT_DECLARED {
-        return NOT_DECLARED;
-    }
-    if there {
-        return SECOND_TIME;
-    }
-    if fault != 0 {
+    if fault == Some(NOT_DECLARED) {
         return fault;
     }
-    if full {
-        return LIMIT_PASSED;
+    if there {
+        return Some(SECOND_TIME);
     }
-    0
+    if fault.is_none() && full {
+        return Some(LIMIT_PASSED);
+    }
+    fault
 }
 
 // Whether a count, or that of the entries, passes its limit with one owner more and its entries.
@@ -115,7 +111,7 @@ pub fn add_node(
     rule: NameRule,
     name: Part,
     read: EntriesRead,
-) -> LineStep
+) -> Result<BookCounts, u32>
     requires { NameAsked text.now name × Fits text.now words.old counts × (read.count ≤ 65536) }
     ensures { (es : List Entry) → EntriesKnown text.now words.old counts vattr_names counts.vattrs es read
         → Stepped text.now words.new result
@@ -124,13 +120,12 @@ pub fn add_node(
     let count = counts.nodes;
     let there = names::find_alike(text, words, counts, rule, parts::part_of(text, name)) < count;
     let full = is_full(count, MAX_NODES, counts.entries, read.count);
-    let fault = owner_fault(there, read.fault, full);
-    if fault != 0 {
-        return LineStep::Fault(fault);
+    if let Some(fault) = owner_fault(there, read.fault, full) {
+        return Err(fault);
     }
     let word = name_word(name);
     let slot = names::slot_of(text, word);
-    LineStep::Known(stores::store_owner(words, counts, Owner::Node, word, slot, read.count))
+    Ok(stores::store_owner(words, counts, Owner::Node, word, slot, read.count))
 }
 
 // (rel LABEL FROM TO (ATTR VALUE)...), its entries being stored behind those counted.
@@ -142,7 +137,7 @@ pub fn add_relationship(
     from: Part,
     to: Part,
     read: EntriesRead,
-) -> LineStep
+) -> Result<BookCounts, u32>
     requires { NameAsked text.now label × NameAsked text.now from × NameAsked text.now to × Fits text.now words.old counts
         × (read.count ≤ 65536) }
     ensures { (rule : Rule) (es : List Entry) → EntriesKnown text.now words.old counts eattr_names counts.eattrs es read
@@ -152,15 +147,15 @@ pub fn add_relationship(
 {
     let l = names::find_label(text, words, counts, parts::part_of(text, label));
     if counts.labels <= l {
-        return LineStep::Fault(NOT_DECLARED);
+        return Err(NOT_DECLARED);
     }
     let x = names::find_node(text, words, counts, parts::part_of(text, from));
     if counts.nodes <= x {
-        return LineStep::Fault(NOT_DECLARED);
+        return Err(NOT_DECLARED);
     }
     let y = names::find_node(text, words, counts, parts::part_of(text, to));
     if counts.nodes <= y {
-        return LineStep::Fault(NOT_DECLARED);
+        return Err(NOT_DECLARED);
     }
     let there = relationships::is_related(text, words, counts, l, x, y);
     let full = is_full(
@@ -169,10 +164,9 @@ pub fn add_relationship(
         counts.entries,
         read.count,
     );
-    let fault = owner_fault(there, read.fault, full);
-    if fault != 0 {
-        return LineStep::Fault(fault);
+    if let Some(fault) = owner_fault(there, read.fault, full) {
+        return Err(fault);
     }
     let word = (l * LABEL_UNIT + x * FROM_UNIT + y) as u32;
-    LineStep::Known(stores::store_owner(words, counts, Owner::Relationship, word, x, read.count))
+    Ok(stores::store_owner(words, counts, Owner::Relationship, word, x, read.count))
 }

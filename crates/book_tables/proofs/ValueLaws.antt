@@ -6,9 +6,10 @@ use native.Mathlib.Omega.{arith}
 use lib.Dec.{eqb, ltb}
 use borrow.Author.Tests.{ne_eqb, lt-ltb}
 use Rattle.logic.specs.Tests.{either, equal_or_not}
+use Rattle.std.specs.Int.{from_bool}
 use Rattle.model.specs.Bytes.{Bytes}
 use Rattle.model.specs.Choice.{pick}
-use Rattle.model.specs.Values.{int, ints, strs, bools, of_kind}
+use Rattle.model.specs.Values.{int, bool, ints, strs, bools, of_kind}
 use Rattle.model.specs.declared.Value.{Value}
 use Rattle.model.specs.declared.Value.TheVariants.{Number, Text, Truth}
 use Rattle.model.specs.Answers.{value_of}
@@ -34,13 +35,17 @@ module _ (v : Value) where
   unfolding value_of value_in
   says_text start size e = record { type = omega arith; value = λ text. rw e; inside = λ limit h k. subst (EndsBefore limit) e h }
 
-  pub says_true : (t : Bool) → v ≡ Truth t → t ≡ true → Says v (record { kind = 2; first = 0; second = 1 })
+  pub says_truth : (t : Bool) (n : ℕ) → v ≡ Truth t → n ≡ from_bool t → Says v (record { kind = 2; first = 0; second = n })
   unfolding value_of value_in
-  says_true t e h = record { type = omega arith; value = λ text. rw (e, h); inside = λ limit g k. absurd (omega arith) }
-
-  pub says_false : (t : Bool) → v ≡ Truth t → t ≡ false → Says v (record { kind = 2; first = 0; second = 0 })
-  unfolding value_of value_in
-  says_false t e h = record { type = omega arith; value = λ text. rw (e, h); inside = λ limit g k. absurd (omega arith) }
+  says_truth t n e f = record {
+    type = omega arith;
+    value = λ text. rw e (ap bool (bool_word t n f));
+    inside = λ limit g k. absurd (omega arith);
+  }
+    where
+      bool_word : (t : Bool) (n : ℕ) → n ≡ from_bool t → eqb n 1 ≡ t
+      bool_word true n f = rw f
+      bool_word false n f = rw f
 
   pub number_kind : (t n : ℕ) → v ≡ Number n → (text : Bytes) → eqb t 0 ≡ of_kind (kind_in t) (value_of text v)
   unfolding value_of of_kind kind_in

@@ -1,12 +1,13 @@
 -- Walks along the chains: of the nodes in a name's slot, for the node of that name; of the relationships that leave a node, for one that runs to another.
-use Prim.Native.Nat.{ℕ, suc, ◌+◌, ◌*◌, ◌-◌, ◌<◌}
-use mathlib.Core.Path.{◌≡◌, sym, ap, ◌∙◌}
+use Prim.Native.Nat.{ℕ, suc, ◌+◌, ◌*◌, ◌<◌}
+use mathlib.Core.Path.{◌≡◌, refl, sym, ap, ◌∙◌}
 use mathlib.Core.Bool.{Bool, true, false}
 use mathlib.Core.List.{List}
 use native.Mathlib.Omega.{arith}
 use Rattle.chains.specs.Chains.{Walked}
+use Rattle.chains.specs.Walks.{Falls}
 use Rattle.chains.specs.Slots.{slot_of}
-use Rattle.chains.proofs.ChainLaws.{walk_first, walk_inside, walk_next, walk_falls, walk_over}
+use Rattle.chains.proofs.ChainLaws.{chained_falls, walk_first, walk_inside, walk_next, walk_over}
 use Rattle.chains.proofs.SlotLaws.{slot_small}
 use Rattle.model.specs.Bytes.{Bytes}
 use Rattle.model.specs.ReadBook.{related}
@@ -32,27 +33,21 @@ module _ (rule : NameRule) (text : Bytes) (words : List ℕ) (c : BookCounts) (f
       walk_first words node_heads node_links keys (node_slot text words) c.nodes f.node_chains (slot_of name) named entry (slot_small name)
       (e ∙ ap (λ (k : ℕ). word_at words (node_heads + k)) s)
 
-  module _ (entry : ℕ) (some : 0 < entry) (w : NodeWalk rule text words name c.nodes entry) where
-    is_next : entry ≡ suc (entry - 1)
-    is_next = omega arith
+  pub nodes_fall : (slot : ℕ) → slot ≡ slot_of name → Falls words node_links (word_at words (node_heads + slot))
+  nodes_fall slot s = chained_falls words node_heads node_links keys (node_slot text words) c.nodes slot f.node_chains (omega (arith, s, slot_small name))
+      (let m = f.within in omega (arith, f.room))
 
-    pub nodes_inside : entry - 1 < c.nodes
-    nodes_inside = walk_inside words node_heads node_links keys (node_slot text words) c.nodes f.node_chains (slot_of name) named entry (entry - 1) is_next w
+  module _ (n : ℕ) (w : NodeWalk rule text words name c.nodes (suc n)) where
+    pub nodes_inside : n < c.nodes
+    nodes_inside = walk_inside words node_heads node_links keys (node_slot text words) c.nodes f.node_chains (slot_of name) named (suc n) n refl w
 
-    pub nodes_next : (t : Bool) → t ≡ alike rule name (name_in text (word_at words (nodes_at + (entry - 1)))) → t ≡ false
-        → (next : ℕ) → next ≡ word_at words (node_links + (entry - 1)) → NodeWalk rule text words name c.nodes next
+    pub nodes_next : (t : Bool) → t ≡ alike rule name (name_in text (word_at words (nodes_at + n))) → t ≡ false
+        → (next : ℕ) → next ≡ word_at words (node_links + n) → NodeWalk rule text words name c.nodes next
     unfolding name_of
     nodes_next t te tf next e =
-        walk_next words node_heads node_links keys (node_slot text words) c.nodes f.node_chains (slot_of name) named entry (entry - 1) is_next w next
-        (sym te ∙ tf) e
+        walk_next words node_heads node_links keys (node_slot text words) c.nodes f.node_chains (slot_of name) named (suc n) n refl w next (sym te ∙ tf) e
 
-    pub nodes_fall : (next : ℕ) → next ≡ word_at words (node_links + (entry - 1)) → next < entry
-    nodes_fall next e =
-        let h = walk_falls words node_heads node_links keys (node_slot text words) c.nodes f.node_chains (slot_of name) named entry
-        (entry - 1) is_next w next e in omega arith
-
-    pub node_found : (t : Bool) → t ≡ alike rule name (name_in text (word_at words (nodes_at + (entry - 1)))) → t ≡ true
-        → NodeAlike rule text words c name (entry - 1)
+    pub node_found : (t : Bool) → t ≡ alike rule name (name_in text (word_at words (nodes_at + n))) → t ≡ true → NodeAlike rule text words c name n
     unfolding name_of
     node_found t te tt =
         let i = nodes_inside in record { inside = omega arith; found = λ l. sym te ∙ tt; absent = λ l. absurd (omega arith) }
@@ -75,26 +70,22 @@ module _ (text : Bytes) (words : List ℕ) (c : BookCounts) (f : Fits text words
   rels_first entry e =
       walk_first words from_heads from_links keys (rel_from words) c.relationships f.rel_chains x runs entry (let m = f.within in omega arith) e
 
-  module _ (entry : ℕ) (some : 0 < entry) (w : RelWalk text words l x y c.relationships entry) where
-    rel_is_next : entry ≡ suc (entry - 1)
-    rel_is_next = omega arith
+  pub rels_fall : Falls words from_links (word_at words (from_heads + x))
+  rels_fall = chained_falls words from_heads from_links keys (rel_from words) c.relationships x f.rel_chains (let m = f.within in omega arith)
+      (let m = f.within in omega (arith, f.room))
 
-    pub rels_inside : entry - 1 < c.relationships
-    rels_inside = walk_inside words from_heads from_links keys (rel_from words) c.relationships f.rel_chains x runs entry (entry - 1) rel_is_next w
+  module _ (n : ℕ) (w : RelWalk text words l x y c.relationships (suc n)) where
+    pub rels_inside : n < c.relationships
+    rels_inside = walk_inside words from_heads from_links keys (rel_from words) c.relationships f.rel_chains x runs (suc n) n refl w
 
-    pub rels_next : (rel_word words (entry - 1) ≡ l * 65536 + x * 256 + y → ⊥)
-        → (next : ℕ) → next ≡ word_at words (from_links + (entry - 1)) → RelWalk text words l x y c.relationships next
+    pub rels_next : (rel_word words n ≡ l * 65536 + x * 256 + y → ⊥)
+        → (next : ℕ) → next ≡ word_at words (from_links + n) → RelWalk text words l x y c.relationships next
     rels_next other next e =
-        walk_next words from_heads from_links keys (rel_from words) c.relationships f.rel_chains x runs entry (entry - 1) rel_is_next w next
-        (runs_no text words c f l x y lin xin yin (entry - 1) rels_inside other) e
+        walk_next words from_heads from_links keys (rel_from words) c.relationships f.rel_chains x runs (suc n) n refl w next
+        (runs_no text words c f l x y lin xin yin n rels_inside other) e
 
-    pub rels_fall : (next : ℕ) → next ≡ word_at words (from_links + (entry - 1)) → next < entry
-    rels_fall next e =
-        let h = walk_falls words from_heads from_links keys (rel_from words) c.relationships f.rel_chains x runs entry (entry - 1) rel_is_next w next
-        e in omega arith
-
-    pub rel_found : rel_word words (entry - 1) ≡ l * 65536 + x * 256 + y → true ≡ related (book_at text words c) (name_of text words label_names l) x y
-    rel_found e = related_here text words c f l x y lin xin yin (entry - 1) rels_inside e
+    pub rel_found : rel_word words n ≡ l * 65536 + x * 256 + y → true ≡ related (book_at text words c) (name_of text words label_names l) x y
+    rel_found e = related_here text words c f l x y lin xin yin n rels_inside e
 
   pub rel_absent : (entry : ℕ) → entry ≡ 0 → RelWalk text words l x y c.relationships entry
       → false ≡ related (book_at text words c) (name_of text words label_names l) x y

@@ -9,6 +9,7 @@ ghost use Rattle.book_tables.specs.Alike.{alike, NodeAlike};
 
 use crate::{BookCounts, LABEL_NAMES, NODE_HEADS, NODE_LINKS, NODE_NAMES, NameRule, Owner, owners};
 use chains::slots::CASE;
+use chains::{slots, walk};
 
 // A name's word is its start times 32 and its length.
 pub const NAME_LENGTHS: usize = 32;
@@ -18,12 +19,10 @@ pub fn find_name(text: &[u8], words: &[u32], offset: usize, count: usize, name: 
     requires { NamesFit text.now words.now offset count × (offset + count ≤ length words.now) }
     ensures { result ≡ place name.now (names_at text.now words.now offset count) }
 {
-    let mut i = 0;
-    while i < count {
+    for i in 0..count {
         if is_named(text, words, offset + i, NameRule::Exact, name) {
             return i;
         }
-        i += 1;
     }
     count
 }
@@ -85,16 +84,12 @@ pub fn find_alike(
     requires { Fits text.now words.now counts }
     ensures { NodeAlike rule text.now words.now counts name.now result }
 {
-    let count = counts.nodes;
-    let mut entry = chains::first(words, NODE_HEADS, chains::slots::slot(name));
-    while 0 < entry {
-        let node = entry - 1;
+    for node in walk::numbers(words, NODE_HEADS, NODE_LINKS, slots::slot(name)) {
         if is_named(text, words, NODE_NAMES + node, rule, name) {
             return node;
         }
-        entry = chains::next(words, NODE_LINKS, node);
     }
-    count
+    counts.nodes
 }
 
 // Whether the name's word at a place says a name that is taken for this one by a rule.
@@ -125,12 +120,10 @@ fn same_but_case(a: &[u8], b: &[u8]) -> bool
     if a.len() != b.len() {
         return false;
     }
-    let mut i = 0;
-    while i < a.len() {
-        if small(a[i]) != small(b[i]) {
+    for (i, x) in a.iter().enumerate() {
+        if small(*x) != small(b[i]) {
             return false;
         }
-        i += 1;
     }
     true
 }
@@ -155,5 +148,5 @@ pub fn slot_of(text: &[u8], word: u32) -> usize
 {
     let start = word as usize / NAME_LENGTHS;
     let end = start + word as usize % NAME_LENGTHS;
-    chains::slots::slot(&text[start..end])
+    slots::slot(&text[start..end])
 }

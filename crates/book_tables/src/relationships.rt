@@ -6,6 +6,7 @@ ghost use Rattle.book_tables.specs.View.{name_of, book_at};
 ghost use Rattle.book_tables.specs.Fits.{Fits};
 
 use crate::{BookCounts, FROM_HEADS, FROM_LINKS, RELATIONSHIPS};
+use chains::walk;
 
 // A relationship's word: label * 65536 + from * 256 + to.
 pub const FROM_UNIT: usize = 256;
@@ -26,14 +27,10 @@ pub fn is_related(
         (name_of text.now words.now label_names label) from to }
 {
     let word = (label * LABEL_UNIT + from * FROM_UNIT + to) as u32;
-    let count = counts.relationships;
-    let mut entry = chains::first(words, FROM_HEADS, from);
-    while 0 < entry {
-        let i = entry - 1;
+    for i in walk::numbers(words, FROM_HEADS, FROM_LINKS, from) {
         if words[RELATIONSHIPS + i] == word {
             return true;
         }
-        entry = chains::next(words, FROM_LINKS, i);
     }
     false
 }

@@ -9,7 +9,7 @@ ghost use Rattle.book_tables.specs.ValueWords.{EndsBefore, Says};
 use crate::ValueWords;
 use model::Value;
 
-// The types in words.
+// The types in words. No enum: `of_kind` and `book_lookup::values::kind_of` promise of every word what `kind_in` and `kind_at` say of it.
 pub const INT: u32 = 0;
 
 pub const STR: u32 = 1;
@@ -19,7 +19,7 @@ pub const BOOL: u32 = 2;
 // A whole number is kept in two halves.
 pub const HALF: u64 = 4294967296;
 
-// The words of a value.
+// The words of a value. No `From`: it asks that a text ends before its limit.
 pub fn value_words(value: Value) -> ValueWords
     requires { EndsBefore 65536 value }
     ensures { Says value result }
@@ -35,20 +35,11 @@ pub fn value_words(value: Value) -> ValueWords
             first: start as u32,
             second: size as u32,
         },
-        Value::Truth(truth) => {
-            if truth {
-                return ValueWords {
-                    kind: BOOL,
-                    first: 0,
-                    second: 1,
-                };
-            }
-            ValueWords {
-                kind: BOOL,
-                first: 0,
-                second: 0,
-            }
-        }
+        Value::Truth(truth) => ValueWords {
+            kind: BOOL,
+            first: 0,
+            second: u32::from(truth),
+        },
     }
 }
 

@@ -8,7 +8,6 @@ ghost use Rattle.io.specs.Counts.{IsPrefixLen};
 ghost use Rattle.model.specs.Printed.{printed};
 ghost use Rattle.list_lines.specs.Printing.{header_text};
 
-use model::RowsListed;
 use model::limits::WORK_WORDS;
 use printed::LIST_BYTES;
 use program_io::files::{BOOK_ROOM, QUERY_ROOM, REQUEST_ROOM, RULES_ROOM};
@@ -116,8 +115,8 @@ fn print_in_no_words(
     let mut rows = [0u32; 1];
     let mut work = [0u32; WORK_WORDS];
     match listing::list(book, rules, query, request, &mut rows[0..0], &mut work) {
-        RowsListed::Refused(refusal) => print_answers::print_refusal(out, refusal),
-        RowsListed::Count(count, _) => print_header(out, count),
+        Err(refusal) => print_answers::print_refusal(out, refusal),
+        Ok(size) => print_header(out, size.rows),
     }
 }
 

@@ -8,6 +8,7 @@ use native.Mathlib.Omega.{arith}
 use lib.ListN.{length}
 use lib.Dec.{ltb}
 use borrow.Author.Tests.{lt-ltb, le-ltb}
+use Rattle.std.specs.Prelude.{Result}
 use Rattle.model.specs.Bytes.{Bytes, bytes_of}
 use Rattle.model.specs.Choice.{pick}
 use Rattle.model.specs.Refusal.{Outcome, accepted, refused, refusal, on_accept}
@@ -20,7 +21,8 @@ use Rattle.model.specs.Refused.{returned, rows_for}
 use Rattle.model.specs.Answers.{list_answer}
 use Rattle.model.specs.Demands.{ListCalled, Premises, HadRows, RowsDue, words_needed, RowsGiven, DoNotFit}
 use Rattle.model.specs.Computing.{computing}
-use Rattle.model.specs.declared.RowsListed.{RowsListed}
+use Rattle.model.specs.declared.Refusal.{Refusal as RefusalData}
+use Rattle.model.specs.declared.RowsSize.{RowsSize}
 use Rattle.model.proofs.Faults.{need_refused}
 use Rattle.model.proofs.Outcomes.{never, accept_e}
 use Rattle.model.proofs.Refusals.{finding, list_given}
@@ -28,7 +30,7 @@ use Rattle.model.proofs.ListRefusals.{found_14}
 use Rattle.model.proofs.Example as example
 use Rattle.demand_three.proofs.PremiseLaws.{premises_of, had_rows, only_list, rows_given}
 
-module _ (book rules query request : Bytes) (rows work rows' work' : List ℕ) (res : RowsListed)
+module _ (book rules query request : Bytes) (rows work rows' work' : List ℕ) (res : Result RowsSize RefusalData)
     (call : ListCalled book rules query request rows work rows' work' res) where
   -- the rows that are due to this call
   abbrev pub Due : List (List ℕ) → Type 0
@@ -121,7 +123,7 @@ premises_example = premises_of 16384 (bytes_of example.book) (bytes_of example.r
     }) refl
 
 -- and a call on them, with two row words lent, answers one row of one name: that of S5, then all ones
-row_example : (rows work rows' work' : List ℕ) (res : RowsListed) → length rows ≡ 2 → length work ≡ 16384
+row_example : (rows work rows' work' : List ℕ) (res : Result RowsSize RefusalData) → length rows ≡ 2 → length work ≡ 16384
     → ListCalled (bytes_of example.book) (bytes_of example.rules) (bytes_of example.query) (bytes_of example.request) rows work rows' work' res
     → (list_answer res ≡ accepted (record { rows = 1; width = 1 })) × (rows' ≡ 2 ∷ 4294967295 ∷ [])
 unfolding computing

@@ -11,6 +11,7 @@ use native.Mathlib.Omega.{arith}
 use lib.ListN.{length}
 use lib.Dec.{T, ltb}
 use borrow.Author.Tests.{lt-ltb}
+use Rattle.std.specs.Prelude.{Result}
 use Rattle.model.specs.Bytes.{Bytes, bytes_of}
 use Rattle.model.specs.Lists.{◌∈◌, is_nil}
 use Rattle.model.specs.Refusal.{Refusal, Outcome, accepted, refused, on_accept}
@@ -28,8 +29,8 @@ use Rattle.model.specs.RefusalTable.{woven_limit_passed, vertex_not_tied}
 use Rattle.model.specs.Answers.{list_answer, lamp_answer}
 use Rattle.model.specs.Demands.{ListCalled, LampCalled, Premises}
 use Rattle.model.specs.Computing.{computing}
-use Rattle.model.specs.declared.RowsListed.{RowsListed}
-use Rattle.model.specs.declared.LampShown.{LampShown}
+use Rattle.model.specs.declared.RowsSize.{RowsSize}
+use Rattle.model.specs.declared.Refusal.{Refusal as RefusalData}
 use Rattle.model.proofs.Outcomes.{accept_e}
 use Rattle.model.proofs.Refusals.{finding, gives_rows, list_given, same_accepted, list_service_table, lamp_service_table}
 use Rattle.model.proofs.TableRows.{lamp_refuses_by_the_table}
@@ -79,7 +80,7 @@ not_14 no_requestor e = omega (arith, e)
 not_14 woven_limit_passed e = omega (arith, e)
 not_14 vertex_not_tied e = omega (arith, e)
 
-module _ (book rules query request : Bytes) (work work' : List ℕ) (shown : LampShown) (call : LampCalled book rules query request work work' shown) where
+module _ (book rules query request : Bytes) (work work' : List ℕ) (shown : Result Bool RefusalData) (call : LampCalled book rules query request work work' shown) where
   abbrev found : Outcome FoundRows
   found = rows_asked (length work) book rules query request
 
@@ -146,7 +147,7 @@ module _ (book rules query request : Bytes) (work work' : List ℕ) (shown : Lam
   never_14 f e = not_14 (lamp_refuses_by_the_table (length work) book rules query request f (sym call.answer ∙ e))
 
   -- beside a call of the list on the same texts, with as many words of working memory
-  module _ (rows lent rows' lent' : List ℕ) (res : RowsListed) (listed : ListCalled book rules query request rows lent rows' lent' res)
+  module _ (rows lent rows' lent' : List ℕ) (res : Result RowsSize RefusalData) (listed : ListCalled book rules query request rows lent rows' lent' res)
       (alike : length lent ≡ length work) where
     list_answer_law : list_answer res ≡ (list_service (length work) (length rows) book rules query request).answer
     list_answer_law = subst (λ (n : ℕ). list_answer res ≡ (list_service n (length rows) book rules query request).answer) alike listed.answer

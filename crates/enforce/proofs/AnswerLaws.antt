@@ -5,6 +5,7 @@ use mathlib.Core.List.{List}
 use mathlib.Core.Bool.{true, false}
 use native.Mathlib.Omega.{arith}
 use lib.ListN.{length, get_or}
+use Rattle.std.specs.Prelude.{Result}
 use Rattle.model.specs.Bytes.{Bytes}
 use Rattle.model.specs.Choice.{just}
 use Rattle.model.specs.Lists.{keep}
@@ -33,7 +34,6 @@ use Rattle.weave.proofs.Whole.{woven_low, woven_stays, woven_fault_law}
 use Rattle.weave.specs.Given.{Given, Identified}
 use Rattle.weave.proofs.Ranges.{weave_ranged}
 use Rattle.weave.proofs.Identified.{identities_say}
-use Rattle.enforce.specs.declared.AskedWoven.{AskedWoven}
 use Rattle.enforce.specs.Texts.{texts_below}
 use Rattle.enforce.specs.OneNamed.{one_named, AllNamed, Declared}
 use Rattle.enforce.specs.Ready.{TextsClear, Held}
@@ -51,7 +51,7 @@ module _ (book : Bytes) (words : List ℕ) (k : BookCounts) (query rules : Bytes
   all_texts = texts_below query rules rules_words rc category rc.categories
 
   -- what is said of the texts in the words' terms answers for the model's request and tree
-  pub answer_for : (request : Bytes) (rd : RequestRead) → rd.category ≡ category → (woven : List ℕ) (out : AskedWoven)
+  pub answer_for : (request : Bytes) (rd : RequestRead) → rd.category ≡ category → (woven : List ℕ) (out : Result WovenCounts ℕ)
       → AskedSays book words k query rules all_texts (identities_in request rd.identities rd.count) (length (tree_of query).returns) woven out
       → AskedAnswer book words query rules rules_words request (record { book = k; rules = rc; request = rd }) woven out
   answer_for request rd at woven out says x its same tree is =

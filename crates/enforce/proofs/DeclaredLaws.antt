@@ -6,6 +6,7 @@ use mathlib.Core.List.{List, []}
 use native.Mathlib.Omega.{arith}
 use lib.ListN.{length, get_or, take, drop, get_or-eq_default}
 use borrow.Author.Tests.{eq-eqb, ne_eqb}
+use Rattle.std.specs.Prelude.{Some}
 use Rattle.logic.specs.Tests.{either, below_or_not}
 use Rattle.model.specs.Bytes.{Bytes}
 use Rattle.model.specs.Lists.{joined, firsts_by}
@@ -27,7 +28,6 @@ use Rattle.model.specs.PlainData.{no_edge, no_clause}
 use Rattle.query_writer.specs.Writable.{ConditionFits, count_limits, PatternFits}
 use Rattle.woven_tables.specs.declared.WovenCounts.{WovenCounts}
 use Rattle.woven_tables.specs.Tables.{text_of, edge_at, clause_at, edges_at, clauses_at, woven_at}
-use Rattle.weave.specs.declared.PatternAdded.TheVariants.{Woven}
 use Rattle.weave.specs.OneMore.{under_names, more_vertices, one_more}
 use Rattle.weave.specs.Adding.{no_counts, TextAdded}
 use Rattle.weave.proofs.OneText.{each_take, length_edges, length_clauses}
@@ -99,7 +99,7 @@ none_declared k q r words = subst AllNamed (sym (none_woven (one_named k) q r wo
     none = record { edges = tt; clauses = tt }
 
 pub text_declared : (k : BookCounts) (q r : Bytes) (actors : List Bytes) (j base : ℕ) (p : PatternData) (old new : List ℕ) (c n : WovenCounts)
-    → PatternFits (count_limits k p) p → Declared k q r old c → TextAdded q r actors j base p old new c (Woven n) → Declared k q r new n
+    → PatternFits (count_limits k p) p → Declared k q r old c → TextAdded q r actors j base p old new c (Some n) → Declared k q r new n
 text_declared k q r actors j base p old new c n fits before added =
     subst AllNamed (sym (added.1 (one_named k)))
     (one_more_named j actors (pattern_in (one_named k) (drop base (text_of q r j)) p) (woven_at (one_named k) q r old c)

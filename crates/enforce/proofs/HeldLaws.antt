@@ -6,6 +6,7 @@ use mathlib.Core.Bool.{true}
 use native.Mathlib.Omega.{arith}
 use lib.ListN.{length, get_or, take, drop, length-append, length-drop}
 use lib.Seq.{get_or-drop, length-take-le, take_all}
+use Rattle.std.specs.Prelude.{Option, None, Some}
 use Rattle.bits.specs.Word.{bit}
 use Rattle.model.specs.Bytes.{Bytes}
 use Rattle.model.specs.Book.{Book}
@@ -25,8 +26,6 @@ use Rattle.rules_tables.specs.Enforced.{policy_place, enforced_below}
 use Rattle.woven_tables.specs.declared.WovenCounts.{WovenCounts}
 use Rattle.woven_tables.specs.Tables.{text_of, ActorsInside, woven_at, actors_at as actors_in, woven_words}
 use Rattle.model.specs.PlainData.{PartsWithin}
-use Rattle.weave.specs.declared.PatternAdded.{PatternAdded}
-use Rattle.weave.specs.declared.PatternAdded.TheVariants.{Woven, Passed}
 use Rattle.weave.specs.Adding.{Kept, no_counts, TextAdded}
 use Rattle.weave.proofs.OneMore.{Sound}
 use Rattle.weave.proofs.Parts.{pattern_in_front}
@@ -96,32 +95,32 @@ module _ (book : Bytes) (words : List ℕ) (k : BookCounts) (query rules : Bytes
       few_texts = omega arith;
     }
 
-    module _ (new : List ℕ) (out : PatternAdded) (woven : TextWoven b k query query rules (actors_at rules rules_words category) first old new c out) where
+    module _ (new : List ℕ) (out : Option WovenCounts) (woven : TextWoven b k query query rules (actors_at rules rules_words category) first old new c out) where
       abbrev of_query : Pattern
       of_query = woven.0
 
-      query_added : (o : PatternAdded) → out ≡ o → TextAdded query rules (actors_at rules rules_words category) 0 0 of_query old new c o
+      query_added : (o : Option WovenCounts) → out ≡ o → TextAdded query rules (actors_at rules rules_words category) 0 0 of_query old new c o
       query_added o e = subst (TextAdded query rules (actors_at rules rules_words category) 0 0 of_query old new c) e woven.2
 
       query_pattern : pattern_in b (drop 0 (text_of query rules 0)) of_query ≡ pattern_of (tree_of query)
       unfolding text_of
       query_pattern = woven.1.is (tree_of query) (query_tree book words k query rules rules_words rc category clear)
 
-      pub query_held : (n : WovenCounts) → out ≡ Woven n → Held b k query rules rules_words rc category 0 new n
+      pub query_held : (n : WovenCounts) → out ≡ Some n → Held b k query rules rules_words rc category 0 new n
       unfolding texts_below enforced_below
       query_held n e = record {
-        kept = (query_added (Woven n) e).0;
+        kept = (query_added (Some n) e).0;
         held = text_held b query rules [] (query_asked query rules rules_words category) 0 of_query old new c tt
-            (ap (woven_at b query rules old) none ∙ none_woven b query rules old) query_pattern n (query_added (Woven n) e);
+            (ap (woven_at b query rules old) none ∙ none_woven b query rules old) query_pattern n (query_added (Some n) e);
         declared = text_declared k query rules (actors_at rules rules_words category) 0 0 of_query old new c n woven.1.fits
-            (subst (Declared k query rules old) (sym none) (none_declared k query rules old)) (query_added (Woven n) e);
+            (subst (Declared k query rules old) (sym none) (none_declared k query rules old)) (query_added (Some n) e);
       }
 
-      pub query_passed : out ≡ Passed → LimitPassed query rules rules_words rc category
+      pub query_passed : out ≡ None → LimitPassed query rules rules_words rc category
       unfolding texts_below
       query_passed e ids =
           text_passed b query rules [] (query_asked query rules rules_words category) 0 of_query old new c tt
-          (ap (woven_at b query rules old) none ∙ none_woven b query rules old) query_pattern (query_added Passed e)
+          (ap (woven_at b query rules old) none ∙ none_woven b query rules old) query_pattern (query_added None e)
           (map (policy_asked (rules_at rules rules_words rc)) (enforced_below rules rules_words rc category rc.categories))
           (texts_sound book words k query rules rules_words rc category clear) ids
 
@@ -182,14 +181,14 @@ module _ (book : Bytes) (words : List ℕ) (k : BookCounts) (query rules : Bytes
         few_texts = omega (arith, many, few_texts query rules rules_words rc category m, low, clear.rules_fit.few);
       }
 
-      module _ (new : List ℕ) (out : PatternAdded) (woven : TextWoven b k part query rules (actors_at rules rules_words m) place old new c out) where
+      module _ (new : List ℕ) (out : Option WovenCounts) (woven : TextWoven b k part query rules (actors_at rules rules_words m) place old new c out) where
         abbrev of_policy : Pattern
         of_policy = woven.0
 
         read : PatternRead b k (policy_text rules rules_words i) of_policy
         read = subst (λ s. PatternRead b k s of_policy) part_is woven.1
 
-        policy_added : (o : PatternAdded) → out ≡ o → TextAdded query rules own.actors (length (below m)) start of_policy old new c o
+        policy_added : (o : Option WovenCounts) → out ≡ o → TextAdded query rules own.actors (length (below m)) start of_policy old new c o
         policy_added o e = subst (λ j. TextAdded query rules own.actors j start of_policy old new c o) many
             (subst (TextAdded query rules own.actors count start of_policy old new c) e woven.2)
 
@@ -203,23 +202,23 @@ module _ (book : Bytes) (words : List ℕ) (k : BookCounts) (query rules : Bytes
             ∙ sym (pattern_in_front (drop start rules) size b of_policy (subst (λ n. PartsWithin n of_policy) long read.parts))
             ∙ read.is (tree_of (policy_text rules rules_words i)) (clear.rules_fit.policies i there).is_query
 
-        pub policy_held : (n : WovenCounts) → out ≡ Woven n → Held b k query rules rules_words rc category (m + 1) new n × (count + 1 ≡ length (below (m + 1)))
+        pub policy_held : (n : WovenCounts) → out ≡ Some n → Held b k query rules rules_words rc category (m + 1) new n × (count + 1 ≡ length (below (m + 1)))
         policy_held n e = (
           record {
-            kept = (policy_added (Woven n) e).0;
-            held = text_held b query rules (below m) own start of_policy old new c sound held.held is_pattern n (policy_added (Woven n) e)
+            kept = (policy_added (Some n) e).0;
+            held = text_held b query rules (below m) own start of_policy old new c sound held.held is_pattern n (policy_added (Some n) e)
                 ∙ ap weave (sym one_more_law);
             declared = text_declared k query rules own.actors (length (below m)) start of_policy old new c n read.fits held.declared
-                (policy_added (Woven n) e);
+                (policy_added (Some n) e);
           },
           omega (arith, ap length one_more_law, length-append (below m) (own ∷ [])),
         )
 
-        pub policy_passed : out ≡ Passed → LimitPassed query rules rules_words rc category
+        pub policy_passed : out ≡ None → LimitPassed query rules rules_words rc category
         policy_passed e ids =
             let rest = texts_rest query rules rules_words rc category (m + 1) (omega arith) in
             let whole : below rc.categories ≡ below m ++ (own ∷ rest.0) = rest.1 ∙ ap (λ z. z ++ rest.0) one_more_law
             ∙ append_assoc (below m) (own ∷ []) rest.0 in
             ap (λ z. woven_fault (weave z) ids) whole
-            ∙ text_passed b query rules (below m) own start of_policy old new c sound held.held is_pattern (policy_added Passed e) rest.0
+            ∙ text_passed b query rules (below m) own start of_policy old new c sound held.held is_pattern (policy_added None e) rest.0
             (subst (Each Sound) whole (texts_sound book words k query rules rules_words rc category clear)) ids

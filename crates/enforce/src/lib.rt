@@ -13,17 +13,9 @@ use model::refusal_numbers::{NOT_TIED, WOVEN_LIMIT_PASSED};
 use prepare::Ready;
 use query::pattern::pattern_of;
 use rules_tables::{ACTORS, CATEGORIES, CATEGORY_WORDS, RulesCounts};
-use weave::PatternAdded;
 use woven_tables::WovenCounts;
 
 pub mod policies; // policies.rt: the enforced policies, one category after another
-
-// The counts of the woven pattern, or the number of its refusal.
-#[derive(Clone, Copy)]
-pub enum AskedWoven {
-    Woven(WovenCounts),
-    Refused(u32),
-}
 
 // Which text is woven: the number of its category, its own number among the texts, and where it begins in the query or the rules.
 #[derive(Clone, Copy)]
@@ -33,7 +25,8 @@ pub struct TextPlace {
     pub base: usize,
 }
 
-// Weaves the query and the enforced policies of the request's category, and gives the woven vertices the nodes of the request's identities.
+// Weaves the query and the enforced policies of the request's category, and gives the woven vertices the nodes of the request's identities: answers
+// the counts of the woven pattern, or the number of its refusal.
 pub fn weave_request(
     book: &[u8],
     words: &[u32],
@@ -43,7 +36,7 @@ pub fn weave_request(
     request: &[u8],
     ready: Ready,
     woven: &mut [u32],
-) -> AskedWoven
+) -> Result<WovenCounts, u32>
     requires { AskedReady book.now words.now query.now rules.now rules_words.now request.now ready
         × (woven_words ≤ length woven.old) }
     ensures { AskedAnswer book.now words.now query.now rules.now rules_words.now
@@ -53,7 +46,7 @@ pub fn weave_request(
     let rules_counts = ready.rules;
     let read = ready.request;
     let identities = read.identities;
-    let all = weave_texts(
+    let Some(shape) = weave_texts(
         book,
         words,
         counts,
@@ -63,17 +56,16 @@ pub fn weave_request(
         rules_counts,
         read.category,
         woven,
-    );
-    let PatternAdded::Woven(shape) = all else {
-        return AskedWoven::Refused(WOVEN_LIMIT_PASSED);
+    ) else {
+        return Err(WOVEN_LIMIT_PASSED);
     };
     if weave::finish(query, rules, request, identities, read.count, woven, shape) {
-        return AskedWoven::Woven(shape);
+        return Ok(shape);
     }
-    AskedWoven::Refused(NOT_TIED)
+    Err(NOT_TIED)
 }
 
-// Weaves the query and the enforced policies of a category, without identities.
+// Weaves the query and the enforced policies of a category, without identities: answers the counts of the woven pattern, or none where it passes a limit.
 pub fn weave_texts(
     book: &[u8],
     words: &[u32],
@@ -84,7 +76,7 @@ pub fn weave_texts(
     rules_counts: RulesCounts,
     category: usize,
     woven: &mut [u32],
-) -> PatternAdded
+) -> Option<WovenCounts>
     requires { TextsClear book.now words.now counts query.now rules.now rules_words.now rules_counts category
         × (woven_words ≤ length woven.old) }
     ensures { PoliciesWoven (book_at book.now words.now counts) counts query.now rules.now
@@ -95,7 +87,7 @@ pub fn weave_texts(
         number: 0,
         base: 0,
     };
-    let first = weave_text(
+    let alone = weave_text(
         book,
         words,
         counts,
@@ -106,10 +98,7 @@ pub fn weave_texts(
         place,
         woven,
         weave::empty(),
-    );
-    let PatternAdded::Woven(alone) = first else {
-        return PatternAdded::Passed;
-    };
+    )?;
     policies::weave_policies(
         book,
         words,
@@ -124,7 +113,7 @@ pub fn weave_texts(
     )
 }
 
-// Weaves the pattern of a text: its actor vertices are those that are actors of its own category.
+// Weaves the pattern of a text, if no limit is passed: its actor vertices are those that are actors of its own category.
 pub fn weave_text(
     book: &[u8],
     words: &[u32],
@@ -136,7 +125,7 @@ pub fn weave_text(
     place: TextPlace,
     woven: &mut [u32],
     shape: WovenCounts,
-) -> PatternAdded
+) -> Option<WovenCounts>
     requires { TextReady book.now words.now counts text.now query.now rules.now rules_words.now place woven.old shape }
     ensures { TextWoven (book_at book.now words.now counts) counts text.now query.now rules.now
         (actors_at rules.now rules_words.now place.category) place woven.old woven.new shape result }

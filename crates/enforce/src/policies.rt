@@ -7,17 +7,9 @@ use crate::{TextPlace, weave_text};
 use book_tables::BookCounts;
 use rules_tables::policies::policy_place;
 use rules_tables::{CATEGORIES, CATEGORY_WORDS, LOWER_SET, POLICIES, POLICY_WORDS, RulesCounts};
-use weave::PatternAdded;
 use woven_tables::WovenCounts;
 
-// How many texts are woven, and the counts of their woven pattern; or it passes a limit.
-#[derive(Clone, Copy)]
-pub enum TextsWoven {
-    Woven(usize, WovenCounts),
-    Passed,
-}
-
-// Weaves the enforced policies behind the query.
+// Weaves the enforced policies behind the query, if no limit is passed.
 pub fn weave_policies(
     book: &[u8],
     words: &[u32],
@@ -29,7 +21,7 @@ pub fn weave_policies(
     category: usize,
     woven: &mut [u32],
     alone: WovenCounts,
-) -> PatternAdded
+) -> Option<WovenCounts>
     requires { PoliciesReady book.now words.now counts query.now rules.now rules_words.now rules_counts category woven.old alone }
     ensures { PoliciesWoven (book_at book.now words.now counts) counts query.now rules.now
         rules_words.now rules_counts category woven.new result }
@@ -37,9 +29,8 @@ pub fn weave_policies(
     let categories = rules_counts.categories;
     let mut texts = 1;
     let mut shape = alone;
-    let mut lower = 0;
-    while lower < categories {
-        let step = weave_category(
+    for lower in 0..categories {
+        let (more, next) = weave_category(
             book,
             words,
             counts,
@@ -52,18 +43,15 @@ pub fn weave_policies(
             texts,
             woven,
             shape,
-        );
-        let TextsWoven::Woven(more, next) = step else {
-            return PatternAdded::Passed;
-        };
+        )?;
         texts = more;
         shape = next;
-        lower += 1;
     }
-    PatternAdded::Woven(shape)
+    Some(shape)
 }
 
-// Weaves the policy of one category, if the request's category is it or is over it, and it has a policy.
+// Weaves the policy of one category, if the request's category is it or is over it, and it has a policy: answers how many texts are woven, and the
+// counts of their woven pattern, or none where it passes a limit.
 fn weave_category(
     book: &[u8],
     words: &[u32],
@@ -77,7 +65,7 @@ fn weave_category(
     texts: usize,
     woven: &mut [u32],
     shape: WovenCounts,
-) -> TextsWoven
+) -> Option<(usize, WovenCounts)>
     requires { CategoryReady book.now words.now counts query.now rules.now rules_words.now rules_counts category lower texts
         woven.old shape }
     ensures { CategoryWoven (book_at book.now words.now counts) counts query.now rules.now
@@ -85,11 +73,11 @@ fn weave_category(
 {
     let lower_set = rules_words[CATEGORIES + CATEGORY_WORDS * category + LOWER_SET];
     if !bits::has(lower_set, lower) {
-        return TextsWoven::Woven(texts, shape);
+        return Some((texts, shape));
     }
     let policy = policy_place(rules_words, rules_counts, lower);
     if rules_counts.policies <= policy {
-        return TextsWoven::Woven(texts, shape);
+        return Some((texts, shape));
     }
     let at = POLICIES + POLICY_WORDS * policy;
     let start = rules_words[at + 1] as usize;
@@ -99,7 +87,7 @@ fn weave_category(
         number: texts,
         base: start,
     };
-    let added = weave_text(
+    let next = weave_text(
         book,
         words,
         counts,
@@ -110,9 +98,6 @@ fn weave_category(
         place,
         woven,
         shape,
-    );
-    match added {
-        PatternAdded::Woven(next) => TextsWoven::Woven(texts + 1, next),
-        PatternAdded::Passed => TextsWoven::Passed,
-    }
+    )?;
+    Some((texts + 1, next))
 }

@@ -16,10 +16,8 @@ pub fn entry_slots(words: &[u32], owner: u32) -> [u32; MAX_DECLARED]
 {
     let start = (owner / ENTRY_COUNTS) as usize;
     let mut slots = [0u32; MAX_DECLARED];
-    let mut left = (owner % ENTRY_COUNTS) as usize;
-    while 0 < left {
-        left -= 1;
-        let entry = start + left;
+    let count = (owner % ENTRY_COUNTS) as usize;
+    for entry in (start..start + count).rev() {
         let attribute = (words[ENTRIES + ENTRY_WORDS * entry] / ENTRY_TYPES) as usize;
         slots[attribute] = (entry + 1) as u32;
     }

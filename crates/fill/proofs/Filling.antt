@@ -1,31 +1,19 @@
--- A loop that clears a list from a place on, one word a turn. Assumes nothing.
-use Prim.Native.Nat.{ℕ, suc, ◌+◌, ◌-◌, ◌≤◌, ◌<◌, max}
-use mathlib.Core.Path.{◌≡◌, sym, ◌∙◌}
-use mathlib.Core.List.{List, [], ◌∷◌, ◌++◌, append_assoc, append-nil}
-use native.Mathlib.Numerals.{add-one}
-use native.Mathlib.Omega.{arith}
-use lib.ListN.{length, take, drop, set, get_or, replicate, length-append, length-replicate, replicate-append-replicate, take-append-drop, drop_of_length-le}
-use lib.Seq.{drop-cons, set_at, length-take-le}
+-- A list of which the rest from a place on, if the place lies in it, was written anew as cleared words. Assumes nothing.
+use Rattle.std.proofs.Common.{◌≡◌, ℕ, ◌-◌, min, List, ◌++◌, length, take, drop, replicate, arith, ap}
+use lib.ListN.{length-take, length-drop, drop_of_length-le}
+use lib.Seq.{take_all}
+use mathlib.Core.List.{append-nil}
 use Rattle.fill.specs.Filled.{cleared, filled}
+use Rattle.logic.specs.Tests.{either, below_or_not}
 
--- The list with the words from `from` up to i cleared.
-abbrev pub filled_to : List ℕ → ℕ → ℕ → List ℕ
-filled_to l from i = take from l ++ (replicate (i - from) cleared ++ drop i l)
-
-pub filled_none : (l : List ℕ) (from : ℕ) → l ≡ filled_to l from from
-filled_none l from = let z : from - from ≡ 0 = omega arith in rw z (sym (take-append-drop from l))
-
-pub filled_more : (l : List ℕ) (from i : ℕ) → from ≤ i → i < length l → set (filled_to l from i) i cleared ≡ filled_to l from (i + 1)
-filled_more l from i h k =
-    let n : length (take from l ++ replicate (i - from) cleared) ≡ i = rw length-append
-    (omega (arith, length-take-le from l (omega arith), length-replicate (i - from) cleared)) in
-    let e : i + 1 - from ≡ i - from + 1 = omega arith in
-    let one : replicate (i - from + 1) cleared ≡ replicate (i - from) cleared ++ (cleared ∷ []) = sym (replicate-append-replicate (i - from) 1 cleared) in
-    let before = append_assoc (take from l) (replicate (i - from) cleared) (get_or l i 0 ∷ drop (suc i) l) in
-    let after = append_assoc (take from l) (replicate (i - from) cleared) (cleared ∷ drop (suc i) l) in
-    rw (e, one, append_assoc (replicate (i - from) cleared) (cleared ∷ []), drop-cons l i 0 k, ← before, add-one)
-    (set_at (take from l ++ replicate (i - from) cleared) (get_or l i 0) (drop (suc i) l) cleared i n ∙ after)
-
-pub filled_all : (l : List ℕ) (from i : ℕ) (x : List ℕ) → x ≡ filled_to l from i → from ≤ i → length l ≤ i → i ≤ max (length l) from → x ≡ filled from l
+pub filled_rest : (l : List ℕ) (from start : ℕ) (rest : List ℕ) → start ≡ min from (length l)
+    → rest ≡ replicate (length (take (length l - start) (drop start l))) cleared
+    → take start l ++ (rest ++ drop (length l - start) (drop start l)) ≡ filled from l
 unfolding filled
-filled_all l from i x e h k m = let z : i - from ≡ length l - from = omega arith in rw (e, z, drop_of_length-le l k, append-nil)
+filled_rest l from start rest s r =
+    let n : length (take (length l - start) (drop start l)) ≡ length l - from = simp (length-take, length-drop) (omega arith) in
+    let b : take start l ≡ take from l = either (below_or_not from (length l))
+    (λ h. let e : start ≡ from = omega arith in ap (λ k. take k l) e)
+    (λ h. rw (take_all start l (omega arith), take_all from l h)) in
+    let d : drop (length l - start) (drop start l) ≡ List.[] = drop_of_length-le (drop start l) (simp length-drop (omega arith)) in
+    rw (r, n, b, d, append-nil)

@@ -11,9 +11,6 @@ pub const CLEARED: u32 = 0xFFFF_FFFF;
 pub fn fill(words: &mut [u32], from: usize)
     ensures { words.new ≡ filled from words.old }
 {
-    let mut i = from;
-    while i < words.len() {
-        words[i] = CLEARED;
-        i += 1;
-    }
+    let start = from.min(words.len());
+    words[start..].fill(CLEARED);
 }

@@ -7,6 +7,7 @@ use native.Mathlib.Omega.{arith}
 use lib.ListN.{get_or, drop}
 use lib.Dec.{eqb, ltb}
 use borrow.Author.Tests.{eq-eqb, eqb-true, eqb-false}
+use Rattle.std.specs.Prelude.{Option, Some, None, option_map}
 use Rattle.model.specs.Bytes.{Bytes}
 use Rattle.model.specs.Choice.{pick, Maybe, nothing, just, and_then}
 use Rattle.model.specs.Words.{Got}
@@ -15,20 +16,16 @@ use Rattle.model.specs.Request.{Claim}
 use Rattle.model.specs.Forms.{as_name, first, at_end}
 use Rattle.model.specs.declared.Part.{Part}
 use Rattle.model.specs.declared.Value.{Value as ValueData}
-use Rattle.text.specs.declared.End.TheVariants as end
 use Rattle.text.specs.Places.{peek_at, past, is_space, end_of}
 use Rattle.text.proofs.PlaceLaws.{peek_drop}
-use Rattle.items.specs.declared.Next.TheVariants as next
-use Rattle.item_forms.specs.declared.ItemAt.TheVariants as piece
-use Rattle.item_forms.specs.declared.ValueItem.TheVariants as read
-use Rattle.item_forms.specs.declared.EntryRead.{EntryRead}
-use Rattle.item_forms.specs.declared.EntryRead.TheVariants as entry
-use Rattle.item_forms.specs.declared.ClaimRead.{ClaimRead}
-use Rattle.item_forms.specs.declared.ClaimRead.TheVariants as claim
+use Rattle.items.specs.declared.Next.TheVariants.{Item as ItemAt, Close}
+use Rattle.items.specs.declared.Next.{Next}
+use Rattle.item_forms.specs.declared.EntryParts.{EntryParts}
+use Rattle.item_forms.specs.declared.ClaimParts.{ClaimParts}
 use Rattle.items.specs.Reads.{next_at, list_end}
 use Rattle.items.specs.Rest.{rest_at}
-use Rattle.item_forms.specs.Pieces.{behind, name_places, name_next, value_next, open_next, close_after, close_next, after_end}
-use Rattle.item_forms.specs.Forms.{entry_next, on_entry, claim_rest, on_claim}
+use Rattle.item_forms.specs.Pieces.{behind, item_place, name_next, value_next, open_next, close_after, close_next, after_end}
+use Rattle.item_forms.specs.Forms.{entry_to, entry_next, on_entry, claim_to, claim_rest, on_claim}
 use Rattle.items.proofs.RestLaws.{rest_same}
 use Rattle.item_forms.proofs.ListLaws.{entry_items, entry_items_law, at_entry, entry_close, first_then, claim_rest_law, at_shut}
 
@@ -87,11 +84,11 @@ list_shut read free zero (b ∷ t) =
 
 module _ (d : ℕ) (free : Bool) (s : Bytes) (i : ℕ) where
   -- the end that the list reader gives stands right behind a closing bracket
-  pub ends_shut : (q : ℕ) → end.At q ≡ list_end d free s i → (0 < q) × (peek_at s (q - 1) ≡ 41)
+  pub ends_shut : (q : ℕ) → Some q ≡ list_end d free s i → (0 < q) × (peek_at s (q - 1) ≡ 41)
   unfolding end_of Shut
   ends_shut q e = go (list_at (item_at d) free 0 (drop i s)) (list_shut (item_at d) free 0 (drop i s)) e
     where
-      go : (o : Maybe (Got Items)) → Shut (drop i s) o → end.At q ≡ end_of i o → (0 < q) × (peek_at s (q - 1) ≡ 41)
+      go : (o : Maybe (Got Items)) → Shut (drop i s) o → Some q ≡ end_of i o → (0 < q) × (peek_at s (q - 1) ≡ 41)
       go nothing h e = none_is (cc)
       go (just g) h e =
           let w : q ≡ i + g.size = cc in
@@ -100,90 +97,90 @@ module _ (d : ℕ) (free : Bool) (s : Bytes) (i : ℕ) where
           (omega arith, rw v (sym (peek_drop s i (g.size - 1)) ∙ h.1))
 
   -- where the list reader gives no end, nothing is made of the list
-  pub ends_nowhere : {B : Type 0} (f : ℕ → List Item → Maybe B) → end.None ≡ list_end d free s i → rest_at d free i s f ≡ nothing
+  pub ends_nowhere : {B : Type 0} (f : ℕ → List Item → Maybe B) → None ≡ list_end d free s i → rest_at d free i s f ≡ nothing
   unfolding rest_at and_then end_of
   ends_nowhere f e = go (list_at (item_at d) free 0 (drop i s)) e
     where
-      go : (o : Maybe (Got Items)) → end.None ≡ end_of i o → and_then o (λ g. f (i + g.size) (item_list g.got)) ≡ nothing
+      go : (o : Maybe (Got Items)) → None ≡ end_of i o → and_then o (λ g. f (i + g.size) (item_list g.got)) ≡ nothing
       go nothing e = refl
       go (just g) e = none_is (cc)
 
   -- whatever is made of the items of a list, the end that goes with it is the one that the list reader gives
   pub ends_there : {A : Type 0} (h : List Item → Maybe A) (q : ℕ)
-      → rest_at d free i s (λ e is. and_then (h is) (λ x. just e)) ≡ just q → end.At q ≡ list_end d free s i
+      → rest_at d free i s (λ e is. and_then (h is) (λ x. just e)) ≡ just q → Some q ≡ list_end d free s i
   unfolding rest_at and_then end_of
   ends_there {A} h q e = go (list_at (item_at d) free 0 (drop i s)) e
     where
-      by : (n : ℕ) (o : Maybe A) → and_then o (λ x. just n) ≡ just q → end.At q ≡ end.At n
+      by : (n : ℕ) (o : Maybe A) → and_then o (λ x. just n) ≡ just q → Some q ≡ Some n
       by n nothing e = none_is (cc)
       by n (just x) e = let w : n ≡ q = cc in cc
 
-      go : (o : Maybe (Got Items)) → and_then o (λ g. and_then (h (item_list g.got)) (λ x. just (i + g.size))) ≡ just q → end.At q ≡ end_of i o
+      go : (o : Maybe (Got Items)) → and_then o (λ g. and_then (h (item_list g.got)) (λ x. just (i + g.size))) ≡ just q → Some q ≡ end_of i o
       go nothing e = none_is (cc)
       go (just g) e = by (i + g.size) (h (item_list g.got)) e
 
 -- what `only_closes` says of the closing bracket, z being an end that the list reader gave
 module _ (s : Bytes) (q z : ℕ) (h : peek_at s (z - 1) ≡ 41) (l : 0 < z) where
-  pub closes_there : true ≡ eqb (past is_space s q) (z - 1) → end.At z ≡ close_next s q
+  pub closes_there : true ≡ eqb (past is_space s q) (z - 1) → Some z ≡ close_next s q
   unfolding close_next close_after next_at
   closes_there t =
       let w : past is_space s q ≡ z - 1 = eqb-true (past is_space s q) (z - 1) (sym t) in
       let v : z - 1 + 1 ≡ z = omega arith in
       rw (w, eq-eqb (peek_at s (z - 1)) 41 h, v)
 
-  pub closes_nowhere : ((x : ℕ) → end.At x ≡ close_next s q → end.At x ≡ end.At z)
-      → false ≡ eqb (past is_space s q) (z - 1) → end.None ≡ close_next s q
+  pub closes_nowhere : ((x : ℕ) → Some x ≡ close_next s q → Some x ≡ Some z)
+      → false ≡ eqb (past is_space s q) (z - 1) → None ≡ close_next s q
   unfolding close_next close_after next_at
   closes_nowhere only t = go (eqb (peek_at s p) 41) (ltb q p) only
     where
       p : ℕ
       p = past is_space s q
 
-      go : (x y : Bool) → ((n : ℕ) → end.At n ≡ close_after (pick x (next.Close (p + 1)) (pick y (next.Item p) (next.Item p))) → end.At n ≡ end.At z)
-          → end.None ≡ close_after (pick x (next.Close (p + 1)) (pick y (next.Item p) (next.Item p)))
+      go : (x y : Bool) → ((n : ℕ) → Some n ≡ close_after (pick x (Some (Close (p + 1))) (pick y (Some (ItemAt p)) (Some (ItemAt p)))) → Some n ≡ Some z)
+          → None ≡ close_after (pick x (Some (Close (p + 1))) (pick y (Some (ItemAt p)) (Some (ItemAt p))))
       go true y f =
-          let e : end.At (p + 1) ≡ end.At z = f (p + 1) refl in
+          let e : Some (p + 1) ≡ Some z = f (p + 1) refl in
           let w : p + 1 ≡ z = cc in
           absurd (eqb-false p (z - 1) (sym t) (omega arith))
       go false true f = refl
       go false false f = refl
 
 -- (ATTR VALUE), p being the place behind its opening bracket
-module _ (d : ℕ) (s : Bytes) (i p : ℕ) (e : next.Item p ≡ open_next s i) where
+module _ (d : ℕ) (s : Bytes) (i p : ℕ) (e : Some (ItemAt p) ≡ open_next s i) where
   -- an entry that is read ends where the list reader says
-  entry_ends : (a : Part) (v : ValueData) (q : ℕ) → entry.Entry a v q ≡ entry_next d s i → end.At q ≡ list_end d true s p
+  entry_ends : (a : Part) (v : ValueData) (q : ℕ) → Some (ItemAt (entry_to a v q)) ≡ entry_next d s i → Some q ≡ list_end d true s p
   unfolding on_entry
   entry_ends a v q h =
       ends_there d true s p entry_items q
       (entry_items_law s d p (λ x e. just e) (λ e. nothing)
-      ∙ ap (λ (r : EntryRead). on_entry s r (λ x e. just e) (λ e. nothing)) (at_entry d s i p e _ refl ∙ sym h))
+      ∙ ap (λ (r : Option (Next EntryParts)). on_entry s r (λ x e. just e) (λ e. nothing)) (at_entry d s i p e _ refl ∙ sym h))
 
   -- where the list reader gives no end, there is no entry
-  pub entry_nowhere : end.None ≡ list_end d true s p → entry.None ≡ entry_next d s i
+  pub entry_nowhere : None ≡ list_end d true s p → None ≡ entry_next d s i
   unfolding on_entry
   entry_nowhere n =
       go (entry_next d s i)
-      (ap (λ (r : EntryRead). on_entry s r (λ x e. just e) (λ e. just e)) (sym (at_entry d s i p e _ refl))
+      (ap (λ (r : Option (Next EntryParts)). on_entry s r (λ x e. just e) (λ e. just e)) (sym (at_entry d s i p e _ refl))
       ∙ sym (entry_items_law s d p (λ x e. just e) (λ e. just e))
       ∙ ends_nowhere d true s p (λ e is. and_then (entry_items is) (λ x. just e)) n)
     where
-      go : (r : EntryRead) → on_entry s r (λ x e. just e) (λ e. just e) ≡ nothing → entry.None ≡ r
-      go (entry.Entry a v q) h = none_is (cc)
-      go (entry.Close q) h = none_is (cc)
-      go entry.None h = refl
+      go : (r : Option (Next EntryParts)) → on_entry s r (λ x e. just e) (λ e. just e) ≡ nothing → None ≡ r
+      go (Some (ItemAt x)) h = none_is (cc)
+      go (Some (Close q)) h = none_is (cc)
+      go None h = refl
 
-  module _ (a : Part) (n : piece.At a ≡ name_places (name_next d true s p)) (v : ValueData) (q : ℕ) (w : read.Value v q ≡ value_next d false s (behind a))
-      (z : ℕ) (l : end.At z ≡ list_end d true s p) where
-    pub entry_there : true ≡ eqb (past is_space s q) (z - 1) → entry.Entry a v z ≡ entry_next d s i
+  module _ (a : Part) (n : Some a ≡ item_place (name_next d true s p)) (v : ValueData) (q : ℕ) (w : Some (v, q) ≡ value_next d false s (behind a))
+      (z : ℕ) (l : Some z ≡ list_end d true s p) where
+    pub entry_there : true ≡ eqb (past is_space s q) (z - 1) → Some (ItemAt (entry_to a v z)) ≡ entry_next d s i
     unfolding after_end
-    entry_there t = let h = ends_shut d true s p z l in entry_close d s i p e a n v q w (end.At z) (closes_there s q z h.1 h.0 t)
+    entry_there t = let h = ends_shut d true s p z l in entry_close d s i p e a n v q w (Some z) (closes_there s q z h.1 h.0 t)
 
-    pub entry_past : false ≡ eqb (past is_space s q) (z - 1) → entry.None ≡ entry_next d s i
+    pub entry_past : false ≡ eqb (past is_space s q) (z - 1) → None ≡ entry_next d s i
     unfolding after_end
     entry_past t =
         let h = ends_shut d true s p z l in
-        entry_close d s i p e a n v q w end.None
-        (closes_nowhere s q z h.1 h.0 (λ x k. entry_ends a v x (entry_close d s i p e a n v q w (end.At x) k) ∙ sym l) t)
+        entry_close d s i p e a n v q w None
+        (closes_nowhere s q z h.1 h.0 (λ x k. entry_ends a v x (entry_close d s i p e a n v q w (Some x) k) ∙ sym l) t)
 
 -- ACTOR NODE behind the first word of an (id ACTOR NODE)
 module _ (d : ℕ) (s : Bytes) (i : ℕ) where
@@ -191,7 +188,7 @@ module _ (d : ℕ) (s : Bytes) (i : ℕ) where
   claim_names is = first as_name is (λ a is. first as_name is (λ n is. at_end is (record { actor = a; node = n })))
 
   claim_made : {B : Type 0} (k : Claim → ℕ → Maybe B) (g : ℕ → Maybe B)
-      → rest_at d false i s (λ e is. and_then (claim_names is) (λ x. k x e)) ≡ on_claim s (claim_rest d s i) k g
+      → rest_at d false i s (λ e is. and_then (claim_names is) (λ x. k x e)) ≡ on_claim s (option_map ItemAt (claim_rest d s i)) k g
   unfolding claim_names
   claim_made k g =
       rest_same d false i s _ _ (λ e is.
@@ -200,33 +197,32 @@ module _ (d : ℕ) (s : Bytes) (i : ℕ) where
       ∙ claim_rest_law d s k g i
 
   -- an identity that is read ends where the list reader says
-  claim_ends : (a x : Part) (q : ℕ) → claim.Claim a x q ≡ claim_rest d s i → end.At q ≡ list_end d false s i
+  claim_ends : (a x : Part) (q : ℕ) → Some (claim_to a x q) ≡ claim_rest d s i → Some q ≡ list_end d false s i
   unfolding on_claim
   claim_ends a x q h =
       ends_there d false s i claim_names q
-      (claim_made (λ x e. just e) (λ e. nothing) ∙ ap (λ (r : ClaimRead). on_claim s r (λ x e. just e) (λ e. nothing)) (sym h))
+      (claim_made (λ x e. just e) (λ e. nothing) ∙ ap (λ (r : Option ClaimParts). on_claim s (option_map ItemAt r) (λ x e. just e) (λ e. nothing)) (sym h))
 
   -- where the list reader gives no end, there is no identity
-  pub claim_nowhere : end.None ≡ list_end d false s i → claim.None ≡ claim_rest d s i
+  pub claim_nowhere : None ≡ list_end d false s i → None ≡ claim_rest d s i
   unfolding on_claim
   claim_nowhere n =
       go (claim_rest d s i)
       (sym (claim_made (λ x e. just e) (λ e. just e)) ∙ ends_nowhere d false s i (λ e is. and_then (claim_names is) (λ x. just e)) n)
     where
-      go : (r : ClaimRead) → on_claim s r (λ x e. just e) (λ e. just e) ≡ nothing → claim.None ≡ r
-      go (claim.Claim a x q) h = none_is (cc)
-      go (claim.Close q) h = none_is (cc)
-      go claim.None h = refl
+      go : (r : Option ClaimParts) → on_claim s (option_map ItemAt r) (λ x e. just e) (λ e. just e) ≡ nothing → None ≡ r
+      go (Some x) h = none_is (cc)
+      go None h = refl
 
-  module _ (a : Part) (n : piece.At a ≡ name_places (name_next d false s i)) (x : Part) (w : piece.At x ≡ name_places (name_next d false s (behind a)))
-      (z : ℕ) (l : end.At z ≡ list_end d false s i) where
-    pub claim_there : true ≡ eqb (past is_space s (behind x)) (z - 1) → claim.Claim a x z ≡ claim_rest d s i
+  module _ (a : Part) (n : Some a ≡ item_place (name_next d false s i)) (x : Part) (w : Some x ≡ item_place (name_next d false s (behind a)))
+      (z : ℕ) (l : Some z ≡ list_end d false s i) where
+    pub claim_there : true ≡ eqb (past is_space s (behind x)) (z - 1) → Some (claim_to a x z) ≡ claim_rest d s i
     unfolding after_end
-    claim_there t = let h = ends_shut d false s i z l in at_shut d s i a n x w (end.At z) (closes_there s (behind x) z h.1 h.0 t)
+    claim_there t = let h = ends_shut d false s i z l in at_shut d s i a n x w (Some z) (closes_there s (behind x) z h.1 h.0 t)
 
-    pub claim_past : false ≡ eqb (past is_space s (behind x)) (z - 1) → claim.None ≡ claim_rest d s i
+    pub claim_past : false ≡ eqb (past is_space s (behind x)) (z - 1) → None ≡ claim_rest d s i
     unfolding after_end
     claim_past t =
         let h = ends_shut d false s i z l in
-        at_shut d s i a n x w end.None
-        (closes_nowhere s (behind x) z h.1 h.0 (λ u k. claim_ends a x u (at_shut d s i a n x w (end.At u) k) ∙ sym l) t)
+        at_shut d s i a n x w None
+        (closes_nowhere s (behind x) z h.1 h.0 (λ u k. claim_ends a x u (at_shut d s i a n x w (Some u) k) ∙ sym l) t)

@@ -8,6 +8,7 @@ use lib.ListN.{length, drop, length-drop}
 use lib.Seq.{drop-drop}
 use lib.Dec.{leb, eqb}
 use borrow.Author.Tests.{le-leb, lt-leb, eq-eqb, ne_eqb, eqb-true, eqb-false}
+use Rattle.std.specs.Prelude.{Option, Some, None}
 use Rattle.model.specs.Bytes.{Bytes}
 use Rattle.model.specs.Choice.{pick, Maybe, nothing, just, and_then}
 use Rattle.model.specs.Lists.{all, each}
@@ -15,11 +16,9 @@ use Rattle.model.specs.Words.{Got, run}
 use Rattle.model.specs.Items.{Item, Items, plain_at, as_list, list_at, item_at, item_list, items_of, line_items}
 use Rattle.model.specs.Forms.{as_word, as_quoted, as_name, first, at_end}
 use Rattle.model.specs.Answers.{name_at}
-use Rattle.text.specs.declared.End.{End}
-use Rattle.text.specs.declared.End.TheVariants as end
 use Rattle.text.specs.Places.{peek_at, past, is_space}
-use Rattle.item_forms.specs.declared.ItemAt.{ItemAt}
-use Rattle.item_forms.specs.declared.NameItem.{NameItem}
+use Rattle.model.specs.declared.Part.{Part}
+use Rattle.items.specs.declared.Next.{Next}
 use Rattle.item_forms.specs.declared.Form.{Form}
 use Rattle.items.specs.Rest.{rest_at, on_next}
 use Rattle.item_forms.specs.Ends.{spaces_from, ends_after, form_depth, form_ends, form_at, line_at}
@@ -69,7 +68,7 @@ module _ {B : Type 0} (f : ListOf Item → Maybe B) (s : Bytes) where
       p : ℕ
       p = past is_space s 0
 
-      go : (x : Bool) → eqb (peek_at s p) 40 ≡ x → line_of p (item_at 4 (drop p s)) ≡ on_place (pick x (end.At (p + 1)) end.None) (λ i. line_at true i s f)
+      go : (x : Bool) → eqb (peek_at s p) 40 ≡ x → line_of p (item_at 4 (drop p s)) ≡ on_place (pick x (Some (p + 1)) None) (λ i. line_at true i s f)
       go true h = rw (item_opened 4 3 s p refl (eqb-true (peek_at s p) 40 h)) (line_list p (list_at (item_at 3) true 0 (drop (p + 1) s)))
       go false h = rw (← item_plain 4 s p (eqb-false (peek_at s p) 40 h)) (line_other p (plain_at (drop p s)) (plain_kind (drop p s)))
 
@@ -119,7 +118,7 @@ module _ {B : Type 0} (form : Form) (free : Bool) (i : ℕ) (s : Bytes) where
   form_word d k =
       form_first form free i s as_word k
       ∙ first_word_law (form_depth form) free s i (λ e w is. pick (form_ends form s e) (k w is) nothing)
-      ∙ ap (λ (r : ItemAt). on_piece r (λ w. form_at form false (behind w) s (k (name_at s w)))) (word_depth (form_depth form) d free s i)
+      ∙ ap (λ (r : Option Part). on_piece r (λ w. form_at form false (behind w) s (k (name_at s w)))) (word_depth (form_depth form) d free s i)
 
   pub form_quoted : (k : Bytes → ListOf Item → Maybe B)
       → form_at form free i s (λ is. first as_quoted is k)
@@ -133,7 +132,7 @@ module _ {B : Type 0} (form : Form) (free : Bool) (i : ℕ) (s : Bytes) where
   form_name d k =
       form_first form free i s as_name k
       ∙ first_name (form_depth form) free s i (λ e n is. pick (form_ends form s e) (k n is) nothing)
-      ∙ ap (λ (r : NameItem). on_name s r (λ n q. form_at form false q s (k n)) (λ e. nothing)) (name_depth (form_depth form) d free s i)
+      ∙ ap (λ (r : Option (Next Part)). on_name s r (λ n q. form_at form false q s (k n)) (λ e. nothing)) (name_depth (form_depth form) d free s i)
 
   pub form_list : {A : Type 0} (h : ListOf Item → Maybe A) (k : A → ListOf Item → Maybe B)
       → form_at form free i s (λ is. first (λ x. and_then (items_of x) h) is k)
@@ -160,10 +159,10 @@ module _ {B : Type 0} (form : Form) (free : Bool) (i : ℕ) (s : Bytes) where
       rest_same (form_depth form) free i s _ _ (λ e is. picked (form_ends form s e) (at_end is a))
       ∙ end_next (form_depth form) free s i a (λ e a. pick (form_ends form s e) (just a) nothing) ∙ shut (close_next s i)
     where
-      shut : (r : End) → on_place r (λ e. pick (form_ends form s e) (just a) nothing)
+      shut : (r : Option ℕ) → on_place r (λ e. pick (form_ends form s e) (just a) nothing)
           ≡ pick (after_end r (λ e. form_ends form s e) false) (just a) nothing
-      shut (end.At e) = refl
-      shut end.None = refl
+      shut (Some e) = refl
+      shut None = refl
 
 -- a form at the end of another one is a form, in one list more
 pub form_inside : {B : Type 0} (d closes : ℕ) (free : Bool) (i : ℕ) (s : Bytes) (h : ListOf Item → Maybe B)
@@ -205,17 +204,17 @@ spaces_from_law s i = go (all is_space (drop i s)) refl
 
 -- what the tests of `form_ends` say
 module _ (s : Bytes) (i : ℕ) where
-  pub ends_on : (k : ℕ) (r : End) → 0 < k → r ≡ close_next s i → after_end r (λ e. ends_after (k - 1) s e) false ≡ ends_after k s i
+  pub ends_on : (k : ℕ) (r : Option ℕ) → 0 < k → r ≡ close_next s i → after_end r (λ e. ends_after (k - 1) s e) false ≡ ends_after k s i
   unfolding ends_after
   ends_on zero r l h = absurd (omega arith)
-  ends_on (suc k) r l h = let e : suc k - 1 ≡ k = omega arith in rw e (ap (λ (r : End). after_end r (λ e. ends_after k s e) false) h)
+  ends_on (suc k) r l h = let e : suc k - 1 ≡ k = omega arith in rw e (ap (λ (r : Option ℕ). after_end r (λ e. ends_after k s e) false) h)
 
 -- what the tests of `open_form` say
 module _ (s : Bytes) (i p : ℕ) (e : p ≡ past is_space s i) where
-  pub form_opens_law : peek_at s p ≡ 40 → end.At (p + 1) ≡ form_opens s i
+  pub form_opens_law : peek_at s p ≡ 40 → Some (p + 1) ≡ form_opens s i
   unfolding form_opens
   form_opens_law h = rw (← e, eq-eqb (peek_at s p) 40 h)
 
-  pub form_shut : (peek_at s p ≡ 40 → ⊥) → end.None ≡ form_opens s i
+  pub form_shut : (peek_at s p ≡ 40 → ⊥) → None ≡ form_opens s i
   unfolding form_opens
   form_shut h = rw (← e, ne_eqb (peek_at s p) 40 h)

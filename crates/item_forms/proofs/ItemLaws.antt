@@ -7,6 +7,7 @@ use native.Mathlib.Omega.{arith}
 use lib.ListN.{drop}
 use lib.Dec.{ltb, eqb}
 use borrow.Author.Tests.{eqb-true, eqb-false}
+use Rattle.std.specs.Prelude.{Option, Some, None}
 use Rattle.model.specs.Bytes.{Bytes, bytes_of, same}
 use Rattle.model.specs.Choice.{pick, Maybe, nothing, just, and_then}
 use Rattle.model.specs.Names.{mem}
@@ -15,18 +16,14 @@ use Rattle.model.specs.Items.{Item, word, whole, text, quoted, list, Items, is_l
 use Rattle.model.specs.Values.{Value, int, str, bool}
 use Rattle.model.specs.Forms.{as_word, as_quoted, never_names, name_of, as_name, truth_of, as_value}
 use Rattle.model.specs.Answers.{part_of, name_at, value_of}
+use Rattle.model.specs.declared.Part.{Part}
 use Rattle.model.specs.declared.Value.TheVariants as value
-use Rattle.text.specs.declared.End.TheVariants as end
 use Rattle.text.specs.Places.{peek_at, past, is_space}
 use Rattle.compare.proofs.CompareLaws.{name_of_law}
-use Rattle.items.specs.declared.ItemRead.{ItemRead}
-use Rattle.items.specs.declared.ItemRead.TheVariants.{Word, Number, Text, Quoted, List, None}
+use Rattle.items.specs.declared.ItemEnd.{ItemEnd}
+use Rattle.items.specs.declared.ItemEnd.TheVariants.{Word, Number, Text, Quoted, List}
 use Rattle.items.specs.declared.Next.{Next}
-use Rattle.items.specs.declared.Next.TheVariants as next
-use Rattle.item_forms.specs.declared.ItemAt.{ItemAt}
-use Rattle.item_forms.specs.declared.ItemAt.TheVariants as piece
-use Rattle.item_forms.specs.declared.NameItem.TheVariants as name
-use Rattle.item_forms.specs.declared.ValueItem.TheVariants as read
+use Rattle.items.specs.declared.Next.TheVariants.{Item as ItemAt, Close}
 use Rattle.items.specs.Reads.{end_read, next_at, item_to}
 use Rattle.items.specs.Rest.{rest_at, on_next, on_item}
 use Rattle.item_forms.specs.Pieces.{behind, after_end, open_after, word_piece, quoted_piece, name_piece, truth_piece}
@@ -38,7 +35,7 @@ use Rattle.items.proofs.ReadLaws.{item_told, item_plain, item_opened, read_withi
 pub on_item_same : {B : Type 0} (p : ℕ) (o : Maybe (Got Item)) (f g : Item → ℕ → Maybe B) → ((x : Item) (q : ℕ) → f x q ≡ g x q) → on_item p o f ≡ on_item p o g
 on_item_same p o f g h = λ k. on_item p o (λ x q. h x q k)
 
-pub on_next_same : {B : Type 0} (n : Next) (f g : ℕ → Maybe B) (h : ℕ → Maybe B) → ((p : ℕ) → f p ≡ g p) → on_next n f h ≡ on_next n g h
+pub on_next_same : {B : Type 0} (n : Option (Next ℕ)) (f g : ℕ → Maybe B) (h : ℕ → Maybe B) → ((p : ℕ) → f p ≡ g p) → on_next n f h ≡ on_next n g h
 on_next_same n f g h e = λ k. on_next n (λ p. e p k) h
 
 -- from an item at a place to a piece
@@ -51,7 +48,7 @@ no_items (quoted w) h = refl
 no_items (list w) h = let z : ◌≡◌ {A = ℕ} 0 1 = cc in absurd (omega arith)
 
 -- the place behind an item of a known end
-ends_behind : (d : ℕ) (s : Bytes) (p q : ℕ) (r : ItemRead) → r ≡ read_at d s p → end_read r ≡ end.At q → p + (q - p) ≡ q
+ends_behind : (d : ℕ) (s : Bytes) (p q : ℕ) (r : Option ItemEnd) → r ≡ read_at d s p → end_read r ≡ Some q → p + (q - p) ≡ q
 ends_behind d s p q r e h = omega (arith, (read_within d s p q r e h).after)
 
 module _ {B : Type 0} (d : ℕ) (s : Bytes) (p : ℕ) where
@@ -61,13 +58,13 @@ module _ {B : Type 0} (d : ℕ) (s : Bytes) (p : ℕ) where
   unfolding on_item item_to as_word is_list and_then word_piece after_end on_piece name_at
   word_item f = ap (λ (o : Maybe (Got Item)). on_item p o (λ x q. and_then (as_word x) (λ a. f a (is_list x) q))) (item_told d s p) ∙ go (read_at d s p) refl
     where
-      go : (r : ItemRead) → r ≡ read_at d s p → on_item p (item_to d s p r) (λ x q. and_then (as_word x) (λ a. f a (is_list x) q))
+      go : (r : Option ItemEnd) → r ≡ read_at d s p → on_item p (item_to d s p r) (λ x q. and_then (as_word x) (λ a. f a (is_list x) q))
           ≡ on_piece (word_piece p r) (λ w. f (name_at s w) false (behind w))
-      go (Word q) e = refl
-      go (Number n q) e = refl
-      go (Text q) e = refl
-      go (Quoted q) e = refl
-      go (List q) e = refl
+      go (Some (Word q)) e = refl
+      go (Some (Number n q)) e = refl
+      go (Some (Text q)) e = refl
+      go (Some (Quoted q)) e = refl
+      go (Some (List q)) e = refl
       go None e = refl
 
   pub quoted_item : (f : Bytes → Bool → ℕ → Maybe B)
@@ -76,16 +73,16 @@ module _ {B : Type 0} (d : ℕ) (s : Bytes) (p : ℕ) where
   unfolding on_item item_to as_quoted is_list and_then quoted_piece after_end on_piece name_at
   quoted_item f = ap (λ (o : Maybe (Got Item)). on_item p o (λ x q. and_then (as_quoted x) (λ a. f a (is_list x) q))) (item_told d s p) ∙ go (read_at d s p) refl
     where
-      go : (r : ItemRead) → r ≡ read_at d s p
+      go : (r : Option ItemEnd) → r ≡ read_at d s p
           → on_item p (item_to d s p r) (λ x q. and_then (as_quoted x) (λ a. f a (is_list x) q))
           ≡ on_piece (quoted_piece p r) (λ w. f (name_at s w) false (behind w + 1))
-      go (Word q) e = refl
-      go (Number n q) e = refl
-      go (Text q) e = refl
-      go (Quoted q) e =
+      go (Some (Word q)) e = refl
+      go (Some (Number n q)) e = refl
+      go (Some (Text q)) e = refl
+      go (Some (Quoted q)) e =
           let a : p + (q - p) ≡ p + 1 + (q - p - 2) + 1 = omega (arith, (quoted_within d s p q e).0) in
           rw a
-      go (List q) e = refl
+      go (Some (List q)) e = refl
       go None e = refl
 
   pub value_item_law : (f : Value → Bool → ℕ → Maybe B)
@@ -95,29 +92,29 @@ module _ {B : Type 0} (d : ℕ) (s : Bytes) (p : ℕ) where
     where
       truth : (q : ℕ) (x y : Bool) → p + (q - p) ≡ q
           → and_then (pick x (just (bool true)) (pick y (just (bool false)) nothing)) (λ a. f a false (p + (q - p)))
-          ≡ on_value s (pick x (read.Value (value.Truth true) q)
-          (pick y (read.Value (value.Truth false) q) read.None)) (λ v q. f v false q)
+          ≡ on_value s (pick x (Some (value.Truth true, q))
+          (pick y (Some (value.Truth false, q)) None)) (λ v q. f v false q)
       truth q true y h = ap (f (bool true) false) h
       truth q false true h = ap (f (bool false) false) h
       truth q false false h = refl
 
-      go : (r : ItemRead) → r ≡ read_at d s p → on_item p (item_to d s p r) (λ x q. and_then (as_value x) (λ a. f a (is_list x) q))
+      go : (r : Option ItemEnd) → r ≡ read_at d s p → on_item p (item_to d s p r) (λ x q. and_then (as_value x) (λ a. f a (is_list x) q))
           ≡ on_value s (value_piece s p r) (λ v q. f v false q)
-      go (Word q) e = truth q (same (part_of s p (q - p)) (bytes_of "true")) (same (part_of s p (q - p)) (bytes_of "false")) (ends_behind d s p q (Word q) e refl)
-      go (Number n q) e = ap (f (int n) false) (ends_behind d s p q (Number n q) e refl)
-      go (Text q) e = ap (f (str (part_of s (p + 1) (q - p - 2))) false) (ends_behind d s p q (Text q) e refl)
-      go (Quoted q) e = refl
-      go (List q) e = refl
+      go (Some (Word q)) e = truth q (same (part_of s p (q - p)) (bytes_of "true")) (same (part_of s p (q - p)) (bytes_of "false")) (ends_behind d s p q (Some (Word q)) e refl)
+      go (Some (Number n q)) e = ap (f (int n) false) (ends_behind d s p q (Some (Number n q)) e refl)
+      go (Some (Text q)) e = ap (f (str (part_of s (p + 1) (q - p - 2))) false) (ends_behind d s p q (Some (Text q)) e refl)
+      go (Some (Quoted q)) e = refl
+      go (Some (List q)) e = refl
       go None e = refl
 
 -- a word as a name
-name_piece_law : {B : Type 0} (s : Bytes) (w : ItemAt) (f : Bytes → ℕ → Maybe B) (g : ℕ → Maybe B)
+name_piece_law : {B : Type 0} (s : Bytes) (w : Option Part) (f : Bytes → ℕ → Maybe B) (g : ℕ → Maybe B)
     → on_piece w (λ x. and_then (name_of (name_at s x)) (λ n. f n (behind x))) ≡ on_name s (name_piece s w) f g
 unfolding on_piece on_name name_piece and_then
-name_piece_law s piece.None f g = refl
-name_piece_law {B} s (piece.At x) f g = rw (name_of_law (name_at s x)) (go (not (mem (name_at s x) never_names)))
+name_piece_law s None f g = refl
+name_piece_law {B} s (Some x) f g = rw (name_of_law (name_at s x)) (go (not (mem (name_at s x) never_names)))
   where
-    go : (b : Bool) → and_then (pick b (just (name_at s x)) nothing) (λ n. f n (behind x)) ≡ on_name s (pick b (name.Name x) name.None) f g
+    go : (b : Bool) → and_then (pick b (just (name_at s x)) nothing) (λ n. f n (behind x)) ≡ on_name s (pick b (Some (ItemAt x)) None) f g
     go true = refl
     go false = refl
 
@@ -166,24 +163,24 @@ module _ {A B : Type 0} (h : ListOf Item → Maybe A) (d : ℕ) (s : Bytes) wher
       p : ℕ
       p = past is_space s i
 
-      follows : Bool → Bool → Bool → Bool → Next
-      follows free x y z = pick x (next.Close (p + 1)) (pick y (next.Item p) (pick (free || z) (next.Item p) next.None))
+      follows : Bool → Bool → Bool → Bool → Option (Next ℕ)
+      follows free x y z = pick x (Some (Close (p + 1))) (pick y (Some (ItemAt p)) (pick (free || z) (Some (ItemAt p)) None))
 
-      left : Next → Maybe B
+      left : Option (Next ℕ) → Maybe B
       left n = on_next n (λ p. on_item p (item_at (suc d) (drop p s)) (λ x q. and_then (and_then (items_of x) h) (λ a. f a (is_list x) q))) g
 
-      right : Next → Maybe B
+      right : Option (Next ℕ) → Maybe B
       right n =
           on_next (open_after s n)
           (λ p. rest_at d true p s (λ e is. and_then (h is) (λ a. f a true e))) g
 
-      yes : eqb (peek_at s p) 40 ≡ true → left (next.Item p) ≡ right (next.Item p)
+      yes : eqb (peek_at s p) 40 ≡ true → left (Some (ItemAt p)) ≡ right (Some (ItemAt p))
       yes k = opened_list p f (eqb-true (peek_at s p) 40 k) ∙ rw k
 
-      no : eqb (peek_at s p) 40 ≡ false → left (next.Item p) ≡ right (next.Item p)
+      no : eqb (peek_at s p) 40 ≡ false → left (Some (ItemAt p)) ≡ right (Some (ItemAt p))
       no k = shut_list p f (eqb-false (peek_at s p) 40 k) ∙ rw k
 
-      none : eqb (peek_at s p) 40 ≡ false → nothing ≡ right (next.Item p)
+      none : eqb (peek_at s p) 40 ≡ false → nothing ≡ right (Some (ItemAt p))
       none k = rw k
 
       go : (free x y z : Bool) → eqb (peek_at s p) 40 ≡ z → left (follows free x y z) ≡ right (follows true x y z)

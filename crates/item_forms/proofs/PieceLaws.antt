@@ -5,6 +5,7 @@ use mathlib.Core.List.{List as ListOf, [], ◌∷◌}
 use mathlib.Core.Bool.{Bool, true, false, ◌||◌}
 use lib.ListN.{drop}
 use lib.Dec.{ltb, eqb}
+use Rattle.std.specs.Prelude.{Option, Some, None}
 use Rattle.model.specs.Bytes.{Bytes}
 use Rattle.model.specs.Choice.{pick, Maybe, nothing, just, and_then}
 use Rattle.model.specs.Lists.{each}
@@ -14,14 +15,10 @@ use Rattle.model.specs.Values.{Value}
 use Rattle.model.specs.Forms.{as_word, as_quoted, as_name, as_value, first, at_end}
 use Rattle.model.specs.Answers.{name_at}
 use Rattle.model.specs.declared.Part.{Part}
+use Rattle.model.specs.declared.Value.{Value as ValueData}
 use Rattle.text.specs.Places.{peek_at, past, is_space}
-use Rattle.items.specs.declared.ItemRead.TheVariants.{None}
 use Rattle.items.specs.declared.Next.{Next}
-use Rattle.items.specs.declared.Next.TheVariants as next
-use Rattle.item_forms.specs.declared.ItemAt.{ItemAt}
-use Rattle.item_forms.specs.declared.ItemAt.TheVariants as piece
-use Rattle.item_forms.specs.declared.ValueItem.{ValueItem}
-use Rattle.item_forms.specs.declared.ValueItem.TheVariants as read
+use Rattle.items.specs.declared.Next.TheVariants.{Item as ItemAt, Close}
 use Rattle.items.specs.Reads.{next_at}
 use Rattle.items.specs.Rest.{rest_at, on_next, on_item}
 use Rattle.item_forms.specs.Pieces.{behind, item_place, after_end, name_after, close_after, word_piece, quoted_piece, name_piece, value_piece, read_at, word_next}
@@ -37,11 +34,11 @@ module _ {B : Type 0} (d : ℕ) (free : Bool) (s : Bytes) (i : ℕ) (f : ℕ →
   unfolding on_next
   by_next = go (next_at free s i) refl
     where
-      go : (n : Next) → n ≡ next_at free s i
+      go : (n : Option (Next ℕ)) → n ≡ next_at free s i
           → rest_at d free i s f ≡ on_next n (λ p. on_item p (item_at d (drop p s)) (λ x q. rest_at d (is_list x) q s (λ e is. f e (x ∷ is)))) (λ e. f e [])
-      go (next.Item p) w = item_follows d s f free i p w ∙ rest_at_law d s i p f (begins free s i p w)
-      go (next.Close q) w = close_follows d s f free i q w
-      go next.None w = none_follows d s f free i w
+      go (Some (ItemAt p)) w = item_follows d s f free i p w ∙ rest_at_law d s i p f (begins free s i p w)
+      go (Some (Close q)) w = close_follows d s f free i q w
+      go None w = none_follows d s f free i w
 
 module _ {A B : Type 0} (reading : Item → Maybe A) (d : ℕ) (free : Bool) (s : Bytes) (i : ℕ) where
   -- the first item by a reading of it
@@ -80,9 +77,9 @@ module _ {B : Type 0} (free : Bool) (s : Bytes) (i : ℕ) where
   unfolding next_at close_next close_after on_next on_place
   close_item g = go free (eqb (peek_at s (past is_space s i)) 41) (ltb i (past is_space s i)) (eqb (peek_at s (past is_space s i)) 40)
     where
-      follows : Bool → Bool → Bool → Bool → Next
-      follows free x y z = pick x (next.Close (past is_space s i + 1))
-          (pick y (next.Item (past is_space s i)) (pick (free || z) (next.Item (past is_space s i)) next.None))
+      follows : Bool → Bool → Bool → Bool → Option (Next ℕ)
+      follows free x y z = pick x (Some (Close (past is_space s i + 1)))
+          (pick y (Some (ItemAt (past is_space s i))) (pick (free || z) (Some (ItemAt (past is_space s i))) None))
 
       go : (free x y z : Bool) → on_next (follows free x y z) (λ p. nothing) g ≡ on_place (close_after (follows true x y z)) g
       go free true y z = refl
@@ -106,26 +103,26 @@ module _ {A B : Type 0} (d : ℕ) (free : Bool) (s : Bytes) (i : ℕ) where
       ∙ close_item free s i (λ e. k e a)
 
 -- a list that is asked for a word, a name, a value, a policy text, a list
-after_piece : {B : Type 0} (n : Next) (f : ℕ → ItemAt) (g : Part → Maybe B)
-    → on_next n (λ p. on_piece (f p) g) (λ e. nothing) ≡ on_piece (after_end (item_place n) f piece.None) g
+after_piece : {B : Type 0} (n : Option (Next ℕ)) (f : ℕ → Option Part) (g : Part → Maybe B)
+    → on_next n (λ p. on_piece (f p) g) (λ e. nothing) ≡ on_piece (after_end (item_place n) f None) g
 unfolding on_next after_end on_piece
-after_piece (next.Item p) f g = refl
-after_piece (next.Close e) f g = refl
-after_piece next.None f g = refl
+after_piece (Some (ItemAt p)) f g = refl
+after_piece (Some (Close e)) f g = refl
+after_piece None f g = refl
 
-after_name : {B : Type 0} (d : ℕ) (s : Bytes) (n : Next) (g : Bytes → ℕ → Maybe B) (h : ℕ → Maybe B)
+after_name : {B : Type 0} (d : ℕ) (s : Bytes) (n : Option (Next ℕ)) (g : Bytes → ℕ → Maybe B) (h : ℕ → Maybe B)
     → on_next n (λ p. on_name s (name_piece s (word_piece p (read_at d s p))) g h) h ≡ on_name s (name_after d s n) g h
 unfolding on_next name_after on_name
-after_name d s (next.Item p) g h = refl
-after_name d s (next.Close e) g h = refl
-after_name d s next.None g h = refl
+after_name d s (Some (ItemAt p)) g h = refl
+after_name d s (Some (Close e)) g h = refl
+after_name d s None g h = refl
 
-after_value : {B : Type 0} (s : Bytes) (n : Next) (f : ℕ → ValueItem) (g : Value → ℕ → Maybe B)
-    → on_next n (λ p. on_value s (f p) g) (λ e. nothing) ≡ on_value s (after_end (item_place n) f read.None) g
+after_value : {B : Type 0} (s : Bytes) (n : Option (Next ℕ)) (f : ℕ → Option (ValueData × ℕ)) (g : Value → ℕ → Maybe B)
+    → on_next n (λ p. on_value s (f p) g) (λ e. nothing) ≡ on_value s (after_end (item_place n) f None) g
 unfolding on_next after_end on_value
-after_value s (next.Item p) f g = refl
-after_value s (next.Close e) f g = refl
-after_value s next.None f g = refl
+after_value s (Some (ItemAt p)) f g = refl
+after_value s (Some (Close e)) f g = refl
+after_value s None f g = refl
 
 module _ {B : Type 0} (d : ℕ) (free : Bool) (s : Bytes) (i : ℕ) where
   pub first_word_law : (k : ℕ → Bytes → ListOf Item → Maybe B)

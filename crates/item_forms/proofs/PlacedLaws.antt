@@ -6,6 +6,7 @@ use native.Mathlib.Omega.{arith}
 use lib.ListN.{length}
 use lib.Dec.{ltb, eqb}
 use borrow.Author.Tests.{eqb-true}
+use Rattle.std.specs.Prelude.{Option, Some, None}
 use Rattle.model.specs.Bytes.{Bytes, bytes_of, same}
 use Rattle.model.specs.Choice.{pick}
 use Rattle.model.specs.Names.{mem}
@@ -14,37 +15,29 @@ use Rattle.model.specs.Answers.{part_of, name_at}
 use Rattle.model.specs.declared.Part.{Part}
 use Rattle.model.specs.declared.Value.{Value as ValueData}
 use Rattle.model.specs.declared.Value.TheVariants as value
-use Rattle.text.specs.declared.End.{End}
-use Rattle.text.specs.declared.End.TheVariants as end
 use Rattle.text.specs.Places.{peek_at, past, is_space}
 use Rattle.text.proofs.PlaceLaws.{peek_in, past_on}
-use Rattle.items.specs.declared.ItemRead.{ItemRead}
-use Rattle.items.specs.declared.ItemRead.TheVariants.{Word, Number, Text, Quoted, List, None}
+use Rattle.items.specs.declared.ItemEnd.{ItemEnd}
+use Rattle.items.specs.declared.ItemEnd.TheVariants.{Word, Number, Text, Quoted, List}
 use Rattle.items.specs.declared.Next.{Next}
-use Rattle.items.specs.declared.Next.TheVariants as next
-use Rattle.item_forms.specs.declared.ItemAt.{ItemAt}
-use Rattle.item_forms.specs.declared.ItemAt.TheVariants as piece
-use Rattle.item_forms.specs.declared.NameItem.TheVariants as name
-use Rattle.item_forms.specs.declared.ValueItem.{ValueItem}
-use Rattle.item_forms.specs.declared.ValueItem.TheVariants as read
-use Rattle.item_forms.specs.declared.EntryRead.{EntryRead}
-use Rattle.item_forms.specs.declared.EntryRead.TheVariants as entry
+use Rattle.items.specs.declared.Next.TheVariants.{Item, Close}
+use Rattle.item_forms.specs.declared.EntryParts.{EntryParts}
 use Rattle.items.specs.Reads.{next_at}
-use Rattle.item_forms.specs.Pieces.{behind, item_place, after_end, word_piece, quoted_piece, name_piece, name_places, truth_piece, value_piece, read_at, word_next}
+use Rattle.item_forms.specs.Pieces.{behind, item_place, after_end, word_piece, quoted_piece, name_piece, truth_piece, value_piece, read_at, word_next}
 use Rattle.item_forms.specs.Pieces.{quoted_next, name_after, name_next, value_next, open_after, open_next, close_after, close_next}
-use Rattle.item_forms.specs.Forms.{entry_valued, entry_named, entry_after, entry_next}
+use Rattle.item_forms.specs.Forms.{entry_to, entry_valued, entry_named, entry_after, entry_next}
 use Rattle.item_forms.specs.Places.{WordPlaces, Placed, NextWord, NextName, QuotedPlaced, NextQuoted, ValueInside, EntryPlaced, NextEntry}
 use Rattle.items.proofs.ReadLaws.{read_within, text_within, quoted_within, word_small}
 
 -- where a piece that was read stands
-pub placed_at : (s : Bytes) (i : ℕ) {w : Part} (r : ItemAt) → r ≡ piece.At w → Placed s i r → WordPlaces s i w
+pub placed_at : (s : Bytes) (i : ℕ) {w : Part} (r : Option Part) → r ≡ Some w → Placed s i r → WordPlaces s i w
 placed_at s i r e h = subst (Placed s i) e h
 
 -- what follows in a list stands behind the place
-abbrev Follows : Bytes → ℕ → Next → Type 0
-Follows s i (next.Item p) = i ≤ p
-Follows s i (next.Close e) = (i < e) × (e ≤ length s)
-Follows s i next.None = Unit {0}
+abbrev Follows : Bytes → ℕ → Option (Next ℕ) → Type 0
+Follows s i (Some (Item p)) = i ≤ p
+Follows s i (Some (Close e)) = (i < e) × (e ≤ length s)
+Follows s i None = Unit {0}
 
 follows : (free : Bool) (s : Bytes) (i : ℕ) → Follows s i (next_at free s i)
 unfolding next_at
@@ -53,7 +46,7 @@ follows free s i = go (eqb (peek_at s p) 41) refl (ltb i p) (free || eqb (peek_a
     p : ℕ
     p = past is_space s i
 
-    go : (x : Bool) → eqb (peek_at s p) 41 ≡ x → (y z : Bool) → Follows s i (pick x (next.Close (p + 1)) (pick y (next.Item p) (pick z (next.Item p) next.None)))
+    go : (x : Bool) → eqb (peek_at s p) 41 ≡ x → (y z : Bool) → Follows s i (pick x (Some (Close (p + 1))) (pick y (Some (Item p)) (pick z (Some (Item p)) None)))
     go true e y z = (omega (arith, past_on is_space s i), omega (arith, peek_in s p (omega (arith, eqb-true (peek_at s p) 41 e))))
     go false e true z = past_on is_space s i
     go false e false true = past_on is_space s i
@@ -65,58 +58,58 @@ module _ (d : ℕ) (free : Bool) (s : Bytes) (i : ℕ) where
   unfolding word_piece after_end
   word_piece_law p l = go (read_at d s p) refl
     where
-      go : (r : ItemRead) → r ≡ read_at d s p → Placed s i (word_piece p r)
-      go (Word q) e =
-          let w = read_within d s p q (Word q) e refl in
+      go : (r : Option ItemEnd) → r ≡ read_at d s p → Placed s i (word_piece p r)
+      go (Some (Word q)) e =
+          let w = read_within d s p q (Some (Word q)) e refl in
           record { after = l; some = omega (arith, w.after); inside = omega (arith, w.after, w.inside); short = word_small d s p q e }
-      go (Number n q) e = tt
-      go (Text q) e = tt
-      go (Quoted q) e = tt
-      go (List q) e = tt
+      go (Some (Number n q)) e = tt
+      go (Some (Text q)) e = tt
+      go (Some (Quoted q)) e = tt
+      go (Some (List q)) e = tt
       go None e = tt
 
   pub word_placed : Placed s i (word_next d free s i)
   unfolding word_next after_end
   word_placed = go (next_at free s i) (follows free s i)
     where
-      go : (n : Next) → Follows s i n → Placed s i (after_end (item_place n) (λ p. word_piece p (read_at d s p)) piece.None)
-      go (next.Item p) h = word_piece_law p h
-      go (next.Close e) h = tt
-      go next.None h = tt
+      go : (n : Option (Next ℕ)) → Follows s i n → Placed s i (after_end (item_place n) (λ p. word_piece p (read_at d s p)) None)
+      go (Some (Item p)) h = word_piece_law p h
+      go (Some (Close e)) h = tt
+      go None h = tt
 
-  pub name_placed : Placed s i (name_places (name_next d free s i))
+  pub name_placed : Placed s i (item_place (name_next d free s i))
   unfolding name_next name_after name_piece
   name_placed = go (next_at free s i) (follows free s i)
     where
-      named : (w : ItemAt) → Placed s i w → Placed s i (name_places (name_piece s w))
-      named (piece.At w) h = by (not (mem (name_at s w) never_names))
+      named : (w : Option Part) → Placed s i w → Placed s i (item_place (name_piece s w))
+      named (Some w) h = by (not (mem (name_at s w) never_names))
         where
-          by : (b : Bool) → Placed s i (name_places (pick b (name.Name w) name.None))
+          by : (b : Bool) → Placed s i (item_place (pick b (Some (Item w)) None))
           by true = h
           by false = tt
-      named piece.None h = tt
+      named None h = tt
 
-      go : (n : Next) → Follows s i n → Placed s i (name_places (name_after d s n))
-      go (next.Item p) h = named (word_piece p (read_at d s p)) (word_piece_law p h)
-      go (next.Close e) h = tt
-      go next.None h = tt
+      go : (n : Option (Next ℕ)) → Follows s i n → Placed s i (item_place (name_after d s n))
+      go (Some (Item p)) h = named (word_piece p (read_at d s p)) (word_piece_law p h)
+      go (Some (Close e)) h = tt
+      go None h = tt
 
   quoted_placed : QuotedPlaced s (quoted_next d free s i)
   unfolding quoted_next quoted_piece after_end
   quoted_placed = go (next_at free s i)
     where
-      at : (p : ℕ) (r : ItemRead) → r ≡ read_at d s p → QuotedPlaced s (quoted_piece p r)
-      at p (Word q) e = tt
-      at p (Number z q) e = tt
-      at p (Text q) e = tt
-      at p (Quoted q) e = let w = quoted_within d s p q e in omega (arith, w.0, w.1)
-      at p (List q) e = tt
+      at : (p : ℕ) (r : Option ItemEnd) → r ≡ read_at d s p → QuotedPlaced s (quoted_piece p r)
+      at p (Some (Word q)) e = tt
+      at p (Some (Number z q)) e = tt
+      at p (Some (Text q)) e = tt
+      at p (Some (Quoted q)) e = let w = quoted_within d s p q e in omega (arith, w.0, w.1)
+      at p (Some (List q)) e = tt
       at p None e = tt
 
-      go : (n : Next) → QuotedPlaced s (after_end (item_place n) (λ p. quoted_piece p (read_at d s p)) piece.None)
-      go (next.Item p) = at p (read_at d s p) refl
-      go (next.Close e) = tt
-      go next.None = tt
+      go : (n : Option (Next ℕ)) → QuotedPlaced s (after_end (item_place n) (λ p. quoted_piece p (read_at d s p)) None)
+      go (Some (Item p)) = at p (read_at d s p) refl
+      go (Some (Close e)) = tt
+      go None = tt
 
 -- a value, a closing bracket, an opening one
 record ValuePlaces (s : Bytes) (i : ℕ) (v : ValueData) (q : ℕ) : Type 0 where
@@ -124,20 +117,20 @@ record ValuePlaces (s : Bytes) (i : ℕ) (v : ValueData) (q : ℕ) : Type 0 wher
   inside : q ≤ length s
   ends : ValueInside s v
 
-abbrev ValuePlaced : Bytes → ℕ → ValueItem → Type 0
-ValuePlaced s i (read.Value v q) = ValuePlaces s i v q
-ValuePlaced s i read.None = Unit {0}
+abbrev ValuePlaced : Bytes → ℕ → Option (ValueData × ℕ) → Type 0
+ValuePlaced s i (Some (v, q)) = ValuePlaces s i v q
+ValuePlaced s i None = Unit {0}
 
-abbrev ClosePlaced : Bytes → ℕ → End → Type 0
-ClosePlaced s i (end.At e) = (i < e) × (e ≤ length s)
-ClosePlaced s i end.None = Unit {0}
+abbrev ClosePlaced : Bytes → ℕ → Option ℕ → Type 0
+ClosePlaced s i (Some e) = (i < e) × (e ≤ length s)
+ClosePlaced s i None = Unit {0}
 
 module _ (s : Bytes) (i : ℕ) where
   truth_placed : (p q : ℕ) → i < q → q ≤ length s → ValuePlaced s i (truth_piece s p q)
   unfolding truth_piece
   truth_placed p q l m = go (same (part_of s p (q - p)) (bytes_of "true")) (same (part_of s p (q - p)) (bytes_of "false"))
     where
-      go : (x y : Bool) → ValuePlaced s i (pick x (read.Value (value.Truth true) q) (pick y (read.Value (value.Truth false) q) read.None))
+      go : (x y : Bool) → ValuePlaced s i (pick x (Some (value.Truth true, q)) (pick y (Some (value.Truth false, q)) None))
       go true y = record { behind = l; inside = m; ends = tt }
       go false true = record { behind = l; inside = m; ends = tt }
       go false false = tt
@@ -146,77 +139,77 @@ module _ (s : Bytes) (i : ℕ) where
   unfolding value_next value_piece after_end
   value_placed d = go (next_at false s i) (follows false s i)
     where
-      at : (p : ℕ) → i ≤ p → (r : ItemRead) → r ≡ read_at d s p → ValuePlaced s i (value_piece s p r)
-      at p l (Word q) e = let w = read_within d s p q (Word q) e refl in truth_placed p q (omega (arith, w.after)) w.inside
-      at p l (Number n q) e = let w = read_within d s p q (Number n q) e refl in record { behind = omega (arith, w.after); inside = w.inside; ends = tt }
-      at p l (Text q) e = let w = text_within d s p q e in record { behind = omega (arith, w.0); inside = w.1; ends = omega (arith, w.0, w.1) }
-      at p l (Quoted q) e = tt
-      at p l (List q) e = tt
+      at : (p : ℕ) → i ≤ p → (r : Option ItemEnd) → r ≡ read_at d s p → ValuePlaced s i (value_piece s p r)
+      at p l (Some (Word q)) e = let w = read_within d s p q (Some (Word q)) e refl in truth_placed p q (omega (arith, w.after)) w.inside
+      at p l (Some (Number n q)) e = let w = read_within d s p q (Some (Number n q)) e refl in record { behind = omega (arith, w.after); inside = w.inside; ends = tt }
+      at p l (Some (Text q)) e = let w = text_within d s p q e in record { behind = omega (arith, w.0); inside = w.1; ends = omega (arith, w.0, w.1) }
+      at p l (Some (Quoted q)) e = tt
+      at p l (Some (List q)) e = tt
       at p l None e = tt
 
-      go : (n : Next) → Follows s i n → ValuePlaced s i (after_end (item_place n) (λ p. value_piece s p (read_at d s p)) read.None)
-      go (next.Item p) h = at p h (read_at d s p) refl
-      go (next.Close e) h = tt
-      go next.None h = tt
+      go : (n : Option (Next ℕ)) → Follows s i n → ValuePlaced s i (after_end (item_place n) (λ p. value_piece s p (read_at d s p)) None)
+      go (Some (Item p)) h = at p h (read_at d s p) refl
+      go (Some (Close e)) h = tt
+      go None h = tt
 
   close_placed : ClosePlaced s i (close_next s i)
   unfolding close_next close_after
   close_placed = go (next_at true s i) (follows true s i)
     where
-      go : (n : Next) → Follows s i n → ClosePlaced s i (close_after n)
-      go (next.Item p) h = tt
-      go (next.Close e) h = h
-      go next.None h = tt
+      go : (n : Option (Next ℕ)) → Follows s i n → ClosePlaced s i (close_after n)
+      go (Some (Item p)) h = tt
+      go (Some (Close e)) h = h
+      go None h = tt
 
   open_placed : Follows s i (open_next s i)
   unfolding open_next open_after
   open_placed = go (next_at true s i) (follows true s i)
     where
-      by : (t : Bool) (p : ℕ) → i ≤ p → Follows s i (pick t (next.Item (p + 1)) next.None)
+      by : (t : Bool) (p : ℕ) → i ≤ p → Follows s i (pick t (Some (Item (p + 1))) None)
       by true p h = omega arith
       by false p h = tt
 
-      go : (n : Next) → Follows s i n → Follows s i (open_after s n)
-      go (next.Item p) h = by (eqb (peek_at s p) 40) p h
-      go (next.Close e) h = h
-      go next.None h = tt
+      go : (n : Option (Next ℕ)) → Follows s i n → Follows s i (open_after s n)
+      go (Some (Item p)) h = by (eqb (peek_at s p) 40) p h
+      go (Some (Close e)) h = h
+      go None h = tt
 
 -- (ATTR VALUE)
 module _ (d : ℕ) (s : Bytes) (i : ℕ) where
-  entry_valued_law : (a : Part) → WordPlaces s i a → (r : ValueItem) → ValuePlaced s (behind a) r → EntryPlaced s i (entry_valued s a r)
+  entry_valued_law : (a : Part) → WordPlaces s i a → (r : Option (ValueData × ℕ)) → ValuePlaced s (behind a) r → EntryPlaced s i (entry_valued s a r)
   unfolding entry_valued after_end
-  entry_valued_law a w (read.Value v q) h = go (close_next s q) (close_placed s q)
+  entry_valued_law a w (Some (v, q)) h = go (close_next s q) (close_placed s q)
     where
-      go : (e : End) → ClosePlaced s q e → EntryPlaced s i (after_end e (λ z. entry.Entry a v z) entry.None)
-      go (end.At z) k = record { inside = w.inside; ends = h.ends; behind = omega (arith, w.after, w.some, h.behind, k.0); next = k.1 }
-      go end.None k = tt
-  entry_valued_law a w read.None h = tt
+      go : (e : Option ℕ) → ClosePlaced s q e → EntryPlaced s i (after_end e (λ z. Some (Item (entry_to a v z))) None)
+      go (Some z) k = record { inside = w.inside; ends = h.ends; behind = omega (arith, w.after, w.some, h.behind, k.0); next = k.1 }
+      go None k = tt
+  entry_valued_law a w None h = tt
 
-  entry_named_law : (p : ℕ) → i ≤ p → (r : ItemAt) → Placed s p r → EntryPlaced s i (entry_named d s r)
+  entry_named_law : (p : ℕ) → i ≤ p → (r : Option Part) → Placed s p r → EntryPlaced s i (entry_named d s r)
   unfolding entry_named
-  entry_named_law p l (piece.At a) w =
+  entry_named_law p l (Some a) w =
       entry_valued_law a (record { after = omega (arith, w.after); some = w.some; inside = w.inside; short = w.short }) (value_next d false s (behind a))
       (value_placed s (behind a) d)
-  entry_named_law p l piece.None w = tt
+  entry_named_law p l None w = tt
 
   entry_placed : EntryPlaced s i (entry_next d s i)
   unfolding entry_next entry_after
   entry_placed = go (open_next s i) (open_placed s i)
     where
-      go : (n : Next) → Follows s i n → EntryPlaced s i (entry_after d s n)
-      go (next.Item p) h = entry_named_law p h (name_places (name_next d true s p)) (name_placed d true s p)
-      go (next.Close e) h = tt
-      go next.None h = tt
+      go : (n : Option (Next ℕ)) → Follows s i n → EntryPlaced s i (entry_after d s n)
+      go (Some (Item p)) h = entry_named_law p h (item_place (name_next d true s p)) (name_placed d true s p)
+      go (Some (Close e)) h = tt
+      go None h = tt
 
 -- what the readers give stands there
-pub told_word : {d : ℕ} {free : Bool} {s : Bytes} {i : ℕ} {r : ItemAt} → r ≡ word_next d free s i → NextWord d free s i r
+pub told_word : {d : ℕ} {free : Bool} {s : Bytes} {i : ℕ} {r : Option Part} → r ≡ word_next d free s i → NextWord d free s i r
 told_word {d} {free} {s} {i} e = record { is = e; placed = subst (Placed s i) (sym e) (word_placed d free s i) }
 
-pub told_name : {d : ℕ} {s : Bytes} {i : ℕ} {r : ItemAt} → r ≡ name_places (name_next d false s i) → NextName d s i r
+pub told_name : {d : ℕ} {s : Bytes} {i : ℕ} {r : Option Part} → r ≡ item_place (name_next d false s i) → NextName d s i r
 told_name {d} {s} {i} e = record { is = e; placed = subst (Placed s i) (sym e) (name_placed d false s i) }
 
-pub told_quoted : {d : ℕ} {s : Bytes} {i : ℕ} {r : ItemAt} → r ≡ quoted_next d false s i → NextQuoted d s i r
+pub told_quoted : {d : ℕ} {s : Bytes} {i : ℕ} {r : Option Part} → r ≡ quoted_next d false s i → NextQuoted d s i r
 told_quoted {d} {s} {i} e = record { is = e; placed = subst (QuotedPlaced s) (sym e) (quoted_placed d false s i) }
 
-pub told_entry : {d : ℕ} {s : Bytes} {i : ℕ} {r : EntryRead} → r ≡ entry_next d s i → NextEntry d s i r
+pub told_entry : {d : ℕ} {s : Bytes} {i : ℕ} {r : Option (Next EntryParts)} → r ≡ entry_next d s i → NextEntry d s i r
 told_entry {d} {s} {i} e = record { is = e; placed = subst (EntryPlaced s i) (sym e) (entry_placed d s i) }

@@ -1,15 +1,14 @@
 -- Where a word, a name, a policy text or an entry that follows stands: inside the text, behind the place it is read from; a word has at most 24 bytes.
-use Rattle.std.specs.Prelude.{ℕ, ◌+◌, ◌≤◌, ◌<◌, ◌≡◌, Bool, false, length}
+use Rattle.std.specs.Prelude.{ℕ, ◌+◌, ◌≤◌, ◌<◌, ◌≡◌, Bool, false, length, Option, Some, None}
 use Rattle.model.specs.Bytes.{Bytes}
 use Rattle.model.specs.declared.Part.{Part}
 use Rattle.model.specs.declared.Value.{Value}
 use Rattle.model.specs.declared.Value.TheVariants.{Number, Text, Truth}
 use Rattle.text.specs.Parts.{HasPart}
-use Rattle.item_forms.specs.declared.ItemAt.{ItemAt}
-use Rattle.item_forms.specs.declared.ItemAt.TheVariants.{At, None}
-use Rattle.item_forms.specs.declared.EntryRead.{EntryRead}
-use Rattle.item_forms.specs.declared.EntryRead.TheVariants as entry
-use Rattle.item_forms.specs.Pieces.{behind, word_next, quoted_next, name_next, name_places}
+use Rattle.items.specs.declared.Next.{Next}
+use Rattle.items.specs.declared.Next.TheVariants.{Item, Close}
+use Rattle.item_forms.specs.declared.EntryParts.{EntryParts}
+use Rattle.item_forms.specs.Pieces.{behind, word_next, quoted_next, name_next, item_place}
 use Rattle.item_forms.specs.Forms.{entry_next}
 
 -- a word, behind the place i
@@ -20,27 +19,27 @@ pub record WordPlaces (s : Bytes) (i : ℕ) (w : Part) : Type 0 where
   pub short : w.length ≤ 24
 
 -- the same of a piece that was read, if one was
-abbrev pub Placed : Bytes → ℕ → ItemAt → Type 0
-Placed s i (At w) = WordPlaces s i w
+abbrev pub Placed : Bytes → ℕ → Option Part → Type 0
+Placed s i (Some w) = WordPlaces s i w
 Placed s i None = Unit {0}
 
 -- the word that follows, and where it stands
-pub record NextWord (d : ℕ) (free : Bool) (s : Bytes) (i : ℕ) (r : ItemAt) : Type 0 where
+pub record NextWord (d : ℕ) (free : Bool) (s : Bytes) (i : ℕ) (r : Option Part) : Type 0 where
   pub is : r ≡ word_next d free s i
   pub placed : Placed s i r
 
 -- the name that follows behind a word, and where it stands
-pub record NextName (d : ℕ) (s : Bytes) (i : ℕ) (r : ItemAt) : Type 0 where
-  pub is : r ≡ name_places (name_next d false s i)
+pub record NextName (d : ℕ) (s : Bytes) (i : ℕ) (r : Option Part) : Type 0 where
+  pub is : r ≡ item_place (name_next d false s i)
   pub placed : Placed s i r
 
 -- what stands between the quotes of a policy text that was read ends before the text does
-abbrev pub QuotedPlaced : Bytes → ItemAt → Type 0
-QuotedPlaced s (At w) = behind w < length s
+abbrev pub QuotedPlaced : Bytes → Option Part → Type 0
+QuotedPlaced s (Some w) = behind w < length s
 QuotedPlaced s None = Unit {0}
 
 -- the policy text that follows behind a word, and where it stands
-pub record NextQuoted (d : ℕ) (s : Bytes) (i : ℕ) (r : ItemAt) : Type 0 where
+pub record NextQuoted (d : ℕ) (s : Bytes) (i : ℕ) (r : Option Part) : Type 0 where
   pub is : r ≡ quoted_next d false s i
   pub placed : QuotedPlaced s r
 
@@ -58,12 +57,12 @@ pub record EntryPlaces (s : Bytes) (i : ℕ) (w : Part) (v : Value) (q : ℕ) : 
   pub next : q ≤ length s
 
 -- the same of an entry that was read, if one was
-abbrev pub EntryPlaced : Bytes → ℕ → EntryRead → Type 0
-EntryPlaced s i (entry.Entry w v q) = EntryPlaces s i w v q
-EntryPlaced s i (entry.Close e) = Unit {0}
-EntryPlaced s i entry.None = Unit {0}
+abbrev pub EntryPlaced : Bytes → ℕ → Option (Next EntryParts) → Type 0
+EntryPlaced s i (Some (Item x)) = EntryPlaces s i x.name x.value x.next
+EntryPlaced s i (Some (Close e)) = Unit {0}
+EntryPlaced s i None = Unit {0}
 
 -- the entry that follows, and where it stands
-pub record NextEntry (d : ℕ) (s : Bytes) (i : ℕ) (r : EntryRead) : Type 0 where
+pub record NextEntry (d : ℕ) (s : Bytes) (i : ℕ) (r : Option (Next EntryParts)) : Type 0 where
   pub is : r ≡ entry_next d s i
   pub placed : EntryPlaced s i r

@@ -11,7 +11,7 @@ pub mod places;
 
 use items::{Next, read};
 use model::{Part, Value};
-use text::{End, bytes, parts, words};
+use text::{bytes, parts, words};
 
 // Where a form stands among the lists of a text: in each list of it `inner` lists may still be opened, and behind it `closes` lists close.
 #[derive(Clone, Copy)]
@@ -20,50 +20,20 @@ pub struct Form {
     pub closes: usize,
 }
 
-// Where a word, a name or a policy text stands; or that none can be read there.
+// (ATTR VALUE): where the name stands, the value, and the place behind.
 #[derive(Clone, Copy)]
-pub enum ItemAt {
-    At(Part),
-    None,
+pub struct EntryParts {
+    pub name: Part,
+    pub value: Value,
+    pub next: usize,
 }
 
-// Where a name stands, the closing bracket with the place behind it, or neither.
+// (id ACTOR NODE): where the two names stand, and the place behind.
 #[derive(Clone, Copy)]
-pub enum NameItem {
-    Name(Part),
-    Close(usize),
-    None,
-}
-
-// A value and the place behind it; or that none can be read there.
-#[derive(Clone, Copy)]
-pub enum ValueItem {
-    Value(Value, usize),
-    None,
-}
-
-// (ATTR VALUE): where the name stands, the value, and the place behind; the closing bracket of the form; or neither.
-#[derive(Clone, Copy)]
-pub enum EntryRead {
-    Entry {
-        name: Part,
-        value: Value,
-        next: usize,
-    },
-    Close(usize),
-    None,
-}
-
-// (id ACTOR NODE): where the two names stand, and the place behind; the closing bracket of the form; or neither.
-#[derive(Clone, Copy)]
-pub enum ClaimRead {
-    Claim {
-        actor: Part,
-        node: Part,
-        next: usize,
-    },
-    Close(usize),
-    None,
+pub struct ClaimParts {
+    pub actor: Part,
+    pub node: Part,
+    pub next: usize,
 }
 
 // "lists nest to depth 4": in the one list of a line three may still be opened, in a list of it two.
@@ -75,14 +45,14 @@ pub const LIST_DEPTH: usize = 2;
 pub const LINE_CLOSES: usize = 0;
 
 // Where the items of a form begin that opens next, spaces aside.
-pub fn open_form(s: &[u8], from: usize) -> End
+pub fn open_form(s: &[u8], from: usize) -> Option<usize>
     ensures { result ≡ form_opens s.now from }
 {
     let p = words::spaces_end(s, from);
     if bytes::peek(s, p) == bytes::OPENING_BRACKET {
-        return End::At(p + 1);
+        return Some(p + 1);
     }
-    End::None
+    None
 }
 
 // Whether from a place on so many lists close, and nothing else but spaces stands there.
@@ -90,13 +60,11 @@ pub fn form_ends(s: &[u8], from: usize, closes: usize) -> bool
     ensures { result ≡ ends_after closes s.now from }
 {
     let mut at = from;
-    let mut left = closes;
-    while 0 < left {
-        let End::At(e) = pieces::close_list(s, at) else {
+    for _ in 0..closes {
+        let Some(e) = pieces::close_list(s, at) else {
             return false;
         };
         at = e;
-        left -= 1;
     }
     s.len() <= words::spaces_end(s, at)
 }
@@ -105,72 +73,55 @@ pub fn form_ends(s: &[u8], from: usize, closes: usize) -> bool
 pub fn form_closes(s: &[u8], from: usize, closes: usize) -> bool
     ensures { result ≡ form_closes closes s.now from }
 {
-    let End::At(e) = pieces::close_list(s, from) else {
+    let Some(e) = pieces::close_list(s, from) else {
         return false;
     };
     form_ends(s, e, closes)
 }
 
 // The next (ATTR VALUE) of a form, which ends where the list reader says, or the form's closing bracket; in an entry `depth` lists may still be opened.
-pub fn entry(s: &[u8], from: usize, depth: usize) -> EntryRead
+pub fn entry(s: &[u8], from: usize, depth: usize) -> Option<Next<EntryParts>>
     ensures { NextEntry depth s.now from result }
 {
-    match pieces::open_list(s, from) {
+    match pieces::open_list(s, from)? {
         Next::Item(i) => {
-            let End::At(next) = read::list(s, i, true, depth) else {
-                return EntryRead::None;
-            };
-            let ItemAt::At(name) = pieces::name_places(pieces::next_name(s, i, true, depth)) else {
-                return EntryRead::None;
-            };
-            let end = name.start + name.length;
-            let ValueItem::Value(value, q) = pieces::next_value(s, end, false, depth) else {
-                return EntryRead::None;
-            };
+            let next = read::list(s, i, true, depth)?;
+            let name = pieces::next_name(s, i, true, depth)?.item()?;
+            let (value, q) = pieces::next_value(s, name.start + name.length, false, depth)?;
             if pieces::only_closes(s, q, next) {
-                return EntryRead::Entry { name, value, next };
+                return Some(Next::Item(EntryParts { name, value, next }));
             }
-            EntryRead::None
+            None
         }
-        Next::Close(e) => EntryRead::Close(e),
-        Next::None => EntryRead::None,
+        Next::Close(e) => Some(Next::Close(e)),
     }
 }
 
 // The two names of an (id ACTOR NODE) behind its first word, up to where the list ends.
-pub fn claim_rest(s: &[u8], from: usize, depth: usize) -> ClaimRead
+pub fn claim_rest(s: &[u8], from: usize, depth: usize) -> Option<ClaimParts>
     ensures { result ≡ claim_rest depth s.now from }
 {
-    let End::At(next) = read::list(s, from, false, depth) else {
-        return ClaimRead::None;
-    };
-    let ItemAt::At(actor) = places::next_name(s, from, depth) else {
-        return ClaimRead::None;
-    };
-    let ItemAt::At(node) = places::next_name(s, actor.start + actor.length, depth) else {
-        return ClaimRead::None;
-    };
+    let next = read::list(s, from, false, depth)?;
+    let actor = places::next_name(s, from, depth)?;
+    let node = places::next_name(s, actor.start + actor.length, depth)?;
     if pieces::only_closes(s, node.start + node.length, next) {
-        return ClaimRead::Claim { actor, node, next };
+        return Some(ClaimParts { actor, node, next });
     }
-    ClaimRead::None
+    None
 }
 
 // The next (id ACTOR NODE) of a form, or its closing bracket; in it `depth` lists may still be opened.
-pub fn claim(s: &[u8], from: usize, depth: usize) -> ClaimRead
+pub fn claim(s: &[u8], from: usize, depth: usize) -> Option<Next<ClaimParts>>
     ensures { result ≡ claim_next depth s.now from }
 {
-    match pieces::open_list(s, from) {
+    match pieces::open_list(s, from)? {
         Next::Item(i) => {
-            let ItemAt::At(word) = places::next_word(s, i, true, depth) else {
-                return ClaimRead::None;
-            };
+            let word = places::next_word(s, i, true, depth)?;
             if compare::same_bytes(parts::part_of(s, word), b"id") {
-                return claim_rest(s, word.start + word.length, depth);
+                return claim_rest(s, word.start + word.length, depth).map(Next::Item);
             }
-            ClaimRead::None
+            None
         }
-        Next::Close(e) => ClaimRead::Close(e),
-        Next::None => ClaimRead::None,
+        Next::Close(e) => Some(Next::Close(e)),
     }
 }

@@ -8,17 +8,16 @@ use native.Mathlib.Omega.{arith}
 use lib.ListN.{length, drop}
 use lib.Dec.{ltb, eqb}
 use borrow.Author.Tests.{eq-eqb, ne_eqb, lt-ltb, le-ltb, eqb-true, eqb-false}
+use Rattle.std.specs.Prelude.{Option, Some, None}
 use Rattle.logic.specs.Flags.{or_false}
 use Rattle.model.specs.Bytes.{Bytes}
 use Rattle.model.specs.Choice.{pick, Maybe, nothing, just, and_then}
 use Rattle.model.specs.Words.{Got}
 use Rattle.model.specs.Items.{Item, Items, is_list, opens, plain_at, list_at, item_at}
-use Rattle.text.specs.declared.End.{End}
-use Rattle.text.specs.declared.End.TheVariants as end
 use Rattle.text.specs.Places.{peek_at, past, is_space, end_of}
 use Rattle.text.proofs.PlaceLaws.{below_or_not, drop_end, test_in, peek_in, past_on, past_step, past_stop, past_test}
 use Rattle.items.specs.declared.Next.{Next}
-use Rattle.items.specs.declared.Next.TheVariants.{Item as ItemAt, Close, None}
+use Rattle.items.specs.declared.Next.TheVariants.{Item as ItemAt, Close}
 use Rattle.items.specs.Reads.{next_at}
 use Rattle.items.specs.Rest.{rest_at, on_next, on_item}
 use Rattle.items.proofs.SizeLaws.{size_or, kind_or, item_size, item_kind}
@@ -27,16 +26,16 @@ use Rattle.items.proofs.ReadLaws.{opens_at}
 
 -- what the tests of `next` say; p is the place behind the spaces
 module _ (free : Bool) (s : Bytes) (i p : ℕ) (e : p ≡ past is_space s i) where
-  pub next_close : peek_at s p ≡ 41 → Close (p + 1) ≡ next_at free s i
+  pub next_close : peek_at s p ≡ 41 → Some (Close (p + 1)) ≡ next_at free s i
   unfolding next_at
   next_close h = rw (← e, eq-eqb (peek_at s p) 41 h)
 
   module _ (n : peek_at s p ≡ 41 → ⊥) where
-    pub next_gap : i < p → ItemAt p ≡ next_at free s i
+    pub next_gap : i < p → Some (ItemAt p) ≡ next_at free s i
     unfolding next_at
     next_gap h = rw (← e, ne_eqb (peek_at s p) 41 n, lt-ltb i p h)
 
-    pub next_item : p ≤ i → (free || eqb (peek_at s p) 40) ≡ true → ItemAt p ≡ next_at free s i
+    pub next_item : p ≤ i → (free || eqb (peek_at s p) 40) ≡ true → Some (ItemAt p) ≡ next_at free s i
     unfolding next_at
     next_item h f = rw (← e, ne_eqb (peek_at s p) 41 n, le-ltb i p h, f)
 
@@ -78,7 +77,7 @@ module _ {B : Type 0} (d : ℕ) (s : Bytes) (f : ℕ → List Item → Maybe B) 
       space h = eqb-false (peek_at s p) 32 (past_test is_space s i refl) h
 
       go : (free x y z : Bool) → eqb (peek_at s p) 41 ≡ x → ltb i p ≡ y → eqb (peek_at s p) 40 ≡ z
-          → rest_at d (free || y) p s f ≡ on_next (pick x (Close (p + 1)) (pick y (ItemAt p) (pick (free || z) (ItemAt p) None))) (λ p. rest_at d true p s f)
+          → rest_at d (free || y) p s f ≡ on_next (pick x (Some (Close (p + 1))) (pick y (Some (ItemAt p)) (pick (free || z) (Some (ItemAt p)) None))) (λ p. rest_at d true p s f)
           (λ q. f q [])
       go free true y z a b c = rest_close d (free || y) s p f (peek_in s p (omega (arith, eqb-true (peek_at s p) 41 a))) (eqb-true (peek_at s p) 41 a)
       go true false true z a b c = refl
@@ -89,17 +88,17 @@ module _ {B : Type 0} (d : ℕ) (s : Bytes) (f : ℕ → List Item → Maybe B) 
           ⊎_elim (λ l. rest_stuck d false s p f l space (eqb-false (peek_at s p) 41 a) c) (λ g. rest_end d false s p f g) (below_or_not p (length s))
 
   module _ (free : Bool) (i : ℕ) where
-    pub item_follows : (p : ℕ) → ItemAt p ≡ next_at free s i → rest_at d free i s f ≡ rest_at d true p s f
+    pub item_follows : (p : ℕ) → Some (ItemAt p) ≡ next_at free s i → rest_at d free i s f ≡ rest_at d true p s f
     unfolding on_next
-    item_follows p e = rest_next free i ∙ ap (λ (n : Next). on_next n (λ p. rest_at d true p s f) (λ q. f q [])) (sym e)
+    item_follows p e = rest_next free i ∙ ap (λ (n : Option (Next ℕ)). on_next n (λ p. rest_at d true p s f) (λ q. f q [])) (sym e)
 
-    pub close_follows : (q : ℕ) → Close q ≡ next_at free s i → rest_at d free i s f ≡ f q []
+    pub close_follows : (q : ℕ) → Some (Close q) ≡ next_at free s i → rest_at d free i s f ≡ f q []
     unfolding on_next
-    close_follows q e = rest_next free i ∙ ap (λ (n : Next). on_next n (λ p. rest_at d true p s f) (λ q. f q [])) (sym e)
+    close_follows q e = rest_next free i ∙ ap (λ (n : Option (Next ℕ)). on_next n (λ p. rest_at d true p s f) (λ q. f q [])) (sym e)
 
     pub none_follows : None ≡ next_at free s i → rest_at d free i s f ≡ nothing
     unfolding on_next
-    none_follows e = rest_next free i ∙ ap (λ (n : Next). on_next n (λ p. rest_at d true p s f) (λ q. f q [])) (sym e)
+    none_follows e = rest_next free i ∙ ap (λ (n : Option (Next ℕ)). on_next n (λ p. rest_at d true p s f) (λ q. f q [])) (sym e)
 
 -- an item that follows
 pub record Begins (s : Bytes) (i p : ℕ) : Type 0 where
@@ -107,7 +106,7 @@ pub record Begins (s : Bytes) (i p : ℕ) : Type 0 where
   pub no_space : peek_at s p ≡ 32 → ⊥
   pub no_close : peek_at s p ≡ 41 → ⊥
 
-pub begins : (free : Bool) (s : Bytes) (i p : ℕ) → ItemAt p ≡ next_at free s i → Begins s i p
+pub begins : (free : Bool) (s : Bytes) (i p : ℕ) → Some (ItemAt p) ≡ next_at free s i → Begins s i p
 unfolding next_at is_space
 begins free s i p e = go (eqb (peek_at s q) 41) (ltb i q) (free || eqb (peek_at s q) 40) refl e
   where
@@ -122,7 +121,7 @@ begins free s i p e = go (eqb (peek_at s q) 41) (ltb i q) (free || eqb (peek_at 
           no_close = λ k. eqb-false (peek_at s q) 41 a (ap (peek_at s) (sym h) ∙ k);
         }
 
-    go : (x y z : Bool) → eqb (peek_at s q) 41 ≡ x → ItemAt p ≡ pick x (Close (q + 1)) (pick y (ItemAt q) (pick z (ItemAt q) None)) → Begins s i p
+    go : (x y z : Bool) → eqb (peek_at s q) 41 ≡ x → Some (ItemAt p) ≡ pick x (Some (Close (q + 1))) (pick y (Some (ItemAt q)) (pick z (Some (ItemAt q)) None)) → Begins s i p
     go true y z a e = let w : ◌≡◌ {A = ℕ} 0 1 = cc in absurd (omega arith)
     go false true z a e = at a (cc)
     go false false true a e = at a (cc)
@@ -146,9 +145,9 @@ module _ {B : Type 0} (d : ℕ) (s : Bytes) (i p : ℕ) (f : ℕ → List Item �
           (λ h. let z : ◌≡◌ {A = ℕ} 0 1 = cc (ap (item_at d) (drop_end s p h), item_nil d) in absurd (omega arith)) (below_or_not p (length s))
 
 -- the list reader: only the end is wanted
-unfoldable pub to_end : Maybe ℕ → End
-to_end nothing = end.None
-to_end (just q) = end.At q
+unfoldable pub to_end : Maybe ℕ → Option ℕ
+to_end nothing = None
+to_end (just q) = Some q
 
 abbrev pub ends : ℕ → List Item → Maybe ℕ
 ends e is = just e
@@ -162,20 +161,20 @@ list_end_law d free s i = go (list_at (item_at d) free 0 (drop i s))
     go (just g) = refl
 
 module _ (d : ℕ) (s : Bytes) (i p : ℕ) (b : Begins s i p) where
-  pub ends_none : end.None ≡ end_of p (item_at d (drop p s)) → rest_at d true p s ends ≡ nothing
+  pub ends_none : None ≡ end_of p (item_at d (drop p s)) → rest_at d true p s ends ≡ nothing
   unfolding end_of on_item
   ends_none e = rest_at_law d s i p ends b ∙ go (item_at d (drop p s)) e
     where
-      go : (o : Maybe (Got Item)) → end.None ≡ end_of p o → on_item p o (λ x q. rest_at d (is_list x) q s ends) ≡ nothing
+      go : (o : Maybe (Got Item)) → None ≡ end_of p o → on_item p o (λ x q. rest_at d (is_list x) q s ends) ≡ nothing
       go nothing e = refl
       go (just g) e = let z : ◌≡◌ {A = ℕ} 0 1 = cc in absurd (omega arith)
 
-  pub ends_at : (q : ℕ) → end.At q ≡ end_of p (item_at d (drop p s)) → (p < q) × (rest_at d true p s ends ≡ rest_at d (eqb (peek_at s p) 40) q s ends)
+  pub ends_at : (q : ℕ) → Some q ≡ end_of p (item_at d (drop p s)) → (p < q) × (rest_at d true p s ends ≡ rest_at d (eqb (peek_at s p) 40) q s ends)
   unfolding end_of on_item size_or kind_or
   ends_at q e = let r = go (item_at d (drop p s)) (item_size d (drop p s)) (rw (opens_at s p) at (item_kind d (drop p s))) e in
       (r.0, rest_at_law d s i p ends b ∙ r.1)
     where
-      go : (o : Maybe (Got Item)) → 0 < size_or o → kind_or (eqb (peek_at s p) 40) o ≡ eqb (peek_at s p) 40 → end.At q ≡ end_of p o
+      go : (o : Maybe (Got Item)) → 0 < size_or o → kind_or (eqb (peek_at s p) 40) o ≡ eqb (peek_at s p) 40 → Some q ≡ end_of p o
           → (p < q) × (on_item p o (λ x q. rest_at d (is_list x) q s ends) ≡ rest_at d (eqb (peek_at s p) 40) q s ends)
       go nothing z k e = let w : ◌≡◌ {A = ℕ} 0 1 = cc in (absurd (omega arith), cc)
       go (just g) z k e = let r : q ≡ p + g.size = cc in (omega arith, rw (k, r))

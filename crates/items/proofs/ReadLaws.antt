@@ -8,22 +8,28 @@ use lib.ListN.{length, drop, length-drop}
 use lib.Seq.{drop-drop}
 use lib.Dec.{eqb}
 use borrow.Author.Tests.{eq-eqb, ne_eqb, eqb-true, eqb-false}
+use Rattle.std.specs.Prelude.{Option, Some, None, option_map, MatchOption, IsSomeAnd}
 use Rattle.model.specs.Bytes.{Bytes}
 use Rattle.model.specs.Choice.{Maybe, nothing, just}
 use Rattle.model.specs.Words.{Got, is_letter, is_digit, between, word_at, whole_at, text_at, quoted_at, read_as}
 use Rattle.model.specs.Items.{Item, word, whole, text, quoted, list, Items, plain_at, as_list, opens, list_at, item_at}
 use Rattle.model.specs.Answers.{part_of}
-use Rattle.text.specs.declared.End.TheVariants as end
 use Rattle.text.specs.Places.{peek_at, end_of, number_of, word_to, text_to, whole_to}
 use Rattle.text.proofs.PlaceLaws.{below_or_not, drop_peek, drop_end, peek_end}
 use Rattle.text.proofs.WordLaws.{word_read}
 use Rattle.text.proofs.NumberLaws.{whole_read}
 use Rattle.text.proofs.QuoteLaws.{text_read, quoted_read}
-use Rattle.items.specs.declared.ItemRead.{ItemRead}
-use Rattle.items.specs.declared.ItemRead.TheVariants.{Word, Text, Quoted, List, None}
-use Rattle.items.specs.Reads.{on_end, on_number, end_read, kind_at, read_of, items_or, inside_at, item_to}
+use Rattle.items.specs.declared.ItemEnd.{ItemEnd}
+use Rattle.items.specs.declared.ItemEnd.TheVariants.{Word, Number, Text, Quoted, List}
+use Rattle.items.specs.Reads.{end_in, end_read, kind_at, read_of, items_or, inside_at, item_to}
 use Rattle.items.proofs.FitLaws.{size_or_zero, item_fits}
 use Rattle.items.proofs.SizeLaws.{size_or, item_size, text_room, quoted_room, word_room}
+
+-- what `map` says of a function that only wraps
+pub mapped : {A B : Type 0} (f : A → B) (o : Option A) (r : Option B) → MatchOption o (r ≡ None) (λ x. IsSomeAnd r (λ y. y ≡ f x)) → r ≡ option_map f o
+mapped f None r h = h
+mapped f (Some x) (Some y) h = ap Some h
+mapped f (Some x) None h = absurd h
 
 -- the end of an item is the end that its kind tells
 pub end_read_law : (at : ℕ) (o : Maybe (Got Item)) → end_read (read_of at o) ≡ end_of at o
@@ -31,7 +37,7 @@ unfolding read_of end_of kind_at
 end_read_law at nothing = refl
 end_read_law at (just g) = go g.got
   where
-    go : (x : Item) → end_read (kind_at x (at + g.size)) ≡ end.At (at + g.size)
+    go : (x : Item) → Some (end_in (kind_at x (at + g.size))) ≡ Some (at + g.size)
     go (word w) = refl
     go (whole w) = refl
     go (text w) = refl
@@ -39,13 +45,13 @@ end_read_law at (just g) = go g.got
     go (list w) = refl
 
 -- an item of one kind
-read_bytes : (at : ℕ) (f : Bytes → Item) (kind : ℕ → ItemRead) (o : Maybe (Got Bytes)) → ((w : Bytes) (q : ℕ) → kind_at (f w) q ≡ kind q)
-    → on_end kind (end_of at o) ≡ read_of at (read_as f o)
+read_bytes : (at : ℕ) (f : Bytes → Item) (kind : ℕ → ItemEnd) (o : Maybe (Got Bytes)) → ((w : Bytes) (q : ℕ) → kind_at (f w) q ≡ kind q)
+    → option_map kind (end_of at o) ≡ read_of at (read_as f o)
 unfolding end_of read_of read_as
 read_bytes at f kind nothing h = refl
-read_bytes at f kind (just g) h = sym (h g.got (at + g.size))
+read_bytes at f kind (just g) h = ap Some (sym (h g.got (at + g.size)))
 
-read_number : (at : ℕ) (o : Maybe (Got ℕ)) → on_number (number_of at o) ≡ read_of at (read_as whole o)
+read_number : (at : ℕ) (o : Maybe (Got ℕ)) → option_map (λ (r : ℕ × ℕ). Number r.0 r.1) (number_of at o) ≡ read_of at (read_as whole o)
 unfolding number_of read_of read_as kind_at
 read_number at nothing = refl
 read_number at (just g) = refl
@@ -79,20 +85,20 @@ module _ (s : Bytes) (at : ℕ) where
           (below_or_not at (length s))
 
   -- what the tests of `plain` say
-  pub read_word : is_letter (peek_at s at) ≡ true → on_end Word (end_of at (word_at (drop at s))) ≡ read_of at (plain_at (drop at s))
+  pub read_word : is_letter (peek_at s at) ≡ true → option_map Word (end_of at (word_at (drop at s))) ≡ read_of at (plain_at (drop at s))
   unfolding kind_at
   read_word h = read_bytes at word Word (word_at (drop at s)) (λ w q. refl) ∙ ap (read_of at) (sym (plain_word h))
 
   module _ (a : is_letter (peek_at s at) ≡ false) where
-    pub read_whole : (is_digit (peek_at s at) || eqb (peek_at s at) 45) ≡ true → on_number (number_of at (whole_at (drop at s))) ≡ read_of at (plain_at (drop at s))
+    pub read_whole : (is_digit (peek_at s at) || eqb (peek_at s at) 45) ≡ true → option_map (λ (r : ℕ × ℕ). Number r.0 r.1) (number_of at (whole_at (drop at s))) ≡ read_of at (plain_at (drop at s))
     read_whole h = read_number at (whole_at (drop at s)) ∙ ap (read_of at) (sym (plain_whole a h))
 
     module _ (n : (is_digit (peek_at s at) || eqb (peek_at s at) 45) ≡ false) where
-      pub read_text : peek_at s at ≡ 39 → on_end Text (end_of at (text_at (drop (at + 1) s))) ≡ read_of at (plain_at (drop at s))
+      pub read_text : peek_at s at ≡ 39 → option_map Text (end_of at (text_at (drop (at + 1) s))) ≡ read_of at (plain_at (drop at s))
       unfolding kind_at
       read_text h = read_bytes at text Text (text_at (drop (at + 1) s)) (λ w q. refl) ∙ ap (read_of at) (sym (plain_text a n h))
 
-      pub read_quoted : peek_at s at ≡ 34 → on_end Quoted (end_of at (quoted_at (drop (at + 1) s))) ≡ read_of at (plain_at (drop at s))
+      pub read_quoted : peek_at s at ≡ 34 → option_map Quoted (end_of at (quoted_at (drop (at + 1) s))) ≡ read_of at (plain_at (drop at s))
       unfolding kind_at
       read_quoted h = read_bytes at quoted Quoted (quoted_at (drop (at + 1) s)) (λ w q. refl) ∙ ap (read_of at) (sym (plain_quoted a n h))
 
@@ -119,10 +125,10 @@ unfolding item_at
 item_deep d s i e h = rw (e, opens_at s i, eq-eqb (peek_at s i) 40 h)
 
 -- what the tests of `item` say
-read_list : (at : ℕ) (o : Maybe (Got Items)) → on_end List (end_of (at + 1) o) ≡ read_of at (as_list o)
+read_list : (at : ℕ) (o : Maybe (Got Items)) → option_map List (end_of (at + 1) o) ≡ read_of at (as_list o)
 unfolding end_of read_of as_list kind_at
 read_list at nothing = refl
-read_list at (just g) = let e : at + 1 + g.size ≡ at + (g.size + 1) = omega arith in ap List e
+read_list at (just g) = let e : at + 1 + g.size ≡ at + (g.size + 1) = omega arith in ap (λ q. Some (List q)) e
 
 module _ (d : ℕ) (s : Bytes) (at : ℕ) where
   pub read_deep : d ≡ 0 → peek_at s at ≡ 40 → None ≡ read_of at (item_at d (drop at s))
@@ -130,7 +136,7 @@ module _ (d : ℕ) (s : Bytes) (at : ℕ) where
   read_deep e h = ap (read_of at) (sym (item_deep d s at e h))
 
   pub read_opened : (c : ℕ) → d ≡ suc c → peek_at s at ≡ 40
-      → on_end List (end_of (at + 1) (list_at (item_at c) true 0 (drop (at + 1) s))) ≡ read_of at (item_at d (drop at s))
+      → option_map List (end_of (at + 1) (list_at (item_at c) true 0 (drop (at + 1) s))) ≡ read_of at (item_at d (drop at s))
   read_opened c e h = read_list at (list_at (item_at c) true 0 (drop (at + 1) s)) ∙ ap (read_of at) (sym (item_opened d c s at e h))
 
   pub read_plain : (peek_at s at ≡ 40 → ⊥) → read_of at (plain_at (drop at s)) ≡ read_of at (item_at d (drop at s))
@@ -200,31 +206,31 @@ pub record Within (s : Bytes) (p q : ℕ) : Type 0 where
   pub after : p < q
   pub inside : q ≤ length s
 
-pub item_within : (d : ℕ) (s : Bytes) (p q : ℕ) → end.At q ≡ end_of p (item_at d (drop p s)) → Within s p q
+pub item_within : (d : ℕ) (s : Bytes) (p q : ℕ) → Some q ≡ end_of p (item_at d (drop p s)) → Within s p q
 unfolding end_of size_or size_or_zero
 item_within d s p q e = go (item_at d (drop p s)) (item_size d (drop p s)) (item_fits d (drop p s)) e
   where
-    go : (o : Maybe (Got Item)) → 0 < size_or o → size_or_zero o ≤ length (drop p s) → end.At q ≡ end_of p o → Within s p q
+    go : (o : Maybe (Got Item)) → 0 < size_or o → size_or_zero o ≤ length (drop p s) → Some q ≡ end_of p o → Within s p q
     go nothing a b e = let z : ◌≡◌ {A = ℕ} 0 1 = cc in absurd (omega arith)
     go (just g) a b e = let r : q ≡ p + g.size = cc in record { after = omega arith; inside = omega (arith, length-drop p s) }
 
-pub read_within : (d : ℕ) (s : Bytes) (p q : ℕ) (r : ItemRead) → r ≡ read_of p (item_at d (drop p s)) → end_read r ≡ end.At q → Within s p q
+pub read_within : (d : ℕ) (s : Bytes) (p q : ℕ) (r : Option ItemEnd) → r ≡ read_of p (item_at d (drop p s)) → end_read r ≡ Some q → Within s p q
 read_within d s p q r e h = item_within d s p q (sym h ∙ ap end_read e ∙ end_read_law p (item_at d (drop p s)))
 
-pub text_within : (d : ℕ) (s : Bytes) (p q : ℕ) → Text q ≡ read_of p (item_at d (drop p s)) → (p + 2 ≤ q) × (q ≤ length s)
+pub text_within : (d : ℕ) (s : Bytes) (p q : ℕ) → Some (Text q) ≡ read_of p (item_at d (drop p s)) → (p + 2 ≤ q) × (q ≤ length s)
 unfolding item_to
 text_within d s p q e =
-    let w : Within s p q = read_within d s p q (Text q) e refl in
+    let w : Within s p q = read_within d s p q (Some (Text q)) e refl in
     let k : 2 ≤ q - p = text_room d (drop p s) (part_of s (p + 1) (q - p - 2)) (q - p) (item_told d s p ∙ ap (item_to d s p) (sym e)) in
     (omega (arith, w.after), w.inside)
 
-pub quoted_within : (d : ℕ) (s : Bytes) (p q : ℕ) → Quoted q ≡ read_of p (item_at d (drop p s)) → (p + 2 ≤ q) × (q ≤ length s)
+pub quoted_within : (d : ℕ) (s : Bytes) (p q : ℕ) → Some (Quoted q) ≡ read_of p (item_at d (drop p s)) → (p + 2 ≤ q) × (q ≤ length s)
 unfolding item_to
 quoted_within d s p q e =
-    let w : Within s p q = read_within d s p q (Quoted q) e refl in
+    let w : Within s p q = read_within d s p q (Some (Quoted q)) e refl in
     let k : 2 ≤ q - p = quoted_room d (drop p s) (part_of s (p + 1) (q - p - 2)) (q - p) (item_told d s p ∙ ap (item_to d s p) (sym e)) in
     (omega (arith, w.after), w.inside)
 
-pub word_small : (d : ℕ) (s : Bytes) (p q : ℕ) → Word q ≡ read_of p (item_at d (drop p s)) → q - p ≤ 24
+pub word_small : (d : ℕ) (s : Bytes) (p q : ℕ) → Some (Word q) ≡ read_of p (item_at d (drop p s)) → q - p ≤ 24
 unfolding item_to
 word_small d s p q e = word_room d (drop p s) (part_of s p (q - p)) (q - p) (item_told d s p ∙ ap (item_to d s p) (sym e))

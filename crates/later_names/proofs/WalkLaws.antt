@@ -1,5 +1,5 @@
 -- A walk along the chain of a slot from a node's own link, which counts the names above that are, case aside, the node's.
-use Prim.Native.Nat.{ℕ, zero, suc, ◌+◌, ◌-◌, ◌≤◌, ◌<◌}
+use Prim.Native.Nat.{ℕ, zero, suc, ◌+◌, ◌≤◌, ◌<◌}
 use mathlib.Core.Path.{◌≡◌, refl, sym, ap, ◌∙◌}
 use mathlib.Core.List.{List}
 use mathlib.Core.Bool.{Bool, true, false}
@@ -7,13 +7,14 @@ use native.Mathlib.Omega.{arith}
 use Rattle.logic.specs.Tests.{either, equal_or_not}
 use Rattle.chains.specs.Chains.{last_of}
 use Rattle.chains.specs.Slots.{slot_of}
-use Rattle.chains.proofs.ChainLaws.{last_here, last_elsewhere, last_at_most, last_has_key}
+use Rattle.chains.specs.Walks.{Falls}
+use Rattle.chains.proofs.ChainLaws.{last_here, last_elsewhere, last_at_most, last_has_key, links_fall}
 use Rattle.model.specs.Bytes.{Bytes}
 use Rattle.model.specs.Names.{Name, same_but_case}
 use Rattle.model.specs.Book.{node_names}
 use Rattle.book_tables.specs.declared.BookCounts.{BookCounts}
 use Rattle.book_tables.specs.declared.NameRule.TheVariants.{AnyCase}
-use Rattle.book_tables.specs.Layout.{node_names as nodes_at, node_links}
+use Rattle.book_tables.specs.Layout.{node_names as nodes_at, node_heads, node_links, keys}
 use Rattle.book_tables.specs.View.{word_at, name_in, name_of, node_slot, book_at}
 use Rattle.book_tables.specs.Fits.{Fits}
 use Rattle.book_tables.proofs.AlikeLaws.{slot_alike}
@@ -66,27 +67,22 @@ module _ (text : Bytes) (words : List ℕ) (c : BookCounts) (f : Fits text words
   walk_first entry e = came node entry 0 (omega arith)
       (e ∙ f.node_chains.nexts node there ∙ ap (λ z. last_of (node_slot text words) (slot_of z) node) (sym its)) (omega arith) (omega arith)
 
-  module _ (entry found : ℕ) (some : 0 < entry) (w : Walk entry found) (t : Bool)
-      (told : t ≡ same_but_case name (name_in text (word_at words (nodes_at + (entry - 1))))) where
-    pub walk_inside : entry - 1 < c.nodes
+  pub falls : Falls words node_links (word_at words (node_links + node))
+  falls = links_fall words node_heads node_links keys (node_slot text words) c.nodes f.node_chains node there (let m = f.within in omega (arith, f.room))
+
+  module _ (n found : ℕ) (w : Walk (suc n) found) (t : Bool) (told : t ≡ same_but_case name (name_in text (word_at words (nodes_at + n)))) where
+    pub walk_inside : n < c.nodes
     walk_inside = let h = w.inside in omega arith
 
-    here_counted : total (λ j. one (is_alike j)) (entry - 1) + one t + found ≡ total (λ j. one (is_alike j)) node
+    here_counted : total (λ j. one (is_alike j)) n + one t + found ≡ total (λ j. one (is_alike j)) node
     unfolding total name_of
-    here_counted = ap (λ z. total (λ j. one (is_alike j)) (entry - 1) + one z + found) told
-        ∙ ap (λ z. total (λ j. one (is_alike j)) z + found) (let e : suc (entry - 1) ≡ entry = omega arith in e) ∙ w.counted
+    here_counted = ap (λ z. total (λ j. one (is_alike j)) n + one z + found) told ∙ w.counted
 
-    pub walk_next : (next more : ℕ) → next ≡ word_at words (node_links + (entry - 1)) → more ≡ found + one t → more ≤ 1 → Walk next more
+    pub walk_next : (next more : ℕ) → next ≡ word_at words (node_links + n) → more ≡ found + one t → more ≤ 1 → Walk next more
     walk_next next more e m few =
         let h = w.inside in
-        came (entry - 1) next more (omega arith)
-        (e ∙ f.node_chains.nexts (entry - 1) walk_inside
-        ∙ ap (λ z. last_of (node_slot text words) z (entry - 1)) (w.here (entry - 1) (omega arith))) few (let q = here_counted in omega arith)
-
-    pub walk_falls : (next : ℕ) → next ≡ word_at words (node_links + (entry - 1)) → next < entry
-    walk_falls next e =
-        let h = last_at_most (node_slot text words) (node_slot text words (entry - 1)) (entry - 1) in
-        let q = e ∙ f.node_chains.nexts (entry - 1) walk_inside in omega arith
+        came n next more (omega arith)
+        (e ∙ f.node_chains.nexts n walk_inside ∙ ap (λ z. last_of (node_slot text words) z n) (w.here n refl)) few (let q = here_counted in omega arith)
 
     pub walk_two : 0 < found → t ≡ true → FoundAbove (node_names (book_at text words c)) node 2
     walk_two l e = found_two (name_of text words nodes_at) c.nodes _ (names_listed text words c) node there

@@ -1,5 +1,5 @@
 -- What is known where new names are asked for, and what is answered.
-use Rattle.std.specs.Prelude.{ℕ, ◌<◌, ◌≡◌, List, [], length, get_or}
+use Rattle.std.specs.Prelude.{ℕ, ◌<◌, ◌≡◌, List, [], length, get_or, Result, Ok, Err}
 use Rattle.model.specs.Bytes.{Bytes, same}
 use Rattle.model.specs.Choice.{nothing, just}
 use Rattle.model.specs.Names.{Name}
@@ -9,8 +9,6 @@ use Rattle.model.specs.Renaming.{later_names, renamed, first_stuck}
 use Rattle.book_tables.specs.declared.BookCounts.{BookCounts}
 use Rattle.book_tables.specs.View.{book_at}
 use Rattle.book_tables.specs.Fits.{Fits}
-use Rattle.later_names.specs.declared.NewNames.{NewNames}
-use Rattle.later_names.specs.declared.NewNames.TheVariants.{Free, Stuck}
 
 -- the words hold the book that the text says by the very names
 pub record ReadExactly (text : Bytes) (words : List ℕ) (c : BookCounts) : Type 0 where
@@ -18,6 +16,6 @@ pub record ReadExactly (text : Bytes) (words : List ℕ) (c : BookCounts) : Type
   pub is : read_book_by same text ≡ accepted (book_at text words c)
 
 -- the first later name that cannot have its new one, by its number; or the length of the text with all new names
-abbrev pub Answered : Bytes → List Name → ℕ → NewNames → Type 0
-Answered s names nodes (Free n) = (first_stuck s names [] (later_names [] names) ≡ nothing) × (n ≡ length (renamed (later_names [] names) s))
-Answered s names nodes (Stuck i) = (i < nodes) × (first_stuck s names [] (later_names [] names) ≡ just (get_or names i []))
+abbrev pub Answered : Bytes → List Name → ℕ → Result ℕ ℕ → Type 0
+Answered s names nodes (Ok n) = (first_stuck s names [] (later_names [] names) ≡ nothing) × (n ≡ length (renamed (later_names [] names) s))
+Answered s names nodes (Err i) = (i < nodes) × (first_stuck s names [] (later_names [] names) ≡ just (get_or names i []))

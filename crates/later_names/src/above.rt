@@ -8,6 +8,7 @@ ghost use Rattle.later_names.specs.Later.{FoundAbove};
 use book_lookup::names::node_name;
 use book_tables::names::is_named;
 use book_tables::{BookCounts, NODE_LINKS, NODE_NAMES, NameRule};
+use chains::walk;
 
 // How many they are, counted to two: with one of them the name is a later one; with two its new name is given above, to the second of them.
 pub fn earlier_alike(text: &[u8], words: &[u32], counts: BookCounts, node: usize) -> usize
@@ -16,16 +17,13 @@ pub fn earlier_alike(text: &[u8], words: &[u32], counts: BookCounts, node: usize
 {
     let name = node_name(text, words, node);
     let mut found: usize = 0;
-    let mut entry = chains::next(words, NODE_LINKS, node);
-    while 0 < entry {
-        let other = entry - 1;
+    for other in walk::behind(words, NODE_LINKS, node) {
         if is_named(text, words, NODE_NAMES + other, NameRule::AnyCase, name) {
             if 0 < found {
                 return 2;
             }
             found = 1;
         }
-        entry = chains::next(words, NODE_LINKS, other);
     }
     found
 }

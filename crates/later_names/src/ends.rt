@@ -13,14 +13,12 @@ pub fn count_ends(words: &[u32], counts: BookCounts) -> [usize; 256]
 {
     let mut ends = [0usize; 256];
     let count = counts.relationships;
-    let mut i = 0;
-    while i < count {
+    for i in 0..count {
         let word = words[RELATIONSHIPS + i] as usize;
         let from = word / FROM_UNIT % FROM_UNIT;
         ends[from] += 1;
         let to = word % FROM_UNIT;
         ends[to] += 1;
-        i += 1;
     }
     ends
 }

@@ -18,13 +18,6 @@ mod above; // above.rt: the names above a node
 mod ends; // ends.rt: how often each node is an end
 mod longer; // longer.rt: a name with `_b`, and whether it is free
 
-// Whether all later names can have their new ones: then the length of the new text; else the first node whose name cannot.
-#[derive(Clone, Copy)]
-pub enum NewNames {
-    Free(usize),
-    Stuck(usize),
-}
-
 // Marks the nodes that have a later name: one that is, case aside, the name of a node above.
 pub fn later_marks(text: &[u8], words: &[u32], counts: BookCounts) -> [bool; 256]
     requires { Fits text.now words.now counts }
@@ -32,35 +25,31 @@ pub fn later_marks(text: &[u8], words: &[u32], counts: BookCounts) -> [bool; 256
 {
     let mut marks = [false; 256];
     let nodes = counts.nodes;
-    let mut node = 0;
-    while node < nodes {
+    for node in 0..nodes {
         marks[node] = 0 < earlier_alike(text, words, counts, node);
-        node += 1;
     }
     marks
 }
 
-// Whether every later name can have its new one: the nodes are asked from the first to the last.
-pub fn new_names(text: &[u8], words: &[u32], counts: BookCounts) -> NewNames
+// The length of the text with all new names, if every later name can have its new one; else the first node whose name cannot.
+pub fn new_names(text: &[u8], words: &[u32], counts: BookCounts) -> Result<usize, usize>
     requires { ReadExactly text.now words.now counts }
     ensures { Answered text.now (node_names (book_at text.now words.now counts)) counts.nodes result }
 {
     let ends = count_ends(words, counts);
     let nodes = counts.nodes;
     let mut size = text.len();
-    let mut node = 0;
-    while node < nodes {
+    for node in 0..nodes {
         let above = earlier_alike(text, words, counts, node);
         if 0 < above {
             let longer = size + SUFFIX_BYTES * (1 + ends[node]);
             if is_stuck(text, words, counts, node, above, longer) {
-                return NewNames::Stuck(node);
+                return Err(node);
             }
             size = longer;
         }
-        node += 1;
     }
-    NewNames::Free(size)
+    Ok(size)
 }
 
 // Whether a later name cannot have its new one: that was given above, is too long or another node's, or makes the text too long.

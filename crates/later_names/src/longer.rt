@@ -35,11 +35,7 @@ fn with_suffix(name: &[u8]) -> [u8; 24]
 {
     let mut longer = [0u8; 24];
     let size = name.len();
-    let mut i = 0;
-    while i < size {
-        longer[i] = name[i];
-        i += 1;
-    }
+    longer[..size].copy_from_slice(name);
     longer[size] = b'_';
     longer[size + 1] = b'b';
     longer

@@ -6,6 +6,7 @@ use mathlib.Core.List.{List, [], ◌∷◌, ◌++◌}
 use native.Mathlib.Nat.{le-mul_of_pos_right}
 use native.Mathlib.Omega.{arith}
 use lib.ListN.{length}
+use Rattle.std.specs.Prelude.{Result, Ok, Err}
 use Rattle.model.specs.Bytes.{Bytes}
 use Rattle.model.specs.Lists.{joined}
 use Rattle.model.specs.Refusal.{Refusal, Outcome, accepted, refused, on_accept}
@@ -16,8 +17,7 @@ use Rattle.model.specs.Service.{with_work, ones, FoundRows, ListAnswer, list_fou
 use Rattle.model.specs.Answers.{refusal_of, list_answer}
 use Rattle.model.specs.Printed.{rows_text, refusal_text, outcome_text, names_of, printed}
 use Rattle.model.specs.declared.Refusal.{Refusal as RefusalData}
-use Rattle.model.specs.declared.RowsListed.{RowsListed}
-use Rattle.model.specs.declared.RowsListed.TheVariants as listed
+use Rattle.model.specs.declared.RowsSize.{RowsSize}
 use Rattle.model.proofs.Outcomes.{never}
 use Rattle.model.specs.Refused.{rows_for}
 use Rattle.model.specs.RowOrder.{Ascending, NoneTwice}
@@ -57,7 +57,7 @@ module _ (book rules query request : Bytes) where
   book_refused r e = sym (rw e)
 
   -- the refusal of a list is printed
-  pub list_refused : (res : RowsListed) (r : RefusalData) → res ≡ listed.Refused r → list_answer res ≡ (list_service 16384 16384 book rules query request).answer
+  pub list_refused : (res : Result RowsSize RefusalData) (r : RefusalData) → res ≡ Err r → list_answer res ≡ (list_service 16384 16384 book rules query request).answer
       → refusal_text (refusal_of r) ≡ printed book rules query request
   unfolding printed list_rows list_service list_answer on_accept outcome_text
   list_refused res r e a = go found (sym (ap list_answer e) ∙ a)
@@ -88,21 +88,21 @@ module _ (book rules query request : Bytes) where
         l.fits,
       )
 
-  pub list_shown : (res : RowsListed) (n w : ℕ) → res ≡ listed.Count n w → list_answer res ≡ (list_service 16384 16384 book rules query request).answer
-      → (after : List ℕ) → after ≡ (list_service 16384 16384 book rules query request).rows → (b : Book) → read_book book ≡ accepted b → Shown b after n w
+  pub list_shown : (res : Result RowsSize RefusalData) (s : RowsSize) → res ≡ Ok s → list_answer res ≡ (list_service 16384 16384 book rules query request).answer
+      → (after : List ℕ) → after ≡ (list_service 16384 16384 book rules query request).rows → (b : Book) → read_book book ≡ accepted b → Shown b after s.rows s.width
   unfolding printed list_rows list_service list_answer on_accept outcome_text row_words names_of
-  list_shown res n w e a after held b read = go found refl (sym (ap list_answer e) ∙ a) held
+  list_shown res s e a after held b read = go found refl (sym (ap list_answer e) ∙ a) held
     where
       go : (o : Outcome FoundRows) → found ≡ o
-          → ◌≡◌ {A = Outcome ListAnswer} (accepted (record { rows = n; width = w }))
+          → ◌≡◌ {A = Outcome ListAnswer} (accepted (record { rows = s.rows; width = s.width }))
           (on_accept o (λ f. accepted (record { rows = length f.rows; width = f.width })))
-          → after ≡ row_words 16384 o → Shown b after n w
+          → after ≡ row_words 16384 o → Shown b after s.rows s.width
       go (accepted f) d a held =
           let (wide, once, fits) = given f d in
-          let told : ◌≡◌ {A = ListAnswer} (record { rows = n; width = w }) (record { rows = length f.rows; width = f.width }) = same_accepted _ _ a in
-          let n_is : n ≡ length f.rows = ap (λ (z : ListAnswer). z.rows) told in
-          let w_is : w ≡ f.width = ap (λ (z : ListAnswer). z.width) told in
-          let rows_are : rows_in w n after ≡ f.rows =
+          let told : ◌≡◌ {A = ListAnswer} (record { rows = s.rows; width = s.width }) (record { rows = length f.rows; width = f.width }) = same_accepted _ _ a in
+          let n_is : s.rows ≡ length f.rows = ap (λ (z : ListAnswer). z.rows) told in
+          let w_is : s.width ≡ f.width = ap (λ (z : ListAnswer). z.width) told in
+          let rows_are : rows_in s.width s.rows after ≡ f.rows =
           ap₂ (λ (x y : ℕ). rows_in x y after) w_is n_is
           ∙ ap (rows_in f.width (length f.rows))
           (held ∙ ap (λ (l : List ℕ). l ++ ones (16384 - length (joined (λ row. row) f.rows))) (joined_flat f.rows))

@@ -57,12 +57,10 @@ fn put_rows(
 {
     let mut next = at;
     let mut from = 0;
-    let mut i = 0;
-    while i < count {
+    for i in 0..count {
         let to = from + width;
         next = put_row(book, words, counts, &rows[from..to], out, next);
         from = to;
-        i += 1;
     }
     next
 }
@@ -121,10 +119,8 @@ fn put_names(
         (names_text (node_names (book_at book.now words.now counts)) row.now (length row.now)) out.new result }
 {
     let mut next = at;
-    let mut i = 0;
-    while i < row.len() {
-        next = put_node(book, words, counts, row[i] as usize, out, next);
-        i += 1;
+    for node in row {
+        next = put_node(book, words, counts, *node as usize, out, next);
     }
     next
 }

@@ -3,12 +3,12 @@ use Prim.Native.Nat.{ℕ}
 use Prim.Native.String.{String}
 use mathlib.Core.Path.{◌≡◌, refl}
 use mathlib.Core.List.{List, [], ◌∷◌, map}
+use Rattle.std.specs.Prelude.{Ok, Err}
 use Rattle.model.specs.Bytes.{bytes_of}
 use Rattle.model.specs.RequestPlaces.{no_identity}
 use Rattle.model.specs.RequestAnswer.{request_read}
 use Rattle.model.specs.Computing.{computing}
 use Rattle.model.specs.declared.Identity.{Identity as IdentityData}
-use Rattle.model.specs.declared.Verdict.TheVariants as verdict
 use Rattle.model.specs.declared.RequestRead.{RequestRead}
 
 -- two nodes
@@ -29,12 +29,12 @@ at start size node = record { actor = record { start = start; length = size }; n
 
 -- accepted
 abbrev gives : ℕ → ℕ → List IdentityData → RequestRead
-gives category count is = record { verdict = verdict.Accepted; category = category; identities = is; count = count }
+gives category count is = record { verdict = Ok tt; category = category; identities = is; count = count }
 
 -- refused
 abbrev refuses : ℕ → ℕ → RequestRead
 refuses number line = record {
-  verdict = verdict.Refused (record { number = number; text = 4; line = line });
+  verdict = Err (record { number = number; text = 4; line = line });
   category = 0;
   identities = no_identity ∷ no_identity ∷ no_identity ∷ no_identity ∷ no_identity ∷ no_identity ∷ no_identity ∷ no_identity ∷ [];
   count = 0;

@@ -3,11 +3,11 @@ use Prim.Native.Nat.{ℕ}
 use Prim.Native.String.{String}
 use mathlib.Core.Path.{◌≡◌, refl}
 use mathlib.Core.List.{[], ◌∷◌}
+use Rattle.std.specs.Prelude.{Ok, Err}
 use Rattle.model.specs.Bytes.{bytes_of}
 use Rattle.model.specs.PlainData.{no_part, no_edge, no_clause, no_pattern}
 use Rattle.model.specs.WholeAnswers.{padded, query_read}
 use Rattle.model.specs.Computing.{computing}
-use Rattle.model.specs.declared.Verdict.TheVariants.{Accepted, Refused}
 use Rattle.model.specs.declared.Relation.{Relation}
 use Rattle.model.specs.declared.Relation.TheVariants.{Equal, Differs, Less}
 use Rattle.model.specs.declared.Value.{Value}
@@ -34,11 +34,11 @@ has v attribute relation value = record { condition = OfVertex v (record { attri
 
 -- an answer that is a pattern
 abbrev gives : Pattern → QueryRead
-gives p = record { verdict = Accepted; pattern = p }
+gives p = record { verdict = Ok tt; pattern = p }
 
 -- an answer that is a refusal
 abbrev refuses : ℕ → ℕ → ℕ → QueryRead
-refuses number text line = record { verdict = Refused (record { number = number; text = text; line = line }); pattern = no_pattern }
+refuses number text line = record { verdict = Err (record { number = number; text = text; line = line }); pattern = no_pattern }
 
 -- the worked example: each name at its first place, 50 kept as 2^63 + 50
 worked_example : query_read 16384 (bytes_of book) (bytes_of query) ≡ gives (record {

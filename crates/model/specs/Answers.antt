@@ -1,5 +1,5 @@
 -- What each case of an answer's data says, in document 01's numbers and values. Promises about answers use these definitions.
-use Rattle.std.specs.Prelude.{ℕ, Bool, true, false, [], map, get_or, take, drop}
+use Rattle.std.specs.Prelude.{ℕ, Bool, [], map, get_or, take, drop, Result, Ok, Err, ⊤}
 use Rattle.model.specs.Bytes.{Bytes}
 use Rattle.model.specs.Names.{Name}
 use Rattle.model.specs.Values.{Value, int, str, bool}
@@ -10,8 +10,6 @@ use Rattle.model.specs.Pattern.{Pattern, Edge, Clause, excluded, vertex_has, edg
 use Rattle.model.specs.Request.{Identity}
 use Rattle.model.specs.Service.{BookAnswer, RulesAnswer, RequestAnswer, ListAnswer}
 use Rattle.model.specs.declared.Refusal.{Refusal as RefusalData}
-use Rattle.model.specs.declared.Verdict.{Verdict}
-use Rattle.model.specs.declared.Verdict.TheVariants as verdict
 use Rattle.model.specs.declared.Relation.{Relation as RelationData}
 use Rattle.model.specs.declared.Relation.TheVariants.{Equal, Differs, Less, AtMost, Greater, AtLeast}
 use Rattle.model.specs.declared.Value.{Value as ValueData}
@@ -22,18 +20,11 @@ use Rattle.model.specs.declared.Condition.{Condition as ConditionData}
 use Rattle.model.specs.declared.Condition.TheVariants.{Excluded, OfVertex, OfEdge}
 use Rattle.model.specs.declared.Pattern.{Pattern as PatternData}
 use Rattle.model.specs.declared.Identity.{Identity as IdentityData}
-use Rattle.model.specs.declared.BookRead.{BookRead}
-use Rattle.model.specs.declared.BookRead.TheVariants as book
-use Rattle.model.specs.declared.RulesRead.{RulesRead}
-use Rattle.model.specs.declared.RulesRead.TheVariants as rules
+use Rattle.model.specs.declared.BookSize.{BookSize}
+use Rattle.model.specs.declared.RulesSize.{RulesSize}
+use Rattle.model.specs.declared.RowsSize.{RowsSize}
 use Rattle.model.specs.declared.QueryRead.{QueryRead}
 use Rattle.model.specs.declared.RequestRead.{RequestRead}
-use Rattle.model.specs.declared.TextWritten.{TextWritten}
-use Rattle.model.specs.declared.TextWritten.TheVariants as written
-use Rattle.model.specs.declared.RowsListed.{RowsListed}
-use Rattle.model.specs.declared.RowsListed.TheVariants as listed
-use Rattle.model.specs.declared.LampShown.{LampShown}
-use Rattle.model.specs.declared.LampShown.TheVariants as lamp
 
 -- a refusal's three numbers
 unfoldable pub refusal_of : RefusalData → Refusal
@@ -44,14 +35,14 @@ unfoldable pub refusal_data : Refusal → RefusalData
 refusal_data r = record { number = r.number; text = r.text; line = r.line }
 
 -- what the book reader answers
-unfoldable pub book_answer : BookRead → Outcome BookAnswer
-book_answer (book.Counts n r e) = accepted (record { nodes = n; rels = r; entries = e })
-book_answer (book.Refused r) = refused (refusal_of r)
+unfoldable pub book_answer : Result BookSize RefusalData → Outcome BookAnswer
+book_answer (Ok b) = accepted (record { nodes = b.nodes; rels = b.relationships; entries = b.entries })
+book_answer (Err r) = refused (refusal_of r)
 
 -- what the rules reader answers
-unfoldable pub rules_answer : RulesRead → Outcome RulesAnswer
-rules_answer (rules.Counts c p) = accepted (record { categories = c; policies = p })
-rules_answer (rules.Refused r) = refused (refusal_of r)
+unfoldable pub rules_answer : Result RulesSize RefusalData → Outcome RulesAnswer
+rules_answer (Ok s) = accepted (record { categories = s.categories; policies = s.policies })
+rules_answer (Err r) = refused (refusal_of r)
 
 -- the part of a text that starts at a place and has a length
 unfoldable pub part_of : Bytes → ℕ → ℕ → Bytes
@@ -96,9 +87,9 @@ pattern_in b text p = record {
 }
 
 -- accepted with a value, or refused
-unfoldable pub verdict_of : {A : Type 0} → Verdict → A → Outcome A
-verdict_of verdict.Accepted a = accepted a
-verdict_of (verdict.Refused r) a = refused (refusal_of r)
+unfoldable pub verdict_of : {A : Type 0} → Result ⊤ RefusalData → A → Outcome A
+verdict_of (Ok u) a = accepted a
+verdict_of (Err r) a = refused (refusal_of r)
 
 -- what the query reader answers about a text, for an accepted book
 unfoldable pub query_answer : Book → Bytes → QueryRead → Outcome Pattern
@@ -113,20 +104,19 @@ unfoldable pub request_answer : Bytes → RequestRead → Outcome RequestAnswer
 request_answer text r = verdict_of r.verdict (record { category = r.category; identities = map (identity_in text) (take r.count r.identities) })
 
 -- what a writer of a text answers
-unfoldable pub writer_answer : TextWritten → Outcome ℕ
-writer_answer (written.Length n) = accepted n
-writer_answer (written.Refused r) = refused (refusal_of r)
+unfoldable pub writer_answer : Result ℕ RefusalData → Outcome ℕ
+writer_answer (Ok n) = accepted n
+writer_answer (Err r) = refused (refusal_of r)
 
 -- what a list answers
-unfoldable pub list_answer : RowsListed → Outcome ListAnswer
-list_answer (listed.Count n w) = accepted (record { rows = n; width = w })
-list_answer (listed.Refused r) = refused (refusal_of r)
+unfoldable pub list_answer : Result RowsSize RefusalData → Outcome ListAnswer
+list_answer (Ok s) = accepted (record { rows = s.rows; width = s.width })
+list_answer (Err r) = refused (refusal_of r)
 
 -- what the lamp answers
-unfoldable pub lamp_answer : LampShown → Outcome Bool
-lamp_answer lamp.Yes = accepted true
-lamp_answer lamp.No = accepted false
-lamp_answer (lamp.Refused r) = refused (refusal_of r)
+unfoldable pub lamp_answer : Result Bool RefusalData → Outcome Bool
+lamp_answer (Ok shown) = accepted shown
+lamp_answer (Err r) = refused (refusal_of r)
 
 -- the book that a text is, or an empty one where it is refused
 unfoldable pub book_of : Outcome Book → Book

@@ -1,5 +1,5 @@
 -- Demand 3 in words: what a call of the list and one of the lamp promise, their premises, the rows that are due, and how they are listed or refused.
-use Rattle.std.specs.Prelude.{ℕ, ◌-◌, ◌*◌, ◌≡◌, ◌↔◌, List, ◌++◌, length, T}
+use Rattle.std.specs.Prelude.{ℕ, ◌-◌, ◌*◌, ◌≡◌, ◌↔◌, List, ◌++◌, length, T, Bool, Result}
 use Rattle.model.specs.Bytes.{Bytes}
 use Rattle.model.specs.Lists.{◌∈◌, joined}
 use Rattle.model.specs.Refusal.{accepted, refused}
@@ -14,17 +14,17 @@ use Rattle.model.specs.RowOrder.{Ascending, NoneTwice}
 use Rattle.model.specs.Service.{ones, list_service, lamp_service}
 use Rattle.model.specs.Refused.{returned, AllRead, woven}
 use Rattle.model.specs.Answers.{list_answer, lamp_answer}
-use Rattle.model.specs.declared.RowsListed.{RowsListed}
-use Rattle.model.specs.declared.LampShown.{LampShown}
+use Rattle.model.specs.declared.Refusal.{Refusal as RefusalData}
+use Rattle.model.specs.declared.RowsSize.{RowsSize}
 
 -- the contract of a call of the list: rows and work are the lent words before it, rows' and work' after it, r its answer
-pub record ListCalled (book rules query request : Bytes) (rows work rows' work' : List ℕ) (r : RowsListed) : Type 0 where
+pub record ListCalled (book rules query request : Bytes) (rows work rows' work' : List ℕ) (r : Result RowsSize RefusalData) : Type 0 where
   pub answer : list_answer r ≡ (list_service (length work) (length rows) book rules query request).answer
   pub rows_left : rows' ≡ (list_service (length work) (length rows) book rules query request).rows
   pub cleared : work' ≡ ones (length work)
 
 -- the contract of a call of the lamp: work is the lent memory before it, work' after it, r its answer
-pub record LampCalled (book rules query request : Bytes) (work work' : List ℕ) (r : LampShown) : Type 0 where
+pub record LampCalled (book rules query request : Bytes) (work work' : List ℕ) (r : Result Bool RefusalData) : Type 0 where
   pub answer : lamp_answer r ≡ (lamp_service (length work) book rules query request).answer
   pub cleared : work' ≡ ones (length work)
 
@@ -57,11 +57,11 @@ abbrev pub words_needed : {work : ℕ} {book rules query request : Bytes} {list 
 words_needed {list = list} due = length list * length due.q.returns
 
 -- the rows stand in the words, one after another, then all ones; the answer is their number and their width
-pub record RowsGiven (list : List (List ℕ)) (width words : ℕ) (rows' : List ℕ) (r : RowsListed) : Type 0 where
+pub record RowsGiven (list : List (List ℕ)) (width words : ℕ) (rows' : List ℕ) (r : Result RowsSize RefusalData) : Type 0 where
   pub number_and_width : list_answer r ≡ accepted (record { rows = length list; width = width })
   pub rows_then_ones : rows' ≡ joined (λ row. row) list ++ ones (words - length (joined (λ row. row) list))
 
 -- 14, and every row word is all ones
-pub record DoNotFit (words : ℕ) (rows' : List ℕ) (r : RowsListed) : Type 0 where
+pub record DoNotFit (words : ℕ) (rows' : List ℕ) (r : Result RowsSize RefusalData) : Type 0 where
   pub fourteen : list_answer r ≡ refused (returned 14 5 0)
   pub all_ones : rows' ≡ ones words

@@ -1,5 +1,5 @@
 -- Whole answers as plain data: every count, every place and every slot of a query's answer, computed from the texts.
-use Rattle.std.specs.Prelude.{ℕ, ◌-◌, List, [], ◌∷◌, ◌++◌, length, drop, replicate}
+use Rattle.std.specs.Prelude.{ℕ, ◌-◌, List, [], ◌∷◌, ◌++◌, length, drop, replicate, Ok, Err}
 use Rattle.model.specs.Bytes.{Bytes}
 use Rattle.model.specs.Names.{place}
 use Rattle.model.specs.Values.{Value, int, str, bool}
@@ -12,7 +12,6 @@ use Rattle.model.specs.Service.{query_service}
 use Rattle.model.specs.Answers.{book_of, refusal_data}
 use Rattle.model.specs.PlainData.{no_part, no_edge, no_clause, no_pattern}
 use Rattle.model.specs.Places.{vertex_parts, edge_parts, value_parts}
-use Rattle.model.specs.declared.Verdict.TheVariants.{Accepted, Refused}
 use Rattle.model.specs.declared.Relation.{Relation as RelationData}
 use Rattle.model.specs.declared.Relation.TheVariants.{Equal, Differs, Less, AtMost, Greater, AtLeast}
 use Rattle.model.specs.declared.Value.{Value as ValueData}
@@ -91,8 +90,8 @@ query_data b s p = record {
 
 -- the whole answer about a query: its pattern as data, or a refusal beside the empty pattern
 unfoldable pub query_outcome : Book → Bytes → Outcome Pattern → QueryRead
-query_outcome b s (accepted p) = record { verdict = Accepted; pattern = query_data b s p }
-query_outcome b s (refused r) = record { verdict = Refused (refusal_data r); pattern = no_pattern }
+query_outcome b s (accepted p) = record { verdict = Ok tt; pattern = query_data b s p }
+query_outcome b s (refused r) = record { verdict = Err (refusal_data r); pattern = no_pattern }
 
 -- what the query reader answers: by so many words of working memory, a book and a query
 unfoldable pub query_read : ℕ → Bytes → Bytes → QueryRead

@@ -16,13 +16,6 @@ pub struct Refusal {
     pub line: u32,
 }
 
-// Accepted, or refused.
-#[derive(Clone, Copy)]
-pub enum Verdict {
-    Accepted,
-    Refused(Refusal),
-}
-
 // The relations = <> < <= > >= in this order.
 #[derive(Clone, Copy)]
 pub enum Relation {
@@ -106,56 +99,44 @@ pub struct Identity {
     pub node: usize,
 }
 
-// What reading a book gives: the counts of nodes, relationships and attribute entries, or a refusal.
+// How large a book is: its counts of nodes, relationships and attribute entries.
 #[derive(Clone, Copy)]
-pub enum BookRead {
-    Counts(usize, usize, usize),
-    Refused(Refusal),
+pub struct BookSize {
+    pub nodes: usize,
+    pub relationships: usize,
+    pub entries: usize,
 }
 
-// What reading rules gives: the counts of categories and policies, or a refusal.
+// How large rules are: their counts of categories and policies.
 #[derive(Clone, Copy)]
-pub enum RulesRead {
-    Counts(usize, usize),
-    Refused(Refusal),
+pub struct RulesSize {
+    pub categories: usize,
+    pub policies: usize,
 }
 
 // What reading a query gives: the whole pattern, or a refusal beside an empty pattern.
+// No Result: the clause `whole` of `service::read_query` says every slot beside a refusal too (`query_outcome` in specs/WholeAnswers.antt).
 #[derive(Clone, Copy)]
 pub struct QueryRead {
-    pub verdict: Verdict,
+    pub verdict: Result<(), Refusal>,
     pub pattern: Pattern,
 }
 
 // What reading a request gives: the category's number and the identities, or a refusal beside none.
+// No Result: the clause `whole` of `service::read_request` says every slot beside a refusal too (`told_request` in specs/RequestAnswer.antt).
 #[derive(Clone, Copy)]
 pub struct RequestRead {
-    pub verdict: Verdict,
+    pub verdict: Result<(), Refusal>,
     pub category: usize,
     pub identities: [Identity; MAX_IDENTITIES],
     pub count: usize,
 }
 
-// What a writer of a text gives: the length in bytes, or a refusal.
+// How large a list is: the number of its rows, and the number of Return names that each row answers.
 #[derive(Clone, Copy)]
-pub enum TextWritten {
-    Length(usize),
-    Refused(Refusal),
-}
-
-// What a list gives: the number of its rows and the number of Return names that each row answers, or a refusal.
-#[derive(Clone, Copy)]
-pub enum RowsListed {
-    Count(usize, usize),
-    Refused(Refusal),
-}
-
-// What the lamp gives: whether the list of the same texts has a row, or a refusal.
-#[derive(Clone, Copy)]
-pub enum LampShown {
-    Yes,
-    No,
-    Refused(Refusal),
+pub struct RowsSize {
+    pub rows: usize,
+    pub width: usize,
 }
 
 // A refusal by its three numbers.

@@ -1,4 +1,5 @@
 // The refusals of document 01 in code: a name for each number of its table, with the table's words, and for each text.
+// Numbers and no enum: the theorems of RefusalTable and the C header speak of refusals and texts by these numbers.
 
 // "The text is too long."
 pub const TOO_LONG: u32 = 1;

@@ -4,13 +4,13 @@ use mathlib.Core.Path.{◌≡◌, refl, sym, ap, ◌∙◌}
 use mathlib.Core.List.{List, [], ◌∷◌, ◌++◌, append_assoc, append-nil}
 use mathlib.Core.Bool.{Bool, true, false, ◌||◌}
 use lib.ListN.{length}
+use Rattle.std.specs.Prelude.{Some, None}
 use Rattle.model.specs.Bytes.{Bytes}
 use Rattle.model.specs.Choice.{pick, just}
 use Rattle.model.specs.Names.{mem, twice}
 use Rattle.model.specs.Answers.{name_at}
 use Rattle.model.specs.declared.Part.{Part}
-use Rattle.item_forms.specs.declared.ItemAt.TheVariants as piece
-use Rattle.item_forms.specs.Pieces.{behind, name_next, name_places}
+use Rattle.item_forms.specs.Pieces.{behind, name_next, item_place}
 use Rattle.names_met.specs.Table.{Names, names_met, Holds}
 use Rattle.book_tables.proofs.MemberLaws.{twice_end}
 use Rattle.name_lists.specs.Names.{NamesRead, names_behind, Left}
@@ -49,12 +49,12 @@ unfolding twice
 met_start s table from n h = record { done = []; held = h; left = λ x e. (x, e, twice_again [] x.names) }
 
 module _ (s : Bytes) (table : List ℕ) (from n i : ℕ) (m : MetBefore s table from n i) where
-  pub met_done : piece.None ≡ name_places (name_next 2 false s i) → (x : NamesRead) → names_behind s from ≡ just x → false ≡ twice x.names
+  pub met_done : None ≡ item_place (name_next 2 false s i) → (x : NamesRead) → names_behind s from ≡ just x → false ≡ twice x.names
   unfolding again
   met_done e = left_done twice (again m.done) s from i m.left e
 
   -- r is what the look-up of the name that follows says
-  module _ (w : Part) (e : piece.At w ≡ name_places (name_next 2 false s i)) (room : n < length table) (r : Bool)
+  module _ (w : Part) (e : Some w ≡ item_place (name_next 2 false s i)) (room : n < length table) (r : Bool)
       (is : r ≡ mem (name_at s w) (names_met s table n)) where
     looked : mem (name_at s w) m.done ≡ r
     looked = sym (is ∙ ap (mem (name_at s w)) (m.held.lists room).are)

@@ -3,42 +3,39 @@ use Prim.Native.Nat.{ℕ}
 use mathlib.Core.Path.{◌≡◌, refl, sym, ap, ◌∙◌}
 use mathlib.Core.List.{List, [], ◌∷◌}
 use mathlib.Core.Bool.{Bool, true, false}
+use Rattle.std.specs.Prelude.{Option, Some, None}
 use Rattle.model.specs.Bytes.{Bytes, same}
 use Rattle.model.specs.Choice.{pick}
 use Rattle.model.specs.Lists.{any}
 use Rattle.model.specs.Names.{mem, twice}
 use Rattle.model.specs.Answers.{name_at}
 use Rattle.model.specs.declared.Part.{Part}
-use Rattle.text.specs.declared.End.{End}
-use Rattle.text.specs.declared.End.TheVariants as end
-use Rattle.item_forms.specs.declared.ItemAt.{ItemAt}
-use Rattle.item_forms.specs.declared.ItemAt.TheVariants as piece
 use Rattle.item_forms.specs.Pieces.{behind, item_place, after_end, word_next, open_next}
 pub use Rattle.item_forms.proofs.PlacedLaws.{placed_at}
 use Rattle.name_lists.specs.Names.{head_piece, headed_at}
 
 -- the head of the list that follows
 module _ (head s : Bytes) (i : ℕ) where
-  pub headed_none : end.None ≡ item_place (open_next s i) → end.None ≡ headed_at head s i
+  pub headed_none : None ≡ item_place (open_next s i) → None ≡ headed_at head s i
   unfolding headed_at after_end
-  headed_none e = ap (λ (o : End). after_end o (λ p. head_piece head s (word_next 2 true s p)) end.None) e
+  headed_none e = ap (λ (o : Option ℕ). after_end o (λ p. head_piece head s (word_next 2 true s p)) None) e
 
-  module _ (p : ℕ) (e : end.At p ≡ item_place (open_next s i)) where
-    headed_piece : (r : ItemAt) → r ≡ word_next 2 true s p → head_piece head s r ≡ headed_at head s i
+  module _ (p : ℕ) (e : Some p ≡ item_place (open_next s i)) where
+    headed_piece : (r : Option Part) → r ≡ word_next 2 true s p → head_piece head s r ≡ headed_at head s i
     unfolding headed_at after_end
-    headed_piece r h = ap (head_piece head s) h ∙ ap (λ (o : End). after_end o (λ p. head_piece head s (word_next 2 true s p)) end.None) e
+    headed_piece r h = ap (head_piece head s) h ∙ ap (λ (o : Option ℕ). after_end o (λ p. head_piece head s (word_next 2 true s p)) None) e
 
-    pub headed_no_word : piece.None ≡ word_next 2 true s p → end.None ≡ headed_at head s i
+    pub headed_no_word : None ≡ word_next 2 true s p → None ≡ headed_at head s i
     unfolding head_piece
-    headed_no_word h = headed_piece piece.None h
+    headed_no_word h = headed_piece None h
 
-    pub headed_is : {w : Part} → piece.At w ≡ word_next 2 true s p → same (name_at s w) head ≡ true → end.At (behind w) ≡ headed_at head s i
+    pub headed_is : {w : Part} → Some w ≡ word_next 2 true s p → same (name_at s w) head ≡ true → Some (behind w) ≡ headed_at head s i
     unfolding head_piece
-    headed_is {w} h t = sym (ap (λ (x : Bool). pick x (end.At (behind w)) end.None) t) ∙ headed_piece (piece.At w) h
+    headed_is {w} h t = sym (ap (λ (x : Bool). pick x (Some (behind w)) None) t) ∙ headed_piece (Some w) h
 
-    pub headed_other : {w : Part} → piece.At w ≡ word_next 2 true s p → same (name_at s w) head ≡ false → end.None ≡ headed_at head s i
+    pub headed_other : {w : Part} → Some w ≡ word_next 2 true s p → same (name_at s w) head ≡ false → None ≡ headed_at head s i
     unfolding head_piece
-    headed_other {w} h t = sym (ap (λ (x : Bool). pick x (end.At (behind w)) end.None) t) ∙ headed_piece (piece.At w) h
+    headed_other {w} h t = sym (ap (λ (x : Bool). pick x (Some (behind w)) None) t) ∙ headed_piece (Some w) h
 
 -- a name in front of others
 module _ (w n : Bytes) (ns : List Bytes) where

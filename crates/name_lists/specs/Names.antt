@@ -1,14 +1,11 @@
 -- The names of a list from a place on, and the list that a head word begins.
-use Rattle.std.specs.Prelude.{ℕ, ◌≡◌, List, ◌∷◌, true, false}
+use Rattle.std.specs.Prelude.{ℕ, ◌≡◌, List, ◌∷◌, true, false, Option, Some, None}
 use Rattle.model.specs.Bytes.{Bytes, same}
 use Rattle.model.specs.Choice.{pick, Maybe, nothing, just, and_then}
 use Rattle.model.specs.Lists.{each}
 use Rattle.model.specs.Forms.{as_name}
 use Rattle.model.specs.Answers.{name_at}
-use Rattle.text.specs.declared.End.{End}
-use Rattle.text.specs.declared.End.TheVariants as end
-use Rattle.item_forms.specs.declared.ItemAt.{ItemAt}
-use Rattle.item_forms.specs.declared.ItemAt.TheVariants as piece
+use Rattle.model.specs.declared.Part.{Part}
 use Rattle.items.specs.Rest.{rest_at}
 use Rattle.item_forms.specs.Pieces.{behind, item_place, after_end, word_next, open_next}
 
@@ -26,18 +23,18 @@ unfoldable pub one_more : Bytes → Maybe NamesRead → Maybe NamesRead
 one_more n o = and_then o (λ x. just (record { names = n ∷ x.names; end = x.end }))
 
 -- the place behind names that were read
-unfoldable pub names_end : Maybe NamesRead → End
-names_end nothing = end.None
-names_end (just x) = end.At x.end
+unfoldable pub names_end : Maybe NamesRead → Option ℕ
+names_end nothing = None
+names_end (just x) = Some x.end
 
 -- the place behind a word, if it is the head
-unfoldable pub head_piece : Bytes → Bytes → ItemAt → End
-head_piece head s (piece.At w) = pick (same (name_at s w) head) (end.At (behind w)) end.None
-head_piece head s piece.None = end.None
+unfoldable pub head_piece : Bytes → Bytes → Option Part → Option ℕ
+head_piece head s (Some w) = pick (same (name_at s w) head) (Some (behind w)) None
+head_piece head s None = None
 
 -- the place behind the head of the list that follows
-unfoldable pub headed_at : Bytes → Bytes → ℕ → End
-headed_at head s i = after_end (item_place (open_next s i)) (λ p. head_piece head s (word_next 2 true s p)) end.None
+unfoldable pub headed_at : Bytes → Bytes → ℕ → Option ℕ
+headed_at head s i = after_end (item_place (open_next s i)) (λ p. head_piece head s (word_next 2 true s p)) None
 
 -- what f says of the names from one place on, g says of those from another on
 abbrev pub Left : {A : Type 0} → (List Bytes → A) → (List Bytes → A) → Bytes → ℕ → ℕ → Type 0

@@ -5,9 +5,9 @@ ghost use Rattle.model.specs.Names.{mem, twice};
 ghost use Rattle.names_met.specs.Table.{Holds};
 ghost use Rattle.name_lists.specs.Names.{NamesRead, names_behind, names_end};
 
-use item_forms::{ItemAt, LIST_DEPTH, pieces, places};
+use item_forms::{LIST_DEPTH, pieces, places};
 use items::read;
-use text::{End, parts};
+use text::parts;
 
 // A line of so many bytes has few names: comparing each with those behind it takes less than clearing a table.
 pub const FEW: usize = 128;
@@ -21,23 +21,21 @@ pub const SHORT_TABLE: usize = 768;
 pub const LONG_TABLE: usize = 16640;
 
 // The place behind the list whose items stand from a place on, if all of them are names.
-pub fn names_end(s: &[u8], from: usize) -> End
+pub fn names_end(s: &[u8], from: usize) -> Option<usize>
     ensures { result ≡ names_end (names_behind s.now from) }
 {
-    let End::At(end) = read::list(s, from, false, LIST_DEPTH) else {
-        return End::None;
-    };
+    let end = read::list(s, from, false, LIST_DEPTH)?;
     let mut i = from;
     while i < s.len() {
-        let ItemAt::At(name) = places::next_name(s, i, LIST_DEPTH) else {
+        let Some(name) = places::next_name(s, i, LIST_DEPTH) else {
             if pieces::only_closes(s, i, end) {
-                return End::At(end);
+                return Some(end);
             }
-            return End::None;
+            return None;
         };
         i = name.start + name.length;
     }
-    End::None
+    None
 }
 
 // Whether a name is one of those from a place on.
@@ -46,7 +44,7 @@ pub fn has_name(s: &[u8], from: usize, name: &[u8]) -> bool
 {
     let mut i = from;
     while i < s.len() {
-        let ItemAt::At(other) = places::next_name(s, i, LIST_DEPTH) else {
+        let Some(other) = places::next_name(s, i, LIST_DEPTH) else {
             return false;
         };
         if compare::same_bytes(name, parts::part_of(s, other)) {
@@ -87,7 +85,7 @@ fn has_twice_with(s: &[u8], from: usize, table: &mut [u32]) -> bool
     let mut n = 0;
     let mut i = from;
     while i < s.len() {
-        let ItemAt::At(name) = places::next_name(s, i, LIST_DEPTH) else {
+        let Some(name) = places::next_name(s, i, LIST_DEPTH) else {
             return false;
         };
         if table.len() <= n {
@@ -108,7 +106,7 @@ fn has_again(s: &[u8], from: usize) -> bool
 {
     let mut i = from;
     while i < s.len() {
-        let ItemAt::At(name) = places::next_name(s, i, LIST_DEPTH) else {
+        let Some(name) = places::next_name(s, i, LIST_DEPTH) else {
             return false;
         };
         let end = name.start + name.length;
@@ -127,7 +125,7 @@ pub fn count_names(s: &[u8], from: usize) -> usize
     let mut n = 0;
     let mut i = from;
     while i < s.len() {
-        let ItemAt::At(name) = places::next_name(s, i, LIST_DEPTH) else {
+        let Some(name) = places::next_name(s, i, LIST_DEPTH) else {
             return n;
         };
         n += 1;

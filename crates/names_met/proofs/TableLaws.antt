@@ -12,9 +12,10 @@ use Rattle.model.specs.Names.{mem, place}
 use Rattle.model.specs.Answers.{part_of, name_at}
 use Rattle.model.specs.declared.Part.{Part}
 use Rattle.chains.specs.Chains.{last_of, linked, Walked}
+use Rattle.chains.specs.Walks.{Falls}
 use Rattle.chains.specs.Slots.{slot_of}
 use Rattle.chains.proofs.ChainLaws.{chained_kept, length_linked, linked_apart, linked_chained}
-use Rattle.chains.proofs.ChainLaws.{walk_first, walk_inside, walk_next, walk_falls, walk_over}
+use Rattle.chains.proofs.ChainLaws.{chained_falls, walk_first, walk_inside, walk_next, walk_over}
 use Rattle.chains.proofs.SlotLaws.{slot_small}
 use Rattle.book_tables.specs.View.{word_at, name_in, name_of, names_at}
 use Rattle.book_tables.proofs.ListedLaws.{listed_none, listed_same, scan_all}
@@ -152,24 +153,20 @@ module _ (s : Bytes) (table : List ℕ) (n : ℕ) (h : Entries s table n) (w : B
             (walk_over table 0 256 256 (slot_met s table) n h.chains (slot_of w) test entry z walk),
       )))
 
-  module _ (entry : ℕ) (some : 0 < entry) (walk : NameWalk s table n w entry) where
-    is_next : entry ≡ suc (entry - 1)
-    is_next = omega arith
+  pub names_fall : (slot : ℕ) → slot ≡ slot_of w → Falls table 256 (word_at table (0 + slot))
+  names_fall slot q = chained_falls table 0 256 256 (slot_met s table) n slot h.chains (omega (arith, q, slot_small w)) (omega (arith, h.room))
 
-    pub names_inside : entry - 1 < n
-    names_inside = walk_inside table 0 256 256 (slot_met s table) n h.chains (slot_of w) test entry (entry - 1) is_next walk
+  module _ (k : ℕ) (walk : NameWalk s table n w (suc k)) where
+    pub names_inside : k < n
+    names_inside = walk_inside table 0 256 256 (slot_met s table) n h.chains (slot_of w) test (suc k) k refl walk
 
-    pub names_fall : (next : ℕ) → next ≡ word_at table (256 + (entry - 1)) → next < entry
-    names_fall next e = let l = walk_falls table 0 256 256 (slot_met s table) n h.chains (slot_of w) test entry (entry - 1) is_next walk next e in omega arith
-
-    -- t is what comparing the name with the entry's says
-    module _ (words : ℕ) (from : words ≡ words_from (length table)) (t : Bool) (is : t ≡ same w (name_of s table words (entry - 1))) where
-      tested : t ≡ test (entry - 1)
-      tested = is ∙ ap (λ (p : ℕ). same w (name_of s table p (entry - 1))) from
+    -- t is what comparing the name with the number's says
+    module _ (words : ℕ) (from : words ≡ words_from (length table)) (t : Bool) (is : t ≡ same w (name_of s table words k)) where
+      tested : t ≡ test k
+      tested = is ∙ ap (λ (p : ℕ). same w (name_of s table p k)) from
 
       pub name_found : t ≡ true → true ≡ mem w (names_met s table n)
-      name_found e =
-          sym (name_mem s table (words_from (length table)) n w (entry - 1) names_inside (sym (same_equal w (name_met s table (entry - 1)) (sym tested ∙ e))))
+      name_found e = sym (name_mem s table (words_from (length table)) n w k names_inside (sym (same_equal w (name_met s table k) (sym tested ∙ e))))
 
-      pub names_next : t ≡ false → (next : ℕ) → next ≡ word_at table (256 + (entry - 1)) → NameWalk s table n w next
-      names_next f next e = walk_next table 0 256 256 (slot_met s table) n h.chains (slot_of w) test entry (entry - 1) is_next walk next (sym tested ∙ f) e
+      pub names_next : t ≡ false → (next : ℕ) → next ≡ word_at table (256 + k) → NameWalk s table n w next
+      names_next f next e = walk_next table 0 256 256 (slot_met s table) n h.chains (slot_of w) test (suc k) k refl walk next (sym tested ∙ f) e

@@ -8,8 +8,8 @@ ghost use Rattle.model.specs.Answers.{name_at};
 ghost use Rattle.names_met.specs.Table.{Names, words_from, names_met, Entries, Holds};
 
 use book_tables::names::NAME_LENGTHS;
-use chains::slots;
 use chains::slots::SLOTS;
+use chains::{slots, walk};
 use model::Part;
 
 // What a name's word has room for: starts below 2^27. What a table has: names below 65,536.
@@ -31,16 +31,13 @@ pub fn is_listed(s: &[u8], table: &[u32], n: usize, name: &[u8]) -> bool
     ensures { result ≡ mem name.now (names_met s.now table.now n) }
 {
     let words = words_from(table.len());
-    let mut entry = chains::first(table, 0, slots::slot(name));
-    while 0 < entry {
-        let k = entry - 1;
+    for k in walk::numbers(table, 0, SLOTS, slots::slot(name)) {
         let word = table[words + k] as usize;
         let start = word / NAME_LENGTHS;
         let end = start + word % NAME_LENGTHS;
         if compare::same_bytes(name, &s[start..end]) {
             return true;
         }
-        entry = chains::next(table, SLOTS, k);
     }
     false
 }

@@ -10,7 +10,7 @@ ghost use Rattle.book_tables.specs.Fits.{Fits};
 ghost use Rattle.node_names.specs.Names.{name_byte, name_bytes, names_left};
 
 use book_tables::BookCounts;
-use model::{BookRead, Verdict};
+use model::{BookSize, Refusal};
 use prepare::{Needs, clear, prepare};
 use rules_tables::RULES_WORDS;
 
@@ -22,7 +22,11 @@ pub const ALL_NAME_BYTES: usize = 6400;
 
 // The service: reads a book as the book reader does, and leaves the names of its nodes, 25 bytes for each: the name, then zeros. Past the last
 // node, and after a refusal, every byte is 0. The working memory ends all ones.
-pub fn node_names(book: &[u8], names: &mut [u8; ALL_NAME_BYTES], work: &mut [u32]) -> BookRead
+pub fn node_names(
+    book: &[u8],
+    names: &mut [u8; ALL_NAME_BYTES],
+    work: &mut [u32],
+) -> Result<BookSize, Refusal>
     ensures answer { book_answer result ≡ (book_service (length work.old) book.now).answer }
     ensures names { names.new ≡ names_left (length work.old) book.now }
     ensures cleared { work.new ≡ ones (length work.old) }
@@ -34,21 +38,19 @@ pub fn node_names(book: &[u8], names: &mut [u8; ALL_NAME_BYTES], work: &mut [u32
     };
     let mut table = [0u32; RULES_WORDS];
     let ready = prepare(needs, book, b"", b"", b"", work, &mut table);
-    let request = ready.request;
-    let verdict = request.verdict;
-    let counts = ready.book;
-    match verdict {
-        Verdict::Accepted => {
-            *names = bytes_of(book, work, counts);
-            clear(work);
-            return BookRead::Counts(counts.nodes, counts.relationships, counts.entries);
-        }
-        Verdict::Refused(refusal) => {
-            *names = no_bytes();
-            clear(work);
-            return BookRead::Refused(refusal);
-        }
+    if let Err(refusal) = ready.request.verdict {
+        *names = no_bytes();
+        clear(work);
+        return Err(refusal);
     }
+    let counts = ready.book;
+    *names = bytes_of(book, work, counts);
+    clear(work);
+    Ok(BookSize {
+        nodes: counts.nodes,
+        relationships: counts.relationships,
+        entries: counts.entries,
+    })
 }
 
 // The bytes of no names.
@@ -64,10 +66,8 @@ fn bytes_of(book: &[u8], words: &[u32], counts: BookCounts) -> [u8; ALL_NAME_BYT
     ensures { result ≡ name_bytes (node_names (book_at book.now words.now counts)) }
 {
     let mut bytes = [0; ALL_NAME_BYTES];
-    let mut k = 0;
-    while k < ALL_NAME_BYTES {
+    for k in 0..ALL_NAME_BYTES {
         bytes[k] = byte_of(book, words, counts, k);
-        k += 1;
     }
     bytes
 }

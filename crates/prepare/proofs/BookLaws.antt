@@ -4,6 +4,7 @@ use mathlib.Core.Path.{◌≡◌, refl, sym, ap, ◌∙◌}
 use mathlib.Core.List.{List}
 use mathlib.Core.Bool.{false}
 use lib.ListN.{length}
+use Rattle.std.specs.Prelude.{Ok, Err}
 use Rattle.model.specs.Bytes.{Bytes}
 use Rattle.model.specs.Refusal.{Outcome, accepted, refused, on_accept}
 use Rattle.model.specs.Book.{Book, entry_count}
@@ -11,8 +12,6 @@ use Rattle.model.specs.ReadBook.{read_book}
 use Rattle.model.specs.Service.{BookAnswer, with_work, book_service}
 use Rattle.model.specs.Answers.{refusal_of, book_answer}
 use Rattle.model.specs.declared.Refusal.{Refusal as RefusalData}
-use Rattle.model.specs.declared.Verdict.TheVariants.{Accepted, Refused}
-use Rattle.model.specs.declared.BookRead.TheVariants as answer
 use Rattle.book_tables.specs.View.{node_of, rel_of, book_at}
 use Rattle.book_tables.specs.Fits.{Fits}
 use Rattle.book_tables.proofs.ListedLaws.{length_listed}
@@ -48,7 +47,7 @@ module _ (work : ℕ) (book rules query request : Bytes) (words table : List ℕ
   unfolding book_service through after_book after_rules on_accept
   counted_is = refl
 
-  module _ (e : r.request.verdict ≡ Accepted) where
+  module _ (e : r.request.verdict ≡ Ok tt) where
     pub book_fits : Fits book words r.book
     book_fits = (all_ready book_alone work book rules query request itself words table r given e).rules_ready.fits
 
@@ -56,7 +55,7 @@ module _ (work : ℕ) (book rules query request : Bytes) (words table : List ℕ
     book_there = itself_is ∙ ready_through book_alone work book rules query request itself words table r given
         (all_ready book_alone work book rules query request itself words table r given e)
 
-    pub book_counted : book_answer (answer.Counts r.book.nodes r.book.relationships r.book.entries) ≡ (book_service work book).answer
+    pub book_counted : book_answer (Ok (record { nodes = r.book.nodes; relationships = r.book.relationships; entries = r.book.entries })) ≡ (book_service work book).answer
     unfolding book_answer book_at
     book_counted =
         let a = all_ready book_alone work book rules query request counted words table r given e in
@@ -66,10 +65,10 @@ module _ (work : ℕ) (book rules query request : Bytes) (words table : List ℕ
           entries = book_fits.counted i;
         }))
 
-  module _ (x : RefusalData) (e : r.request.verdict ≡ Refused x) where
+  module _ (x : RefusalData) (e : r.request.verdict ≡ Err x) where
     pub book_not_there : with_work work (read_book book) ≡ refused (refusal_of x)
     book_not_there = itself_is ∙ refused_through book_alone work book rules query request itself words table r given x e
 
-    pub book_refused : book_answer (answer.Refused x) ≡ (book_service work book).answer
+    pub book_refused : book_answer (Err x) ≡ (book_service work book).answer
     unfolding book_answer
     book_refused = sym (counted_is ∙ refused_through book_alone work book rules query request counted words table r given x e)

@@ -5,6 +5,7 @@ use mathlib.Core.List.{List}
 use mathlib.Core.Bool.{Bool, true, false}
 use lib.ListN.{length}
 use lib.Dec.{ltb}
+use Rattle.std.specs.Prelude.{Ok, Err}
 use Rattle.model.specs.Bytes.{Bytes}
 use Rattle.model.specs.Choice.{pick}
 use Rattle.model.specs.Refusal.{Outcome, accepted, refused, on_accept, refusal}
@@ -16,8 +17,6 @@ use Rattle.model.specs.Request.{Request}
 use Rattle.model.specs.Service.{ones, with_work}
 use Rattle.model.specs.Answers.{refusal_of}
 use Rattle.model.specs.declared.Refusal.{Refusal as RefusalData}
-use Rattle.model.specs.declared.Verdict.{Verdict}
-use Rattle.model.specs.declared.Verdict.TheVariants.{Accepted, Refused}
 use Rattle.prepare.specs.declared.Needs.{Needs}
 use Rattle.prepare.specs.declared.Ready.{Ready}
 use Rattle.prepare.specs.Texts.{Texts, rules_if, query_if, request_if, after_rules, after_book, through}
@@ -69,14 +68,14 @@ module _ {A : Type 0} (n : Needs) (work : ℕ) (book rules query request : Bytes
     abbrev All : Type 0
     All = AllReady n book rules query request words table texts r
 
-    pub all_ready : r.request.verdict ≡ Accepted → All
+    pub all_ready : r.request.verdict ≡ Ok tt → All
     all_ready e = subst (ByVerdict n book rules query request words table texts r) e prepared.given
 
-    pub none_ready : (x : RefusalData) → r.request.verdict ≡ Refused x → NotReady texts r x
+    pub none_ready : (x : RefusalData) → r.request.verdict ≡ Err x → NotReady texts r x
     none_ready x e = subst (ByVerdict n book rules query request words table texts r) e prepared.given
 
     -- the answer behind a refusal, and behind the texts
-    pub refused_through : (x : RefusalData) → r.request.verdict ≡ Refused x → through n work book rules query request f ≡ refused (refusal_of x)
+    pub refused_through : (x : RefusalData) → r.request.verdict ≡ Err x → through n work book rules query request f ≡ refused (refusal_of x)
     unfolding on_accept
     refused_through x e = sym of_texts ∙ rw (none_ready x e).is
 

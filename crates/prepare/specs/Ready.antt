@@ -1,5 +1,5 @@
 -- What is ready once the texts that are needed are read.
-use Rattle.std.specs.Prelude.{ℕ, ◌≡◌, List, Bool, true, false}
+use Rattle.std.specs.Prelude.{ℕ, ◌≡◌, List, Bool, true, false, Result, Ok, Err, ⊤}
 use Rattle.model.specs.Bytes.{Bytes}
 use Rattle.model.specs.Refusal.{Outcome, accepted, refused}
 use Rattle.model.specs.ReadBook.{read_book}
@@ -8,8 +8,6 @@ use Rattle.model.specs.Rules.{Rules}
 use Rattle.model.specs.Request.{Request, read_request}
 use Rattle.model.specs.Answers.{refusal_of}
 use Rattle.model.specs.declared.Refusal.{Refusal}
-use Rattle.model.specs.declared.Verdict.{Verdict}
-use Rattle.model.specs.declared.Verdict.TheVariants.{Accepted, Refused}
 use Rattle.model.specs.declared.RequestRead.{RequestRead}
 use Rattle.book_tables.specs.declared.BookCounts.{BookCounts}
 use Rattle.book_tables.specs.View.{book_at}
@@ -18,8 +16,6 @@ use Rattle.book_tables.specs.Stores.{no_counts}
 use Rattle.rules_tables.specs.declared.RulesCounts.{RulesCounts}
 use Rattle.rules_tables.specs.View.{tree_of, rules_at}
 use Rattle.rules_tables.specs.Fits.{Fits as RulesFit}
-use Rattle.rules.specs.declared.RulesLoad.{RulesLoad}
-use Rattle.rules.specs.declared.RulesLoad.TheVariants as load
 use Rattle.request.specs.Stored.{no_identities}
 use Rattle.request.specs.RequestReads.{Accepts, RequestReads}
 use Rattle.prepare.specs.declared.Needs.{Needs}
@@ -27,27 +23,27 @@ use Rattle.prepare.specs.declared.Ready.{Ready}
 use Rattle.prepare.specs.Texts.{Texts, rules_if, query_if, no_request}
 
 -- no category and no identity, beside a verdict
-abbrev pub none_beside : Verdict → RequestRead
+abbrev pub none_beside : Result ⊤ Refusal → RequestRead
 none_beside v = record { verdict = v; category = 0; identities = no_identities; count = 0 }
 
 -- nothing is ready
 abbrev pub refused_ready : Refusal → Ready
-refused_ready x = record { book = no_counts; rules = record { categories = 0; policies = 0 }; request = none_beside (Refused x) }
+refused_ready x = record { book = no_counts; rules = record { categories = 0; policies = 0 }; request = none_beside (Err x) }
 
 -- rules are in words, or refused
-abbrev pub RulesGiven : Bytes → List ℕ → Outcome Rules → RulesLoad → Type 0
-RulesGiven text table o (load.Loaded c) = (o ≡ accepted (rules_at text table c)) × RulesFit text table c
-RulesGiven text table o (load.Refused x) = o ≡ refused (refusal_of x)
+abbrev pub RulesGiven : Bytes → List ℕ → Outcome Rules → Result RulesCounts Refusal → Type 0
+RulesGiven text table o (Ok c) = (o ≡ accepted (rules_at text table c)) × RulesFit text table c
+RulesGiven text table o (Err x) = o ≡ refused (refusal_of x)
 
 -- a query is accepted, or refused
-abbrev pub QueryGiven : Bytes → Outcome QueryText → Verdict → Type 0
-QueryGiven text o Accepted = o ≡ accepted (tree_of text)
-QueryGiven text o (Refused x) = o ≡ refused (refusal_of x)
+abbrev pub QueryGiven : Bytes → Outcome QueryText → Result ⊤ Refusal → Type 0
+QueryGiven text o (Ok u) = o ≡ accepted (tree_of text)
+QueryGiven text o (Err x) = o ≡ refused (refusal_of x)
 
 -- a request is read, or none is needed
 abbrev pub RequestGiven : Bool → Bytes → List ℕ → BookCounts → Bytes → List ℕ → RulesCounts → Bytes → RequestRead → Type 0
 RequestGiven true book words k rules table m text r = RequestReads book words k rules table m text r
-RequestGiven false book words k rules table m text r = r ≡ none_beside Accepted
+RequestGiven false book words k rules table m text r = r ≡ none_beside (Ok tt)
 
 -- book and rules are in words, if the rules are needed
 pub record RulesReady (needed : Bool) (book : Bytes) (words : List ℕ) (k : BookCounts) (rules : Bytes) (table : List ℕ) (m : RulesCounts) : Type 0 where
@@ -89,12 +85,12 @@ pub record AllReady (n : Needs) (book rules query request : Bytes) (words table 
 -- a text is refused, and nothing of a request is ready
 pub record NotReady (o : Outcome Texts) (r : Ready) (x : Refusal) : Type 0 where
   pub is : o ≡ refused (refusal_of x)
-  pub none : r.request ≡ none_beside (Refused x)
+  pub none : r.request ≡ none_beside (Err x)
 
 -- one of the two, by the verdict
-abbrev pub ByVerdict : Needs → Bytes → Bytes → Bytes → Bytes → List ℕ → List ℕ → Outcome Texts → Ready → Verdict → Type 0
-ByVerdict n book rules query request words table o r Accepted = AllReady n book rules query request words table o r
-ByVerdict n book rules query request words table o r (Refused x) = NotReady o r x
+abbrev pub ByVerdict : Needs → Bytes → Bytes → Bytes → Bytes → List ℕ → List ℕ → Outcome Texts → Ready → Result ⊤ Refusal → Type 0
+ByVerdict n book rules query request words table o r (Ok u) = AllReady n book rules query request words table o r
+ByVerdict n book rules query request words table o r (Err x) = NotReady o r x
 
 -- what reading the texts gives is ready
 pub record Prepared (n : Needs) (book rules query request : Bytes) (words table : List ℕ) (o : Outcome Texts) (r : Ready) : Type 0 where

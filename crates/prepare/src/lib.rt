@@ -11,12 +11,10 @@ ghost use Rattle.rules_tables.specs.View.{rules_at};
 ghost use Rattle.prepare.specs.Texts.{through, after_book, after_rules};
 ghost use Rattle.prepare.specs.Ready.{refused_ready, Prepared, RulesReady};
 
-use book::BookLoad;
 use book_tables::BookCounts;
 use model::limits::WORK_WORDS;
 use model::refusal_numbers::TOO_LITTLE;
-use model::{Refusal, RequestRead, Verdict};
-use rules::RulesLoad;
+use model::{Refusal, RequestRead};
 use rules_tables::{RULES_WORDS, RulesCounts};
 
 mod needed; // needed.rt: reading a text, if it is needed
@@ -59,10 +57,10 @@ pub fn prepare(
         });
     }
     match book::load::load(book, work) {
-        BookLoad::Loaded(counts) => {
+        Ok(counts) => {
             return after_book(needs, book, work, counts, rules, query, request, table);
         }
-        BookLoad::Refused(refusal) => {
+        Err(refusal) => {
             return refused(refusal);
         }
     }
@@ -84,7 +82,7 @@ fn refused(refusal: Refusal) -> Ready
         categories: 0,
         policies: 0,
     };
-    let request = needed::no_request(Verdict::Refused(refusal));
+    let request = needed::no_request(Err(refusal));
     Ready {
         book,
         rules,
@@ -110,12 +108,12 @@ fn after_book(
         (book_at book.now words.now counts) accepted) result }
 {
     match needed::rules(needs.rules, book, words, counts, rules, table) {
-        RulesLoad::Loaded(sizes) => {
+        Ok(sizes) => {
             return after_rules(
                 needs, book, words, counts, rules, table, sizes, query, request,
             );
         }
-        RulesLoad::Refused(refusal) => {
+        Err(refusal) => {
             return refused(refusal);
         }
     }
@@ -139,8 +137,7 @@ fn after_rules(
         (after_rules needs query.now text.now (book_at book.now words.now counts)
         (rules_at rules.now table.now sizes) accepted) result }
 {
-    let verdict = needed::query(needs.query, book, words, counts, query);
-    if let Verdict::Refused(refusal) = verdict {
+    if let Err(refusal) = needed::query(needs.query, book, words, counts, query) {
         return refused(refusal);
     }
     let request = needed::request(

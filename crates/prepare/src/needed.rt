@@ -9,8 +9,7 @@ ghost use Rattle.prepare.specs.Ready.{none_beside, RulesGiven, QueryGiven, Reque
 
 use book_tables::BookCounts;
 use model::limits::MAX_IDENTITIES;
-use model::{Identity, Part, RequestRead, Verdict};
-use rules::RulesLoad;
+use model::{Identity, Part, Refusal, RequestRead};
 use rules_tables::RulesCounts;
 
 // The rules, or none.
@@ -21,7 +20,7 @@ pub fn rules(
     counts: BookCounts,
     text: &[u8],
     table: &mut [u32],
-) -> RulesLoad
+) -> Result<RulesCounts, Refusal>
     requires { Fits book.now words.now counts × (all_rules_words ≤ length table.old) }
     ensures { RulesGiven text.now table.new
         (rules_if needed (book_at book.now words.now counts) text.now) result }
@@ -29,21 +28,27 @@ pub fn rules(
     if needed {
         return rules::load::load(book, words, counts, text, table);
     }
-    RulesLoad::Loaded(RulesCounts {
+    Ok(RulesCounts {
         categories: 0,
         policies: 0,
     })
 }
 
 // Whether the query is accepted.
-pub fn query(needed: bool, book: &[u8], words: &[u32], counts: BookCounts, text: &[u8]) -> Verdict
+pub fn query(
+    needed: bool,
+    book: &[u8],
+    words: &[u32],
+    counts: BookCounts,
+    text: &[u8],
+) -> Result<(), Refusal>
     requires { Fits book.now words.now counts }
     ensures { QueryGiven text.now (query_if needed (book_at book.now words.now counts) text.now) result }
 {
     if needed {
         return query::read::read(book, words, counts, text);
     }
-    Verdict::Accepted
+    Ok(())
 }
 
 // The request, or none.
@@ -64,11 +69,11 @@ pub fn request(
     if needed {
         return request::read::read(book, words, counts, rules, table, sizes, text);
     }
-    no_request(Verdict::Accepted)
+    no_request(Ok(()))
 }
 
 // No category and no identity, beside a verdict.
-pub fn no_request(verdict: Verdict) -> RequestRead
+pub fn no_request(verdict: Result<(), Refusal>) -> RequestRead
     ensures { result ≡ none_beside verdict }
 {
     let actor = Part {

@@ -5,6 +5,7 @@ use mathlib.Core.Bool.{Bool, true, false, ◌||◌}
 use native.Mathlib.Omega.{arith}
 use lib.ListN.{length}
 use lib.Dec.{ltb, nltb→le}
+use Rattle.std.specs.Prelude.{Result, Ok}
 use Rattle.model.proofs.Refusals.{same_accepted}
 use Rattle.model.specs.Bytes.{Bytes}
 use Rattle.model.specs.Refusal.{accepted, refusal}
@@ -15,8 +16,7 @@ use Rattle.model.specs.Pattern.{pattern_of}
 use Rattle.model.specs.Writing.{written_query}
 use Rattle.model.specs.Service.{with_work, writer_text, writer_service}
 use Rattle.model.specs.Answers.{writer_answer}
-use Rattle.model.specs.declared.TextWritten.{TextWritten}
-use Rattle.model.specs.declared.TextWritten.TheVariants as written
+use Rattle.model.specs.declared.Refusal.{Refusal as RefusalData}
 use Rattle.model.proofs.Outcomes.{accept_e, else_e}
 
 first_false : (a b : Bool) → (a || b) ≡ false → a ≡ false
@@ -37,7 +37,7 @@ text_fits work room book rules query t e =
     subst (λ (x : Bytes). length x ≤ room) same (nltb→le room (length u) (rw (first_false (ltb room (length u)) _ l.0) tt))
 
 -- the length that is answered is within the buffer
-pub written_inside : (work : ℕ) (buffer book rules query : Bytes) (res : TextWritten) (n : ℕ) → res ≡ written.Length n
+pub written_inside : (work : ℕ) (buffer book rules query : Bytes) (res : Result ℕ RefusalData) (n : ℕ) → res ≡ Ok n
     → writer_answer res ≡ (writer_service work buffer book rules query).answer → n ≤ length buffer
 unfolding writer_service writer_answer
 written_inside work buffer book rules query res n e a =

@@ -10,7 +10,7 @@ ghost use Rattle.text.specs.Parts.{HasPart};
 ghost use Rattle.print_answers.specs.Identities.{IdentitiesInside};
 
 use model::limits::{MAX_IDENTITIES, MAX_QUERY_BYTES, WORK_WORDS};
-use model::{BookRead, Identity, Refusal, RequestRead, RulesRead, TextWritten, Verdict};
+use model::{Identity, Refusal, RequestRead};
 use service::read_book;
 use std::io;
 use std::io::Write;
@@ -23,10 +23,12 @@ const LINE_BYTES: usize = 38;
 pub fn print_book(out: &mut impl Write, book: &[u8]) -> io::Result<()> {
     let mut work = [0u32; WORK_WORDS];
     match read_book(book, &mut work) {
-        BookRead::Counts(nodes, relationships, entries) => {
-            writeln!(out, "(book {nodes} {relationships} {entries})")
-        }
-        BookRead::Refused(refusal) => print_refused(out, b"book ", refusal),
+        Ok(size) => writeln!(
+            out,
+            "(book {} {} {})",
+            size.nodes, size.relationships, size.entries
+        ),
+        Err(refusal) => print_refused(out, b"book ", refusal),
     }
 }
 
@@ -34,8 +36,8 @@ pub fn print_book(out: &mut impl Write, book: &[u8]) -> io::Result<()> {
 pub fn print_rules(out: &mut impl Write, book: &[u8], rules: &[u8]) -> io::Result<()> {
     let mut work = [0u32; WORK_WORDS];
     match service::read_rules(book, rules, &mut work) {
-        RulesRead::Counts(categories, policies) => writeln!(out, "(rules {categories} {policies})"),
-        RulesRead::Refused(refusal) => print_refused(out, b"rules ", refusal),
+        Ok(size) => writeln!(out, "(rules {} {})", size.categories, size.policies),
+        Err(refusal) => print_refused(out, b"rules ", refusal),
     }
 }
 
@@ -48,10 +50,9 @@ pub fn print_request(
 ) -> io::Result<()> {
     let mut work = [0u32; WORK_WORDS];
     let read = service::read_request(book, rules, request, &mut work);
-    let verdict = read.verdict;
-    match verdict {
-        Verdict::Accepted => print_accepted(out, request, read),
-        Verdict::Refused(refusal) => print_refused(out, b"request ", refusal),
+    match read.verdict {
+        Ok(()) => print_accepted(out, request, read),
+        Err(refusal) => print_refused(out, b"request ", refusal),
     }
 }
 
@@ -114,11 +115,11 @@ pub fn print_written(
     let mut work = [0u32; WORK_WORDS];
     let mut text = [0u8; MAX_QUERY_BYTES];
     match service::write_query(book, rules, query, &mut text, &mut work) {
-        TextWritten::Length(length) => {
+        Ok(length) => {
             program_io::print_front(out, &text, length)?;
             out.write_all(b"\n")
         }
-        TextWritten::Refused(refusal) => print_refused(out, b"write ", refusal),
+        Err(refusal) => print_refused(out, b"write ", refusal),
     }
 }
 

@@ -9,9 +9,7 @@ ghost use Rattle.book_tables.specs.View.{book_at};
 ghost use Rattle.book_tables.specs.Fits.{Fits};
 ghost use Rattle.list_lines.specs.Printing.{Prints};
 
-use book::BookLoad;
 use book_tables::BookCounts;
-use model::RowsListed;
 use model::limits::WORK_WORDS;
 
 // "The program lends 16,384 row words."
@@ -27,10 +25,10 @@ pub fn list_text(book: &[u8], rules: &[u8], query: &[u8], request: &[u8], out: &
 {
     let mut words = [0u32; WORK_WORDS];
     match book::load::load(book, &mut words) {
-        BookLoad::Refused(fault) => {
+        Err(fault) => {
             return list_lines::put_refusal(fault, out, 0);
         }
-        BookLoad::Loaded(counts) => {
+        Ok(counts) => {
             return from_book(book, &words, counts, rules, query, request, out);
         }
     }
@@ -53,11 +51,11 @@ fn from_book(
     let mut rows = [0u32; ROW_WORDS];
     let mut work = [0u32; WORK_WORDS];
     match listing::list(book, rules, query, request, &mut rows, &mut work) {
-        RowsListed::Refused(refusal) => {
+        Err(refusal) => {
             return list_lines::put_refusal(refusal, out, 0);
         }
-        RowsListed::Count(count, width) => {
-            return list_lines::put_list(book, words, counts, &rows, count, width, out, 0);
+        Ok(size) => {
+            return list_lines::put_list(book, words, counts, &rows, size.rows, size.width, out, 0);
         }
     }
 }

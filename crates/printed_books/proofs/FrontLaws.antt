@@ -7,6 +7,7 @@ use mathlib.Core.List.{◌++◌}
 use lib.ListN.{length, drop, length-append, length-drop}
 use lib.Dec.{ltb}
 use borrow.Author.Tests.{ltb-false}
+use Rattle.std.specs.Prelude.{Result, Ok, Err}
 use Rattle.model.specs.Bytes.{Bytes}
 use Rattle.model.specs.Choice.{pick}
 use Rattle.model.specs.Refusal.{Refusal, Outcome, accepted, refused, on_accept, refusal}
@@ -14,8 +15,6 @@ use Rattle.model.specs.Service.{with_work, onto, book_written, book_writer}
 use Rattle.model.specs.Answers.{refusal_of, writer_answer}
 use Rattle.model.specs.Printed.{refusal_text, book_text, book_printed}
 use Rattle.model.specs.declared.Refusal.{Refusal as RefusalData}
-use Rattle.model.specs.declared.TextWritten.{TextWritten}
-use Rattle.model.specs.declared.TextWritten.TheVariants.{Length, Refused}
 use Rattle.putting.specs.Putting.{last_place, Puts}
 use Rattle.putting.proofs.PuttingLaws.{puts_same, counts_length, fits_in_front}
 use Rattle.list_lines.proofs.LengthLaws.{refusal_short}
@@ -40,7 +39,7 @@ in_front_law t out out' n room a l e = record {
   long = ap length e ∙ simp (length-append, length-drop) (omega (arith, room, l));
 }
 
-module _ (o : Outcome Bytes) (out out' : Bytes) (room : length out ≡ 65536) (r : TextWritten) (answer : writer_answer r ≡ (book_writer 16384 out o).answer)
+module _ (o : Outcome Bytes) (out out' : Bytes) (room : length out ≡ 65536) (r : Result ℕ RefusalData) (answer : writer_answer r ≡ (book_writer 16384 out o).answer)
     (text : out' ≡ (book_writer 16384 out o).text) where
   abbrev given : Outcome Bytes
   given = book_written 16384 65536 o
@@ -54,7 +53,7 @@ module _ (o : Outcome Bytes) (out out' : Bytes) (room : length out ≡ 65536) (r
   left = rw (← room) text
 
   -- the book
-  pub book_printed_law : (n : ℕ) → r ≡ Length n → InFront (book_printed o) out out' n
+  pub book_printed_law : (n : ℕ) → r ≡ Ok n → InFront (book_printed o) out out' n
   unfolding book_printed book_text on_accept onto writer_answer
   book_printed_law n e = go given refl
     where
@@ -68,7 +67,7 @@ module _ (o : Outcome Bytes) (out out' : Bytes) (room : length out ≡ 65536) (r
           let z : ◌≡◌ {A = ℕ} 0 1 = cc in absurd (omega arith)
 
   -- the refusal
-  pub refusal_printed : (x : RefusalData) (out'' : Bytes) (n : ℕ) → r ≡ Refused x → Puts out' 0 (refusal_text (refusal_of x)) out'' n
+  pub refusal_printed : (x : RefusalData) (out'' : Bytes) (n : ℕ) → r ≡ Err x → Puts out' 0 (refusal_text (refusal_of x)) out'' n
       → InFront (book_printed o) out out'' n
   unfolding book_printed book_text on_accept onto writer_answer
   refusal_printed x out'' n e p = go given refl

@@ -9,7 +9,7 @@ ghost use Rattle.model.specs.Answers.{writer_answer};
 ghost use Rattle.model.specs.Printed.{book_printed, printed_renaming, printed_tidy};
 ghost use Rattle.printed_books.specs.Front.{InFront};
 
-use model::TextWritten;
+use model::Refusal;
 use model::limits::{MAX_BOOK_BYTES, WORK_WORDS};
 
 // Puts what the renaming prints for a book in front of a buffer, and answers how long it is. The buffer has as many bytes as a book may have.
@@ -31,12 +31,12 @@ pub fn tidy_text(book: &[u8], out: &mut [u8; MAX_BOOK_BYTES]) -> usize
 }
 
 // A book that was written stands in the buffer; a refusal is put there.
-fn book_or_refusal(written: TextWritten, out: &mut [u8; MAX_BOOK_BYTES]) -> usize
+fn book_or_refusal(written: Result<usize, Refusal>, out: &mut [u8; MAX_BOOK_BYTES]) -> usize
     ensures { (o : Outcome Bytes) (buffer : Bytes) → length buffer ≡ 65536 → writer_answer written ≡ (book_writer 16384 buffer o).answer
         → out.old ≡ (book_writer 16384 buffer o).text → InFront (book_printed o) buffer out.new result }
 {
     match written {
-        TextWritten::Length(size) => size,
-        TextWritten::Refused(refusal) => list_lines::put_refusal(refusal, out, 0),
+        Ok(size) => size,
+        Err(refusal) => list_lines::put_refusal(refusal, out, 0),
     }
 }

@@ -5,7 +5,6 @@ ghost use Rattle.std.specs.Prelude.{◌≤◌};
 ghost use Rattle.model.specs.Printed.{printed_lamp};
 ghost use Rattle.list_lines.specs.Printing.{Prints};
 
-use model::LampShown;
 use model::limits::WORK_WORDS;
 use putting::bytes;
 
@@ -20,13 +19,13 @@ pub fn lamp_text(book: &[u8], rules: &[u8], query: &[u8], request: &[u8], out: &
 {
     let mut work = [0u32; WORK_WORDS];
     match wall_lamp::lamp(book, rules, query, request, &mut work) {
-        LampShown::Yes => {
+        Ok(true) => {
             return bytes::put_bytes(b"(lamp yes)\n", out, 0);
         }
-        LampShown::No => {
+        Ok(false) => {
             return bytes::put_bytes(b"(lamp no)\n", out, 0);
         }
-        LampShown::Refused(refusal) => {
+        Err(refusal) => {
             return list_lines::put_refusal(refusal, out, 0);
         }
     }

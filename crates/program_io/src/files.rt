@@ -20,6 +20,7 @@ pub const QUERY_ROOM: usize = MAX_QUERY_BYTES + 1;
 pub const REQUEST_ROOM: usize = MAX_REQUEST_BYTES + 1;
 
 // A file's bytes in front of a buffer: how many, and whether they are the whole file, or as much of it as the buffer takes.
+// No Option: of a part too `read_text` says how much of it stands in the buffer, and `cases` prints it.
 #[derive(Clone, Copy)]
 pub struct FileRead {
     pub length: usize,

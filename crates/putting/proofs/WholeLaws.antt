@@ -7,11 +7,11 @@ use native.Mathlib.Omega.{arith}
 use lib.ListN.{length, drop}
 use lib.Dec.{ltb}
 use borrow.Author.Tests.{lt-ltb, ltb-false}
+use Rattle.std.specs.Prelude.{None, Some}
 use Rattle.logic.specs.Flags.{neither}
 use Rattle.logic.specs.Tests.{either, below_or_not}
 use Rattle.model.specs.Bytes.{Bytes}
 use Rattle.model.specs.Choice.{pick}
-use Rattle.putting.specs.declared.Written.TheVariants.{Length, TooLong}
 use Rattle.putting.specs.Putting.{last_place, Puts}
 use Rattle.putting.specs.Whole.{too_long, Writes}
 use Rattle.putting.proofs.PuttingLaws.{counts_length, fits_in_front}
@@ -36,23 +36,23 @@ module _ {o t o' : Bytes} {n limit : ℕ} (put : Puts o 0 t o' n) (counted : lim
 
   module _ {out lent : Bytes} (kept : lent ≡ out) where
     -- too long: refused, and the buffer stays
-    pub refused : too_long limit (length lent) n ≡ true → Writes limit t out lent TooLong
+    pub refused : too_long limit (length lent) n ≡ true → Writes limit t out lent None
     refused long =
         let e = sym (told (length out)) ∙ ap (λ (l : Bytes). too_long limit (length l) n) (sym kept) ∙ long in
         record {
-          answer = sym (ap (λ (b : Bool). pick b TooLong (Length (length t))) e);
+          answer = sym (ap (λ (b : Bool). pick b None (Some (length t))) e);
           text = kept ∙ sym (ap (λ (b : Bool). pick b out (t ++ drop (length t) out)) e);
         }
 
     -- not too long: put into the buffer, it is written in front
-    pub written_in_front : {out' : Bytes} {m : ℕ} → too_long limit (length lent) n ≡ false → Puts lent 0 t out' m → Writes limit t out out' (Length n)
+    pub written_in_front : {out' : Bytes} {m : ℕ} → too_long limit (length lent) n ≡ false → Puts lent 0 t out' m → Writes limit t out out' (Some n)
     written_in_front short put-again =
         let e = sym (told (length out)) ∙ ap (λ (l : Bytes). too_long limit (length l) n) (sym kept) ∙ short in
         let (room, few) = neither (ltb (length lent) n) (ltb limit n) short in
         let counts : n ≡ min last_place (length t) = counts_length put in
         let same : n ≡ length t = omega (arith, ltb-false limit n few) in
         record {
-          answer = ap Length same ∙ sym (ap (λ (b : Bool). pick b TooLong (Length (length t))) e);
+          answer = ap Some same ∙ sym (ap (λ (b : Bool). pick b None (Some (length t))) e);
           text = fits_in_front (omega (arith, ltb-false limit n few)) (omega (arith, ltb-false (length lent) n room)) put-again
               ∙ ap (λ (l : Bytes). t ++ drop (length t) l) kept ∙ sym (ap (λ (b : Bool). pick b out (t ++ drop (length t) out)) e);
         }

@@ -36,10 +36,8 @@ pub fn put_bytes(bytes: &[u8], out: &mut [u8], at: usize) -> usize
     ensures { Puts out.old at bytes.now out.new result }
 {
     let mut next = at;
-    let mut i = 0;
-    while i < bytes.len() {
-        next = put_byte(bytes[i], out, next);
-        i += 1;
+    for byte in bytes {
+        next = put_byte(*byte, out, next);
     }
     next
 }

@@ -7,13 +7,6 @@ ghost use Rattle.putting.specs.Whole.{too_long};
 pub mod bytes; // bytes.rt: putting bytes, texts and names
 pub mod values; // values.rt: putting numbers, texts in apostrophes and truth values
 
-// What writing a text gives: its length, or that it does not fit.
-#[derive(Clone, Copy)]
-pub enum Written {
-    Length(usize),
-    TooLong,
-}
-
 // Whether a text that ends at a place, put from the start of a buffer, passes its limit or the buffer's room. A writer first puts its text
 // into no bytes, asks this, and puts the text into its buffer if it fits.
 pub fn too_long(limit: usize, room: usize, end: usize) -> bool

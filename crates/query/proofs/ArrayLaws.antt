@@ -9,6 +9,7 @@ use native.Mathlib.Omega.{arith}
 use lib.ListN.{length, get_or, take, drop, set, replicate, length-map, length-append, take-append-drop}
 use lib.Seq.{take-suc, take-suc-set, length-take-le, get_or-set_same, get_or-set_other, drop-drop, drop-set-lt}
 use lib.Dec.{T}
+use Rattle.std.specs.Prelude.{Result, Ok}
 use Rattle.logic.specs.Tests.{either, equal_or_not}
 use Rattle.model.specs.Bytes.{Bytes}
 use Rattle.model.specs.Lists.{any}
@@ -25,8 +26,6 @@ use Rattle.query_pieces.specs.Faults.{some_where, undeclared_at}
 use Rattle.query_pieces.specs.Steps.{StepAt}
 use Rattle.query_pieces.specs.declared.Place.{Place}
 use Rattle.query_pieces.specs.declared.Step.{Step}
-use Rattle.query_pieces.specs.declared.PieceRead.{PieceRead}
-use Rattle.query_pieces.specs.declared.PieceRead.TheVariants as read
 use Rattle.query_pieces.proofs.Trees.{tree_names, returns_same}
 use Rattle.query_pieces.proofs.Tests.{vertex_names_law, undeclared_found}
 use Rattle.query_survey.specs.Names.{found_at}
@@ -76,7 +75,7 @@ pub room_for : {A : Type 0} (found more later : List A) {every : List A} → (fo
 room_for found more later e = omega (arith, ap length e, length-append (found ++ more) later, length-append found more)
 
 -- a piece that is read leaves fewer pieces to read
-pub fewer_pieces : {s : Bytes} {place : Place} {r : PieceRead} → StepAt s place r → {x : Step} → r ≡ read.Found x
+pub fewer_pieces : {s : Bytes} {place : Place} {r : Result Step Bool} → StepAt s place r → {x : Step} → r ≡ Ok x
     → length (found_at s x.next) < length (found_at s place)
 fewer_pieces {s} {place} {r} h {x} e = let z = ap length (step_list s place r h x e) in omega arith
 

@@ -8,6 +8,7 @@ use native.Mathlib.Omega.{arith}
 use lib.ListN.{length, take, get_or, set, length-set}
 use lib.Seq.{take-suc-set}
 use lib.Dec.{T}
+use Rattle.std.specs.Prelude.{Result, Ok, Err}
 use Rattle.model.specs.Bytes.{Bytes}
 use Rattle.model.specs.Choice.{pick}
 use Rattle.model.specs.Lists.{joined}
@@ -36,15 +37,13 @@ use Rattle.book_tables.proofs.NameLaws.{length_names, attr_names_law}
 use Rattle.query_pieces.specs.declared.Demand.{Demand}
 use Rattle.query_pieces.specs.declared.Place.{Place}
 use Rattle.query_pieces.specs.declared.Step.{Step}
-use Rattle.query_pieces.specs.declared.PieceRead.{PieceRead}
-use Rattle.query_pieces.specs.declared.PieceRead.TheVariants as read
 use Rattle.query_pieces.specs.Named.{edges_in, condition_in, conditions_in}
 use Rattle.query_pieces.specs.Steps.{piece_of, piece_standing, walk_at, StepAt}
 use Rattle.query_signs.specs.Expected.{value_standing}
 use Rattle.query_survey.specs.Names.{found_at, text_start, text_pieces}
 use Rattle.query_survey.proofs.ScanLaws.{step_list, step_none}
 use Rattle.query_writer.specs.Writable.{Limits, ConditionFits}
-use Rattle.query.specs.declared.clauses.Clauses.{Clauses}
+use Rattle.query.specs.Clauses.{Clauses}
 use Rattle.query.specs.Clauses.{requirement_in, demand_in, no_clauses}
 use Rattle.query.proofs.ArrayLaws.{Blank, room_for, length_taken, taken_more, each_more, blank_more}
 use Rattle.query.proofs.StandingLaws.{PartsSoFar, parts_start, parts_on, parts_all}
@@ -96,19 +95,19 @@ pub record ConditionRead (b : Book) (m : Limits) (s : Bytes) (c : Clause) (ps : 
 
 -- the clauses found so far, and the parts of their text values
 abbrev pub clauses_of : Book → Bytes → Clauses → List Clause
-clauses_of b s r = map (λ c. clause_in b s c.condition) (take r.count r.clauses)
+clauses_of b s r = map (λ c. clause_in b s c.condition) (take r.count r.items)
 
 abbrev pub value_parts_of : Clauses → List Part
-value_parts_of r = joined (λ c. condition_parts c.condition) (take r.count r.clauses)
+value_parts_of r = joined (λ c. condition_parts c.condition) (take r.count r.items)
 
 -- r are these clauses, by numbers
 pub record ClausesRead (b : Book) (m : Limits) (s : Bytes) (cs : List Clause) (r : Clauses) : Type 0 where
   pub few : r.count ≤ 32
-  pub sized : length r.clauses ≡ 32
+  pub sized : length r.items ≡ 32
   pub is : clauses_of b s r ≡ cs
-  pub each : (i : ℕ) → i < r.count → ConditionFits m (get_or r.clauses i no_clause).condition
-  pub told : AllTold b cs (take r.count r.clauses)
-  pub blank : Blank 32 no_clause r.count r.clauses
+  pub each : (i : ℕ) → i < r.count → ConditionFits m (get_or r.items i no_clause).condition
+  pub told : AllTold b cs (take r.count r.items)
+  pub blank : Blank 32 no_clause r.count r.items
 
 -- r are the clauses with more behind them, their text values at more parts
 pub record MoreClauses (b : Book) (m : Limits) (s : Bytes) (old : Clauses) (more : List Clause) (ps : List Part) (r : Clauses) : Type 0 where
@@ -281,19 +280,19 @@ module _ (b : Book) (m : Limits) (s : Bytes) (old : Clauses) (h : ClausesRead b 
   clauses_same = record { read = rw (append-nil (clauses_of b s old)) h; parts = sym (append-nil (value_parts_of old)) }
 
   pub clause_more : {x : Clause} {ps : List Part} {k z : ConditionData} → old.count < 32 → k ≡ z → ConditionRead b m s x ps z
-      → MoreClauses b m s old (x ∷ []) ps (record { clauses = set old.clauses old.count (record { condition = k }); count = old.count + 1 })
+      → MoreClauses b m s old (x ∷ []) ps (record { items = set old.items old.count (record { condition = k }); count = old.count + 1 })
   clause_more {x} {ps} {k} {z} room e h-z = let q = subst (ConditionRead b m s x ps) (sym e) h-z in record {
     read = record {
       few = omega arith;
-      sized = length-set old.clauses old.count new ∙ h.sized;
-      is = taken_more say old.clauses old.count new inside ∙ ap (λ z. clauses_of b s old ++ (z ∷ [])) q.is;
-      each = each_more (λ (c : ClauseData). ConditionFits m c.condition) no_clause old.clauses old.count new inside h.each q.fits;
-      told = rw (add-one, take-suc-set old.clauses old.count new inside)
-          (all_told_more b (clauses_of b s old) (take old.count old.clauses) x new h.told q.told);
-      blank = blank_more 32 no_clause old.clauses old.count new room h.blank;
+      sized = length-set old.items old.count new ∙ h.sized;
+      is = taken_more say old.items old.count new inside ∙ ap (λ z. clauses_of b s old ++ (z ∷ [])) q.is;
+      each = each_more (λ (c : ClauseData). ConditionFits m c.condition) no_clause old.items old.count new inside h.each q.fits;
+      told = rw (add-one, take-suc-set old.items old.count new inside)
+          (all_told_more b (clauses_of b s old) (take old.count old.items) x new h.told q.told);
+      blank = blank_more 32 no_clause old.items old.count new room h.blank;
     };
-    parts = rw (add-one, take-suc-set old.clauses old.count new inside)
-        (joined_end (λ (c : ClauseData). condition_parts c.condition) (take old.count old.clauses) new ∙ ap (λ l. value_parts_of old ++ l) q.parts);
+    parts = rw (add-one, take-suc-set old.items old.count new inside)
+        (joined_end (λ (c : ClauseData). condition_parts c.condition) (take old.count old.items) new ∙ ap (λ l. value_parts_of old ++ l) q.parts);
   }
     where
       new : ClauseData
@@ -302,7 +301,7 @@ module _ (b : Book) (m : Limits) (s : Bytes) (old : Clauses) (h : ClausesRead b 
       say : ClauseData → Clause
       say c = clause_in b s c.condition
 
-      inside : old.count < length old.clauses
+      inside : old.count < length old.items
       inside = omega (arith, h.sized)
 
 -- the clauses found from the text's start to a place, and those of the pieces behind it
@@ -327,18 +326,18 @@ module _ (b : Book) (m : Limits) (s : Bytes) (vs es : List Bytes) (from : Place)
     parts = parts_start value_part s from e;
   })
 
-  module _ (h : ClausesSoFar b m s vs es from r) (p : PieceRead) (step : StepAt s from p) where
-    pub clauses_all : (t : Bool) → p ≡ read.None t → ClausesRead b m s (map (clause_of vs es) (conditions_in (text_pieces s))) r
+  module _ (h : ClausesSoFar b m s vs es from r) (p : Result Step Bool) (step : StepAt s from p) where
+    pub clauses_all : (t : Bool) → p ≡ Err t → ClausesRead b m s (map (clause_of vs es) (conditions_in (text_pieces s))) r
     unfolding joined
     clauses_all t e = subst (λ z. ClausesRead b m s z r)
         (sym (append-nil (clauses_of b s r)) ∙ ap (λ l. clauses_of b s r ++ map (clause_of vs es) (conditions_in l)) (sym (step_none s from p step t e))
         ∙ h.rest) h.read
 
-    pub value_parts_all : (t : Bool) → p ≡ read.None t → (walk_at s text_start).whole ≡ true → value_parts_of r ≡ value_parts s
+    pub value_parts_all : (t : Bool) → p ≡ Err t → (walk_at s text_start).whole ≡ true → value_parts_of r ≡ value_parts s
     unfolding value_parts
     value_parts_all t e k = parts_all value_part s from (value_parts_of r) h.parts p step t e k
 
-    module _ (x : Step) (e : p ≡ read.Found x) where
+    module _ (x : Step) (e : p ≡ Ok x) where
       abbrev here : List Condition
       here = condition_in (piece_of s x.piece)
 
@@ -356,7 +355,7 @@ module _ (b : Book) (m : Limits) (s : Bytes) (vs es : List Bytes) (from : Place)
       clauses_room l = omega (
         arith,
         room_for (clauses_of b s r) (map (clause_of vs es) here) (map (clause_of vs es) later) ahead,
-        length_taken (λ (c : ClauseData). clause_in b s c.condition) r.clauses r.count (omega (arith, h.read.few, h.read.sized)),
+        length_taken (λ (c : ClauseData). clause_in b s c.condition) r.items r.count (omega (arith, h.read.few, h.read.sized)),
         length_map (clause_of vs es) here,
         length_map (clause_of vs es) (conditions_in (text_pieces s)),
       )

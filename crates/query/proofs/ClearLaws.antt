@@ -34,7 +34,7 @@ use Rattle.query_pieces.specs.Walk.{stopped, ahead, or_stopped, ends_well, walk,
 use Rattle.query_pieces.specs.Named.{vertex_in, edge_in, return_in, condition_in, vertices_in, edges_in, returns_in, conditions_in, links_from}
 use Rattle.query_pieces.specs.Faults.{some_where, undeclared_at, twice_at, mistyped_at, from_itself_at}
 use Rattle.query_pieces.specs.Steps.{walk_at, spot_of, chain_at}
-use Rattle.query_pieces.proofs.Walks.{kept, pieces_are_walked}
+use Rattle.query_pieces.proofs.Walks.{pieces_are_walked}
 use Rattle.query_pieces.proofs.Trees.{tree_names, returns_same}
 use Rattle.model.proofs.Places.{joined_append, joined_end}
 use Rattle.query_pieces.proofs.Tests.{vertex_names_law, edge_names_law, twice_found, mem_firsts}

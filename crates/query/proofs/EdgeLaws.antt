@@ -9,6 +9,7 @@ use mathlib.Core.Bool.{Bool, true, false}
 use native.Mathlib.Omega.{arith}
 use lib.ListN.{length, get_or, take, set, length-set, length-map}
 use lib.Seq.{get_or-take, length-take-le}
+use Rattle.std.specs.Prelude.{Result, Ok, Err}
 use Rattle.model.specs.Bytes.{Bytes}
 use Rattle.model.specs.Lists.{joined}
 use Rattle.model.specs.Names.{place}
@@ -33,8 +34,6 @@ use Rattle.query_pieces.specs.Steps.{piece_of, piece_standing, walk_at, standing
 use Rattle.query_pieces.specs.declared.Place.{Place}
 use Rattle.query_pieces.specs.declared.Link.{Link}
 use Rattle.query_pieces.specs.declared.Step.{Step}
-use Rattle.query_pieces.specs.declared.PieceRead.{PieceRead}
-use Rattle.query_pieces.specs.declared.PieceRead.TheVariants as read
 use Rattle.query_survey.specs.Names.{text_start, found_at, text_pieces}
 use Rattle.query_survey.proofs.ScanLaws.{step_list, step_none}
 use Rattle.query_faults.proofs.FaultLaws.{text_ordered}
@@ -42,8 +41,8 @@ use Rattle.book_tables.specs.Layout.{label_names}
 use Rattle.book_tables.specs.View.{book_at}
 use Rattle.book_tables.specs.declared.BookCounts.{BookCounts}
 use Rattle.book_tables.proofs.NameLaws.{length_names}
-use Rattle.query.specs.declared.vertices.Vertices.{Vertices}
-use Rattle.query.specs.declared.edges.Edges.{Edges}
+use Rattle.query.specs.Vertices.{Vertices}
+use Rattle.query.specs.Edges.{Edges}
 use Rattle.query.specs.Edges.{edge_names_of, EdgesInside, no_edges, edge_made}
 use Rattle.query.proofs.ArrayLaws.{Blank, room_for, length_taken, taken_more, blank_more, label_declared}
 use Rattle.query.proofs.StandingLaws.{PartsSoFar, parts_start, parts_on, parts_all, each_at, each_of, each_front, edges_end}
@@ -79,17 +78,17 @@ edges_between b last own (returns v) = []
 
 -- the edges found, by their numbers
 abbrev pub numbered_of : Bytes → Edges → List Numbered
-numbered_of s r = map (numbered_in s) (take r.count r.edges)
+numbered_of s r = map (numbered_in s) (take r.count r.items)
 
 -- the parts of their variables
 abbrev pub edge_parts_of : Edges → List Part
-edge_parts_of r = map (λ e. e.name) (take r.count r.edges)
+edge_parts_of r = map (λ e. e.name) (take r.count r.items)
 
 -- the edges found are no more than there is room for
 pub record Stored (r : Edges) : Type 0 where
-  pub room : length r.edges ≡ 16
+  pub room : length r.items ≡ 16
   pub few : r.count ≤ 16
-  pub blank : Blank 16 no_edge r.count r.edges
+  pub blank : Blank 16 no_edge r.count r.items
 
 -- r are the edges with more behind them, their variables at more parts
 pub record MoreEdges (s : Bytes) (edges : Edges) (more : List Numbered) (ps : List Part) (r : Edges) : Type 0 where
@@ -106,14 +105,14 @@ pub record EdgeStands (c : BookCounts) (vertices : Vertices) (e : EdgeData) : Ty
 
 -- r are the edges of a text; of a whole one, each variable stands at its place
 pub record EdgesRead (b : Book) (c : BookCounts) (s : Bytes) (vertices : Vertices) (r : Edges) : Type 0 where
-  pub is : map (edge_in b s) (take r.count r.edges) ≡ map (edge_of (vertex_names_in s)) (links_from [] (text_pieces s))
+  pub is : map (edge_in b s) (take r.count r.items) ≡ map (edge_of (vertex_names_in s)) (links_from [] (text_pieces s))
   pub few : r.count ≤ 16
   pub counted : r.count ≡ length (links_from [] (text_pieces s))
-  pub each : (i : ℕ) → i < r.count → EdgeStands c vertices (get_or r.edges i no_edge)
+  pub each : (i : ℕ) → i < r.count → EdgeStands c vertices (get_or r.items i no_edge)
   pub stored : Stored r
   pub parts : (walk_at s text_start).whole ≡ true → edge_parts_of r ≡ edge_parts s
   pub inside : EdgesInside s r
-  pub told : edges_data b (edge_parts_of r) (map (edge_of (vertex_names_in s)) (links_from [] (text_pieces s))) ≡ take r.count r.edges
+  pub told : edges_data b (edge_parts_of r) (map (edge_of (vertex_names_in s)) (links_from [] (text_pieces s))) ≡ take r.count r.items
 
 -- no edge more, or one
 module _ (s : Bytes) (edges : Edges) (h : Stored edges) where
@@ -127,17 +126,17 @@ module _ (s : Bytes) (edges : Edges) (h : Stored edges) where
 
   pub link_more : (b : Book) (link : Link) (from to : ℕ) (x : EdgeData) → x ≡ edge_made b s link from to → edges.count < 16
       → MoreEdges s edges (numbered b (name_at s link.edge) (name_at s link.label) from to ∷ []) (link.edge ∷ [])
-      (record { edges = set edges.edges edges.count x; count = edges.count + 1 })
+      (record { items = set edges.items edges.count x; count = edges.count + 1 })
   unfolding numbered_in numbered
-  link_more b link from to x e room = let inside : edges.count < length edges.edges = omega (arith, h.room) in record {
+  link_more b link from to x e room = let inside : edges.count < length edges.items = omega (arith, h.room) in record {
     stored = record {
-      room = length-set edges.edges edges.count x ∙ h.room;
+      room = length-set edges.items edges.count x ∙ h.room;
       few = omega arith;
-      blank = blank_more 16 no_edge edges.edges edges.count x room h.blank;
+      blank = blank_more 16 no_edge edges.items edges.count x room h.blank;
     };
-    is = taken_more (numbered_in s) edges.edges edges.count x inside ∙ ap (λ (y : EdgeData). numbered_of s edges ++ (numbered_in s y ∷ [])) e;
-    parts = taken_more (λ (y : EdgeData). y.name) edges.edges edges.count x inside ∙ ap (λ (y : EdgeData). edge_parts_of edges ++ (y.name ∷ [])) e;
-    names = taken_more (λ (y : EdgeData). name_at s y.name) edges.edges edges.count x inside
+    is = taken_more (numbered_in s) edges.items edges.count x inside ∙ ap (λ (y : EdgeData). numbered_of s edges ++ (numbered_in s y ∷ [])) e;
+    parts = taken_more (λ (y : EdgeData). y.name) edges.items edges.count x inside ∙ ap (λ (y : EdgeData). edge_parts_of edges ++ (y.name ∷ [])) e;
+    names = taken_more (λ (y : EdgeData). name_at s y.name) edges.items edges.count x inside
         ∙ ap (λ (y : EdgeData). edge_names_of s edges ++ (name_at s y.name ∷ [])) e;
   }
 
@@ -181,11 +180,11 @@ pub edges_inside : {b : Book} {s : Bytes} {vs : List Bytes} {from : Place} {last
 unfolding edge_parts
 edges_inside {s = s} {from = from} {edges = edges} so = record {
   few = so.stored.few;
-  inside = λ i l. subst (λ (x : EdgeData). HasPart s x.name) (get_or-take edges.count edges.edges i no_edge l)
-      (each_at (λ (x : EdgeData). HasPart s x.name) no_edge (take edges.count edges.edges)
-      (each_of (HasPart s) (λ (x : EdgeData). x.name) (take edges.count edges.edges)
+  inside = λ i l. subst (λ (x : EdgeData). HasPart s x.name) (get_or-take edges.count edges.items i no_edge l)
+      (each_at (λ (x : EdgeData). HasPart s x.name) no_edge (take edges.count edges.items)
+      (each_of (HasPart s) (λ (x : EdgeData). x.name) (take edges.count edges.items)
       (each_front (HasPart s) (edge_parts_of edges) (joined edge_part (standings_at s from)) (subst (Each (HasPart s)) (sym so.parts.rest) (edges_end s))).0) i
-      (omega (arith, length-take-le edges.count edges.edges (omega (arith, so.stored.few, so.stored.room)))));
+      (omega (arith, length-take-le edges.count edges.items (omega (arith, so.stored.few, so.stored.room)))));
 }
 
 pub edges_start : (b : Book) (s : Bytes) (vs : List Bytes) (from : Place) (last : ℕ) (edges : Edges) → from ≡ text_start → edges ≡ no_edges
@@ -196,9 +195,9 @@ edges_start b s vs from last edges e f = subst (λ (r : Edges). EdgesSoFar b s v
   parts = parts_start edge_part s from e;
 })
 
-module _ (b : Book) (s : Bytes) (vs : List Bytes) (from : Place) (last : ℕ) (edges : Edges) (so : EdgesSoFar b s vs from last edges) (r : PieceRead)
+module _ (b : Book) (s : Bytes) (vs : List Bytes) (from : Place) (last : ℕ) (edges : Edges) (so : EdgesSoFar b s vs from last edges) (r : Result Step Bool)
     (h : StepAt s from r) where
-  module _ (x : Step) (e : r ≡ read.Found x) (own : ℕ) (f : own ≡ number_after vs last (vertex_in (piece_of s x.piece))) where
+  module _ (x : Step) (e : r ≡ Ok x) (own : ℕ) (f : own ≡ number_after vs last (vertex_in (piece_of s x.piece))) where
     ahead : (numbered_of s edges ++ edges_between b last own (piece_of s x.piece)) ++ edges_from b vs own (found_at s x.next)
         ≡ map (link_numbered b vs) (links_from [] (text_pieces s))
     unfolding edges_from
@@ -212,7 +211,7 @@ module _ (b : Book) (s : Bytes) (vs : List Bytes) (from : Place) (last : ℕ) (e
       arith,
       room_for (numbered_of s edges) (edges_between b last own (piece_of s x.piece)) (edges_from b vs own (found_at s x.next)) ahead,
       length-map (links_from [] (text_pieces s)) (link_numbered b vs),
-      length_taken (numbered_in s) edges.edges edges.count (omega (arith, so.stored.few, so.stored.room)),
+      length_taken (numbered_in s) edges.items edges.count (omega (arith, so.stored.few, so.stored.room)),
     )
 
     pub edges_on : (more : Edges) → MoreEdges s edges (edges_between b last own (piece_of s x.piece)) (joined edge_part (piece_standing x.piece)) more
@@ -223,11 +222,11 @@ module _ (b : Book) (s : Bytes) (vs : List Bytes) (from : Place) (last : ℕ) (e
       parts = parts_on edge_part s from (edge_parts_of edges) so.parts r h x e (edge_parts_of more) m.parts;
     }
 
-  pub edges_all : (w : Bool) → r ≡ read.None w → numbered_of s edges ≡ map (link_numbered b vs) (links_from [] (text_pieces s))
+  pub edges_all : (w : Bool) → r ≡ Err w → numbered_of s edges ≡ map (link_numbered b vs) (links_from [] (text_pieces s))
   unfolding edges_from
   edges_all w e = sym (append-nil (numbered_of s edges)) ∙ ap (λ ps. numbered_of s edges ++ edges_from b vs last ps) (sym (step_none s from r h w e)) ∙ so.rest
 
-  pub edge_parts_all : (w : Bool) → r ≡ read.None w → (walk_at s text_start).whole ≡ true → edge_parts_of edges ≡ edge_parts s
+  pub edge_parts_all : (w : Bool) → r ≡ Err w → (walk_at s text_start).whole ≡ true → edge_parts_of edges ≡ edge_parts s
   unfolding edge_parts
   edge_parts_all w e k = parts_all edge_part s from (edge_parts_of edges) so.parts r h w e k
 
@@ -302,19 +301,19 @@ module _ (book : Bytes) (words : List ℕ) (c : BookCounts) (s : Bytes) (vertice
   label_there : (e : ChainEdge) → e ∈ links → e.label ∈ b.labels
   label_there = label_declared b (text_pieces s) (text_ordered s) declared
 
-  all_named : map (edge_in b s) (take edges.count edges.edges) ≡ map (edge_of vs) links
+  all_named : map (edge_in b s) (take edges.count edges.items) ≡ map (edge_of vs) links
   unfolding edge_named edge_in numbered_in link_numbered numbered edge_of
   all_named =
-      sym (map_to (edge_named b) (numbered_in s) (edge_in b s) (take edges.count edges.edges) (λ x m. refl)) ∙ ap (map (edge_named b)) all-numbered
+      sym (map_to (edge_named b) (numbered_in s) (edge_in b s) (take edges.count edges.items) (λ x m. refl)) ∙ ap (map (edge_named b)) all-numbered
       ∙ map_to (edge_named b) (link_numbered b vs) (edge_of vs) links
       (λ e m. ap (λ l. record { name = e.name; label = l; from = place e.from vs; to = place e.to vs })
       (at_place b.labels e.label (label_there e m)).1)
 
-  in_array : edges.count ≤ length edges.edges
+  in_array : edges.count ≤ length edges.items
   in_array = omega (arith, stored.few, stored.room)
 
   edges_counted : edges.count ≡ length links
-  edges_counted = sym (length_taken (numbered_in s) edges.edges edges.count in_array) ∙ ap length all-numbered ∙ length-map links (link_numbered b vs)
+  edges_counted = sym (length_taken (numbered_in s) edges.items edges.count in_array) ∙ ap length all-numbered ∙ length-map links (link_numbered b vs)
 
   module _ (i : ℕ) (l : i < edges.count) where
     abbrev link : ChainEdge
@@ -323,14 +322,14 @@ module _ (book : Bytes) (words : List ℕ) (c : BookCounts) (s : Bytes) (vertice
     link_in : link ∈ links
     link_in = get_or_in links i no_link (omega (arith, edges_counted))
 
-    link_at : numbered_in s (get_or edges.edges i no_edge) ≡ link_numbered b vs link
+    link_at : numbered_in s (get_or edges.items i no_edge) ≡ link_numbered b vs link
     link_at =
-        sym (get_or_map (numbered_in s) (take edges.count edges.edges) i no_edge (numbered_in s no_edge)
-        (omega (arith, length-take-le edges.count edges.edges in_array)) ∙ ap (numbered_in s) (get_or-take edges.count edges.edges i no_edge l))
+        sym (get_or_map (numbered_in s) (take edges.count edges.items) i no_edge (numbered_in s no_edge)
+        (omega (arith, length-take-le edges.count edges.items in_array)) ∙ ap (numbered_in s) (get_or-take edges.count edges.items i no_edge l))
         ∙ ap (λ z. get_or z i (numbered_in s no_edge)) all-numbered
         ∙ get_or_map (link_numbered b vs) links i no_link (numbered_in s no_edge) (omega (arith, edges_counted))
 
-    edge_stands : EdgeStands c vertices (get_or edges.edges i no_edge)
+    edge_stands : EdgeStands c vertices (get_or edges.items i no_edge)
     unfolding numbered_in link_numbered numbered
     edge_stands =
         let ends = ends_all (text_pieces s) (text_ordered s) link link_in in
@@ -355,5 +354,5 @@ module _ (book : Bytes) (words : List ℕ) (c : BookCounts) (s : Bytes) (vertice
     stored = stored;
     parts = parts;
     inside = there;
-    told = edges_data_law b s vs (take edges.count edges.edges) links all-numbered;
+    told = edges_data_law b s vs (take edges.count edges.items) links all-numbered;
   }

@@ -20,7 +20,6 @@ use Rattle.model.specs.declared.Value.TheVariants.{Number, Text, Truth}
 use Rattle.model.specs.declared.Condition.{Condition}
 use Rattle.model.specs.declared.Condition.TheVariants.{Excluded, OfVertex, OfEdge}
 use Rattle.model.specs.declared.Clause.{Clause}
-use Rattle.model.specs.declared.Pattern.{Pattern}
 use Rattle.model.proofs.Members.{◌∈◌, map_i, map_e}
 use Rattle.model.proofs.Places.{get_or_in, length_map}
 use Rattle.book_tables.specs.declared.BookCounts.{BookCounts}
@@ -34,10 +33,10 @@ use Rattle.query_faults.proofs.FaultLaws.{query_of, text_ordered}
 use Rattle.query_writer.specs.Writable.{Limits, count_limits, ConditionFits}
 use Rattle.model.specs.PlainData.{no_part, no_edge, no_clause, NameFits, ValueFits, ConditionFits as WordsHold, PatternFits as WordsFit, ValueWithin}
 use Rattle.model.specs.PlainData.{ConditionWithin}
-use Rattle.query.specs.declared.vertices.Vertices.{Vertices}
-use Rattle.query.specs.declared.edges.Edges.{Edges}
-use Rattle.query.specs.declared.clauses.Clauses.{Clauses}
-use Rattle.query.specs.declared.returns.Returns.{Returns}
+use Rattle.query.specs.Vertices.{Vertices}
+use Rattle.query.specs.Edges.{Edges}
+use Rattle.query.specs.Clauses.{Clauses}
+use Rattle.query.specs.Returns.{Returns}
 use Rattle.query.specs.PatternRead.{PatternAsked, PatternRead, pattern_made}
 use Rattle.query.proofs.ArrayLaws.{length_taken, blank_padded}
 use Rattle.query.proofs.VertexLaws.{vertex_names_in, Found, VerticesRead, found_counted}
@@ -110,10 +109,10 @@ module _ (book : Bytes) (words : List ℕ) (c : BookCounts) (s : Bytes) (asked :
         returns = same_returns i;
       }
         where
-          same_edges : map (edge_in b s) (take e.count e.edges) ≡ map (edge_of (vertex_names (query_of s))) (edges_of (query_of s))
+          same_edges : map (edge_in b s) (take e.count e.items) ≡ map (edge_of (vertex_names (query_of s))) (edges_of (query_of s))
           same_edges = rw (vertex_names_law (text_pieces s) (text_ordered s), (tree_names (text_pieces s) (text_ordered s)).edges_same) links.is
 
-          same_clauses : map (λ c. clause_in b s c.condition) (take k.count k.clauses)
+          same_clauses : map (λ c. clause_in b s c.condition) (take k.count k.items)
               ≡ map (clause_of (vertex_names (query_of s)) (edge_names (query_of s))) (conditions_of (query_of s))
           same_clauses = rw (
             vertex_names_law (text_pieces s) (text_ordered s),
@@ -122,50 +121,50 @@ module _ (book : Bytes) (words : List ℕ) (c : BookCounts) (s : Bytes) (asked :
                 (text_ordered s)).conditions_same,
           ) conditions.is
 
-          same_returns : take r.count r.numbers ≡ map (λ x. Rattle.model.specs.Names.place x (vertex_names (query_of s))) (query_of s).returns
+          same_returns : take r.count r.items ≡ map (λ x. Rattle.model.specs.Names.place x (vertex_names (query_of s))) (query_of s).returns
           same_returns = rw (vertex_names_law (text_pieces s) (text_ordered s), returns_same (text_pieces s)) returned.is
 
       -- as many edge variables as edges
       edge_count : length (text_edges s) ≡ e.count
       edge_count = ap length (sym (link_names [] (text_pieces s))) ∙ length_map (λ (x : ChainEdge). x.name) (links_from [] (text_pieces s)) ∙ sym links.counted
 
-      clause_fits : (i : ℕ) → i < k.count → ConditionFits (count_limits c (pattern_made v e k r)) (get_or k.clauses i no_clause).condition
+      clause_fits : (i : ℕ) → i < k.count → ConditionFits (count_limits c (pattern_made v e k r)) (get_or k.items i no_clause).condition
       clause_fits i l = rw (found_counted s v (vertex_names_in s) found, edge_count) at (conditions.each i l)
 
-      vertex_named : (i : ℕ) → i < v.count → Short (name_at s (get_or v.parts i no_part))
+      vertex_named : (i : ℕ) → i < v.count → Short (name_at s (get_or v.items i no_part))
       vertex_named i l = vertex_short b s clear asked.allowed _
-          (subst (λ x. name_at s (get_or v.parts i no_part) ∈ x) found.named
-          (taken_in (name_at s) v.parts v.count i no_part (omega (arith, found.within, found.size)) l))
+          (subst (λ x. name_at s (get_or v.items i no_part) ∈ x) found.named
+          (taken_in (name_at s) v.items v.count i no_part (omega (arith, found.within, found.size)) l))
 
-      edge_named_law : (i : ℕ) → i < e.count → Short (name_at s (get_or e.edges i no_edge).name)
+      edge_named_law : (i : ℕ) → i < e.count → Short (name_at s (get_or e.items i no_edge).name)
       unfolding edge_in edge_of
       edge_named_law i l =
           let m = map_e (edge_of (vertex_names_in s)) (links_from [] (text_pieces s)) _
-          (subst (λ x. edge_in b s (get_or e.edges i no_edge) ∈ x) links.is
-          (taken_in (edge_in b s) e.edges e.count i no_edge (omega (arith, links.few, links.stored.room)) l)) in
+          (subst (λ x. edge_in b s (get_or e.items i no_edge) ∈ x) links.is
+          (taken_in (edge_in b s) e.items e.count i no_edge (omega (arith, links.few, links.stored.room)) l)) in
           let n = subst (λ x. m.0.name ∈ x) (link_names [] (text_pieces s)) (map_i (λ (x : ChainEdge). x.name) (links_from [] (text_pieces s)) m.0 m.1) in
           edge_short b s clear asked.allowed _ (subst (λ x. x ∈ edges_in (text_pieces s)) (sym (ap (λ (x : Edge). x.name) m.2)) n)
 
-      clause_named : (i : ℕ) → i < k.count → ShortClause (clause_in b s (get_or k.clauses i no_clause).condition)
+      clause_named : (i : ℕ) → i < k.count → ShortClause (clause_in b s (get_or k.items i no_clause).condition)
       clause_named i l = clause_short b s clear asked.allowed (vertex_names_in s) (text_edges s) _
-          (subst (λ x. clause_in b s (get_or k.clauses i no_clause).condition ∈ x) conditions.is
-          (taken_in (λ (x : Clause). clause_in b s x.condition) k.clauses k.count i no_clause (omega (arith, conditions.few, conditions.sized)) l))
+          (subst (λ x. clause_in b s (get_or k.items i no_clause).condition ∈ x) conditions.is
+          (taken_in (λ (x : Clause). clause_in b s x.condition) k.items k.count i no_clause (omega (arith, conditions.few, conditions.sized)) l))
 
       -- names and text values stand inside the text
-      vertex_inside : (i : ℕ) → i < v.count → Inside s (get_or v.parts i no_part)
-      vertex_inside i l = part_inside s (get_or v.parts i no_part) (vertices.inside.inside i l)
+      vertex_inside : (i : ℕ) → i < v.count → Inside s (get_or v.items i no_part)
+      vertex_inside i l = part_inside s (get_or v.items i no_part) (vertices.inside.inside i l)
 
-      edge_inside : (i : ℕ) → i < e.count → Inside s (get_or e.edges i no_edge).name
-      edge_inside i l = part_inside s (get_or e.edges i no_edge).name (links.inside.inside i l)
+      edge_inside : (i : ℕ) → i < e.count → Inside s (get_or e.items i no_edge).name
+      edge_inside i l = part_inside s (get_or e.items i no_edge).name (links.inside.inside i l)
 
-      clause_ends : (i : ℕ) → i < k.count → Each (EndsBefore s) (condition_parts (get_or k.clauses i no_clause).condition)
+      clause_ends : (i : ℕ) → i < k.count → Each (EndsBefore s) (condition_parts (get_or k.items i no_clause).condition)
       clause_ends i l =
-          let in_taken : i < length (take k.count k.clauses) = omega
-          (arith, length-take-le k.count k.clauses (omega (arith, conditions.few, conditions.sized))) in
-          let ends = each_joined (EndsBefore s) (λ (x : Clause). condition_parts x.condition) (take k.count k.clauses)
+          let in_taken : i < length (take k.count k.items) = omega
+          (arith, length-take-le k.count k.items (omega (arith, conditions.few, conditions.sized))) in
+          let ends = each_joined (EndsBefore s) (λ (x : Clause). condition_parts x.condition) (take k.count k.items)
           (subst (Each (EndsBefore s)) (sym (clauses.parts clear.whole)) (values_end s)) in
-          subst (λ (x : Clause). Each (EndsBefore s) (condition_parts x.condition)) (get_or-take k.count k.clauses i no_clause l)
-          (each_at (λ (x : Clause). Each (EndsBefore s) (condition_parts x.condition)) no_clause (take k.count k.clauses) ends i in_taken)
+          subst (λ (x : Clause). Each (EndsBefore s) (condition_parts x.condition)) (get_or-take k.count k.items i no_clause l)
+          (each_at (λ (x : Clause). Each (EndsBefore s) (condition_parts x.condition)) no_clause (take k.count k.items) ends i in_taken)
 
       -- every slot is the model's
       whole_pattern : pattern_made v e k r ≡ query_data b s (pattern_in b s (pattern_made v e k r))
@@ -174,31 +173,31 @@ module _ (book : Bytes) (words : List ℕ) (c : BookCounts) (s : Bytes) (asked :
         vertices = all_vertices i;
         edges = all_edges i;
         clauses = all_clauses i;
-        returns = blank_padded 4 0 r.numbers r.count (omega (arith, returned.listed.few, returned.listed.room)) returned.listed.blank i;
+        returns = blank_padded 4 0 r.items r.count (omega (arith, returned.listed.few, returned.listed.room)) returned.listed.blank i;
         counts = all_counts i;
       }
         where
-          all_vertices : v.parts ≡ padded 8 no_part (vertex_parts s)
-          all_vertices = blank_padded 8 no_part v.parts v.count (omega (arith, found.within, found.size)) found.blank
+          all_vertices : v.items ≡ padded 8 no_part (vertex_parts s)
+          all_vertices = blank_padded 8 no_part v.items v.count (omega (arith, found.within, found.size)) found.blank
               ∙ ap (padded 8 no_part) (vertices.parts clear.whole)
 
-          all_edges : e.edges ≡ padded 16 no_edge (edges_data b (edge_parts s) (map (edge_in b s) (take e.count e.edges)))
+          all_edges : e.items ≡ padded 16 no_edge (edges_data b (edge_parts s) (map (edge_in b s) (take e.count e.items)))
           all_edges =
-              blank_padded 16 no_edge e.edges e.count (omega (arith, links.few, links.stored.room)) links.stored.blank
+              blank_padded 16 no_edge e.items e.count (omega (arith, links.few, links.stored.room)) links.stored.blank
               ∙ ap (padded 16 no_edge) (sym links.told ∙ ap₂ (edges_data b) (links.parts clear.whole) (sym links.is))
 
-          all_clauses : k.clauses ≡ padded 32 no_clause (clauses_data b (value_parts s) (map (λ c. clause_in b s c.condition) (take k.count k.clauses)))
+          all_clauses : k.items ≡ padded 32 no_clause (clauses_data b (value_parts s) (map (λ c. clause_in b s c.condition) (take k.count k.items)))
           all_clauses =
-              blank_padded 32 no_clause k.clauses k.count (omega (arith, conditions.few, conditions.sized)) conditions.blank
-              ∙ ap (padded 32 no_clause) (sym (clauses_data_law b (text_clauses s) (take k.count k.clauses) conditions.told)
+              blank_padded 32 no_clause k.items k.count (omega (arith, conditions.few, conditions.sized)) conditions.blank
+              ∙ ap (padded 32 no_clause) (sym (clauses_data_law b (text_clauses s) (take k.count k.items) conditions.told)
               ∙ ap₂ (clauses_data b) (clauses.parts clear.whole) (sym conditions.is))
 
           all_counts : (pattern_made v e k r).counts ≡ (query_data b s (pattern_in b s (pattern_made v e k r))).counts
           all_counts = λ i. record {
-            vertices = sym (length_taken (name_at s) v.parts v.count (omega (arith, found.within, found.size))) i;
-            edges = sym (length_taken (edge_in b s) e.edges e.count (omega (arith, links.few, links.stored.room))) i;
-            clauses = sym (length_taken (λ c. clause_in b s c.condition) k.clauses k.count (omega (arith, conditions.few, conditions.sized))) i;
-            returns = sym (length-take-le r.count r.numbers (omega (arith, returned.listed.few, returned.listed.room))) i;
+            vertices = sym (length_taken (name_at s) v.items v.count (omega (arith, found.within, found.size))) i;
+            edges = sym (length_taken (edge_in b s) e.items e.count (omega (arith, links.few, links.stored.room))) i;
+            clauses = sym (length_taken (λ c. clause_in b s c.condition) k.items k.count (omega (arith, conditions.few, conditions.sized))) i;
+            returns = sym (length-take-le r.count r.items (omega (arith, returned.listed.few, returned.listed.room))) i;
           }
 
       words_fit : (base : ℕ) → base + length s ≤ 65536 → WordsFit base (pattern_made v e k r)
@@ -207,14 +206,14 @@ module _ (book : Bytes) (words : List ℕ) (c : BookCounts) (s : Bytes) (asked :
         few_edges = links.few;
         few_clauses = conditions.few;
         few_returns = returned.listed.few;
-        vertices = λ i l. name_fits s base fit (get_or v.parts i no_part) (vertex_inside i l) (vertex_named i l);
+        vertices = λ i l. name_fits s base fit (get_or v.items i no_part) (vertex_inside i l) (vertex_named i l);
         edges = λ i l. let x = links.each i l in record {
-          name = name_fits s base fit (get_or e.edges i no_edge).name (edge_inside i l) (edge_named_law i l);
+          name = name_fits s base fit (get_or e.items i no_edge).name (edge_inside i l) (edge_named_law i l);
           label = omega (arith, x.label, asked.fits.within.labels);
           from = x.from;
           to = x.to;
         };
-        clauses = λ i l. condition_fits s base fit b (count_limits c (pattern_made v e k r)) (get_or k.clauses i no_clause).condition
+        clauses = λ i l. condition_fits s base fit b (count_limits c (pattern_made v e k r)) (get_or k.items i no_clause).condition
             asked.fits.within.vattrs asked.fits.within.eattrs (clause_fits i l) (clause_ends i l) (clause_named i l);
         returns = returned.each;
       }
@@ -233,7 +232,7 @@ module _ (book : Bytes) (words : List ℕ) (c : BookCounts) (s : Bytes) (asked :
         parts = record {
           vertices = λ i l. (vertex_inside i l).ends;
           edges = λ i l. (edge_inside i l).ends;
-          clauses = λ i l. condition_within s (get_or k.clauses i no_clause).condition (clause_ends i l);
+          clauses = λ i l. condition_within s (get_or k.items i no_clause).condition (clause_ends i l);
         };
         words = words_fit;
         some_return = omega (arith, returned.counted, some_return b s clear);

@@ -5,6 +5,7 @@ use mathlib.Core.List.{List, [], ◌∷◌, ◌++◌, map, append_assoc, append-
 use mathlib.Core.Bool.{Bool, true, false}
 use native.Mathlib.Omega.{arith}
 use lib.ListN.{length, get_or, drop, length-take, length-drop}
+use Rattle.std.specs.Prelude.{Result, Ok, Err}
 use Rattle.model.specs.Bytes.{Bytes}
 use Rattle.model.specs.Choice.{pick, Maybe, nothing, just, and_then}
 use Rattle.model.specs.Lists.{joined}
@@ -24,8 +25,6 @@ use Rattle.query_pieces.specs.Walk.{Walk, stopped, ahead, or_stopped, walk}
 use Rattle.query_pieces.specs.Steps.{spot_of, chain_at, walk_at, standings_at, piece_standing, StepStands, StepAt}
 use Rattle.query_pieces.specs.declared.Place.{Place}
 use Rattle.query_pieces.specs.declared.Step.{Step}
-use Rattle.query_pieces.specs.declared.PieceRead.{PieceRead}
-use Rattle.query_pieces.specs.declared.PieceRead.TheVariants as read
 use Rattle.model.proofs.Places.{joined_append}
 use Rattle.query_survey.specs.Names.{text_start}
 use Rattle.query_survey.proofs.ScanLaws.{step_whole, step_none}
@@ -59,13 +58,13 @@ module _ (s : Bytes) (from : Place) where
   no_standing e w = ap (standings none) (none_placed (chain_at from.spot) from.close 0 from.at (drop from.at s)
       (no_signs_more (spot_of from.spot) (signs_from (chain_at from.spot) from.close s from.at) e w))
 
-  module _ (r : PieceRead) (h : StepAt s from r) where
-    pub parts_found : (f : Standing → List Part) (x : Step) → r ≡ read.Found x
+  module _ (r : Result Step Bool) (h : StepAt s from r) where
+    pub parts_found : (f : Standing → List Part) (x : Step) → r ≡ Ok x
         → joined f (standings_at s from) ≡ joined f (piece_standing x.piece) ++ joined f (standings_at s x.next)
     parts_found f x e = ap (joined f) (subst (StepStands (standings_at s from) s) e h.stands)
         ∙ joined_append f (piece_standing x.piece) (standings_at s x.next)
 
-    pub parts_none : (f : Standing → List Part) (w : Bool) → r ≡ read.None w → (walk_at s from).whole ≡ true → joined f (standings_at s from) ≡ []
+    pub parts_none : (f : Standing → List Part) (w : Bool) → r ≡ Err w → (walk_at s from).whole ≡ true → joined f (standings_at s from) ≡ []
     unfolding joined
     parts_none f w e k = ap (joined f) (no_standing (step_none s from r h w e) k)
 
@@ -78,15 +77,15 @@ module _ (f : Standing → List Part) (s : Bytes) (from : Place) where
   pub parts_start : from ≡ text_start → PartsSoFar f s from []
   parts_start e = subst (λ (p : Place). PartsSoFar f s p []) (sym e) (record { rest = ap (joined f) (text_standing s); whole = refl })
 
-  module _ (parts : List Part) (so : PartsSoFar f s from parts) (r : PieceRead) (h : StepAt s from r) where
-    pub parts_on : (x : Step) → r ≡ read.Found x → (more : List Part) → more ≡ parts ++ joined f (piece_standing x.piece) → PartsSoFar f s x.next more
+  module _ (parts : List Part) (so : PartsSoFar f s from parts) (r : Result Step Bool) (h : StepAt s from r) where
+    pub parts_on : (x : Step) → r ≡ Ok x → (more : List Part) → more ≡ parts ++ joined f (piece_standing x.piece) → PartsSoFar f s x.next more
     parts_on x e more k = record {
       rest = ap (λ l. l ++ joined f (standings_at s x.next)) k ∙ append_assoc parts (joined f (piece_standing x.piece)) (joined f (standings_at s x.next))
           ∙ ap (λ l. parts ++ l) (sym (parts_found s from r h f x e)) ∙ so.rest;
       whole = so.whole ∙ step_whole s from r h x e;
     }
 
-    pub parts_all : (w : Bool) → r ≡ read.None w → (walk_at s text_start).whole ≡ true → parts ≡ joined f (standing_in s)
+    pub parts_all : (w : Bool) → r ≡ Err w → (walk_at s text_start).whole ≡ true → parts ≡ joined f (standing_in s)
     parts_all w e k = sym (append-nil parts) ∙ ap (λ l. parts ++ l) (sym (parts_none s from r h f w e (sym so.whole ∙ k))) ∙ so.rest
 
 -- a part that ends within its text is inside it

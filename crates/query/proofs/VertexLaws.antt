@@ -8,6 +8,7 @@ use native.Mathlib.Numerals.{add-one}
 use lib.ListN.{length, take, get_or, set, length-append, length-set}
 use lib.Seq.{take-suc-set, get_or-take, length-take-le}
 use borrow.Author.Tests.{lt-ltb, le-ltb}
+use Rattle.std.specs.Prelude.{Result, Ok, Err}
 use Rattle.logic.specs.Tests.{either, below_or_not}
 use Rattle.model.specs.Bytes.{Bytes, same}
 use Rattle.model.specs.Choice.{pick}
@@ -24,14 +25,12 @@ use Rattle.query_pieces.specs.Named.{vertex_in, vertices_in}
 use Rattle.query_pieces.specs.Steps.{piece_of, StepAt, piece_standing, walk_at, standings_at}
 use Rattle.query_pieces.specs.declared.Place.{Place}
 use Rattle.query_pieces.specs.declared.Step.{Step}
-use Rattle.query_pieces.specs.declared.PieceRead.{PieceRead}
-use Rattle.query_pieces.specs.declared.PieceRead.TheVariants as read
 use Rattle.query_survey.specs.Names.{text_start, found_at, text_pieces}
 use Rattle.query_survey.proofs.ScanLaws.{mem_append, step_list, step_none, step_whole}
 use Rattle.book_tables.specs.Listed.{listed}
 use Rattle.book_tables.proofs.ListedLaws.{scan_none, scan_on, scan_place, scan_absent, place_end, place_none}
 use Rattle.book_tables.proofs.NameLaws.{equal_same, mem_place}
-use Rattle.query.specs.declared.vertices.Vertices.{Vertices}
+use Rattle.query.specs.Vertices.{Vertices}
 use Rattle.query.specs.Vertices.{parts_of, names_of, VerticesInside, no_vertices, Placed}
 use Rattle.query.proofs.ArrayLaws.{Blank, taken_listed, length_taken, taken_more, blank_more}
 use Rattle.query.proofs.StandingLaws.{text_standing, parts_found, parts_none, each_at, each_seen, vertices_end as all-inside}
@@ -42,10 +41,10 @@ vertex_names_in s = firsts [] (vertices_in (text_pieces s))
 
 -- v are the vertices of these names
 pub record Found (s : Bytes) (v : Vertices) (names : List Bytes) : Type 0 where
-  pub size : length v.parts ≡ 8
+  pub size : length v.items ≡ 8
   pub within : v.count ≤ 8
   pub named : names_of s v ≡ names
-  pub blank : Blank 8 no_part v.count v.parts
+  pub blank : Blank 8 no_part v.count v.items
 
 -- v are the vertices of these names: the old ones, and those that appear first at more parts
 pub record MoreVertices (s : Bytes) (old : Vertices) (more : List Part) (names : List Bytes) (v : Vertices) : Type 0 where
@@ -79,8 +78,8 @@ module _ {A : Type 0} (f : A → Bytes) (d : A) (l : List A) (w : Bytes) where
     number_none k m o h = let e : k ≡ n = omega arith in rw (taken_listed f l d n few) (sym (scan_absent (same w) (λ i. f (get_or l i d)) n (rw e at h)))
 
 -- there are as many names as are counted
-pub names_counted : (s : Bytes) (v : Vertices) → length v.parts ≡ 8 → v.count ≤ 8 → length (names_of s v) ≡ v.count
-names_counted s v size few = length_taken (name_at s) v.parts v.count (omega arith)
+pub names_counted : (s : Bytes) (v : Vertices) → length v.items ≡ 8 → v.count ≤ 8 → length (names_of s v) ≡ v.count
+names_counted s v size few = length_taken (name_at s) v.items v.count (omega arith)
 
 pub found_counted : (s : Bytes) (v : Vertices) (names : List Bytes) → Found s v names → length names ≡ v.count
 found_counted s v names h = sym (ap length h.named) ∙ names_counted s v h.size h.within
@@ -174,18 +173,18 @@ module _ (s : Bytes) (v : Vertices) (h : Found s v (names_of s v)) (name : Part)
     unfolding add_part
     added = rw (place_new w ws (omega (arith, counted)))
 
-    vertex_new : MoreVertices s v (name ∷ []) (add_new ws w) (record { parts = set v.parts v.count name; count = v.count + 1 })
+    vertex_new : MoreVertices s v (name ∷ []) (add_new ws w) (record { items = set v.items v.count name; count = v.count + 1 })
     unfolding first_parts
     vertex_new =
-        let inside : v.count < length v.parts = omega (arith, room, h.size) in
+        let inside : v.count < length v.items = omega (arith, room, h.size) in
         record {
           found = record {
-            size = length-set v.parts v.count name ∙ h.size;
+            size = length-set v.items v.count name ∙ h.size;
             within = omega (arith, room);
-            named = taken_more (name_at s) v.parts v.count name inside ∙ sym grown;
-            blank = blank_more 8 no_part v.parts v.count name room h.blank;
+            named = taken_more (name_at s) v.items v.count name inside ∙ sym grown;
+            blank = blank_more 8 no_part v.items v.count name room h.blank;
           };
-          parts = rw (add-one, take-suc-set v.parts v.count name inside) (sym added);
+          parts = rw (add-one, take-suc-set v.items v.count name inside) (sym added);
         }
 
   -- the number is that of a slot
@@ -221,10 +220,10 @@ vertices_start s from v e f = subst (λ (p : Place). VerticesSoFar s p v) (sym e
 pub vertices_inside : (s : Bytes) (from : Place) (v : Vertices) → VerticesSoFar s from v → VerticesInside s v
 vertices_inside s from v so = record {
   few = so.stored.within;
-  inside = λ i l. subst (HasPart s) (get_or-take v.count v.parts i no_part l)
+  inside = λ i l. subst (HasPart s) (get_or-take v.count v.items i no_part l)
       (each_at (HasPart s) no_part (parts_of v)
       (each_seen (HasPart s) s (parts_of v) (joined vertex_part (standings_at s from)) (subst (Each (HasPart s)) (sym so.parts) (all-inside s))) i
-      (omega (arith, length-take-le v.count v.parts (omega (arith, so.stored.within, so.stored.size)))));
+      (omega (arith, length-take-le v.count v.items (omega (arith, so.stored.within, so.stored.size)))));
 }
 
 first_parts_append : (s : Bytes) (seen a b : List Part) → first_parts s seen (a ++ b) ≡ first_parts s (first_parts s seen a) b
@@ -232,8 +231,8 @@ unfolding first_parts
 first_parts_append s seen [] b = refl
 first_parts_append s seen (p ∷ a) b = first_parts_append s (add_part s seen p) a b
 
-module _ (s : Bytes) (from : Place) (v : Vertices) (so : VerticesSoFar s from v) (r : PieceRead) (h : StepAt s from r) where
-  module _ (x : Step) (e : r ≡ read.Found x) where
+module _ (s : Bytes) (from : Place) (v : Vertices) (so : VerticesSoFar s from v) (r : Result Step Bool) (h : StepAt s from r) where
+  module _ (x : Step) (e : r ≡ Ok x) where
     pub vertices_ahead : firsts (firsts (names_of s v) (vertex_in (piece_of s x.piece))) (vertices_in (found_at s x.next)) ≡ vertex_names_in s
     unfolding joined
     vertices_ahead = sym (firsts_append (names_of s v) (vertex_in (piece_of s x.piece)) (vertices_in (found_at s x.next)))
@@ -258,7 +257,7 @@ module _ (s : Bytes) (from : Place) (v : Vertices) (so : VerticesSoFar s from v)
       whole = so.whole ∙ step_whole s from r h x e;
     }
 
-  pub vertices_end : (w : Bool) → r ≡ read.None w → VerticesRead s v
+  pub vertices_end : (w : Bool) → r ≡ Err w → VerticesRead s v
   unfolding joined firsts_by first_parts
   vertices_end w e = record {
     found = record {

@@ -5,6 +5,7 @@ use mathlib.Core.List.{List, [], ◌∷◌, ◌++◌, map}
 use mathlib.Core.Bool.{Bool, true, false}
 use native.Mathlib.Omega.{arith}
 use lib.ListN.{length, set}
+use Rattle.std.specs.Prelude.{Result, Ok, Err}
 use Rattle.model.specs.Choice.{pick}
 use Rattle.model.specs.Bytes.{Bytes}
 use Rattle.model.specs.Lists.{joined, firsts_by}
@@ -34,18 +35,16 @@ use Rattle.query_pieces.specs.declared.Demand.{Demand}
 use Rattle.query_pieces.specs.declared.Piece.{Piece as PieceData}
 use Rattle.query_pieces.specs.declared.Piece.TheVariants as piece
 use Rattle.query_pieces.specs.declared.Step.{Step}
-use Rattle.query_pieces.specs.declared.PieceRead.{PieceRead}
-use Rattle.query_pieces.specs.declared.PieceRead.TheVariants as read
 use Rattle.query_pieces.proofs.Walks.{walk_ordered}
 use Rattle.query_survey.specs.Names.{text_start, found_at, text_pieces}
 use Rattle.query_survey.proofs.ScanLaws.{step_list}
 use Rattle.query_faults.proofs.FaultLaws.{text_ordered}
 use Rattle.query_faults.proofs.SurveyLaws.{none_behind}
 use Rattle.query_writer.specs.Writable.{Limits}
-use Rattle.query.specs.declared.vertices.Vertices.{Vertices}
-use Rattle.query.specs.declared.edges.Edges.{Edges}
-use Rattle.query.specs.declared.clauses.Clauses.{Clauses}
-use Rattle.query.specs.declared.returns.Returns.{Returns}
+use Rattle.query.specs.Vertices.{Vertices}
+use Rattle.query.specs.Edges.{Edges}
+use Rattle.query.specs.Clauses.{Clauses}
+use Rattle.query.specs.Returns.{Returns}
 use Rattle.query.specs.Vertices.{names_of, no_vertices, Placed}
 use Rattle.query.specs.Edges.{edge_names_of, no_edges, edge_made}
 use Rattle.query.specs.Returns.{no_returns}
@@ -74,7 +73,7 @@ pub record PatternSoFar (book : Bytes) (words : List ℕ) (c : BookCounts) (s : 
   pub scoped : ScopedFrom (book_at book words c) (vertex_names_in s) (text_edges s) (names_of s v) (edge_names_of s e) (found_at s from)
 
 -- the piece that is read lies inside the text
-pub here_inside : {s : Bytes} {from : Place} {p : PieceRead} → StepAt s from p → {x : Step} → p ≡ read.Found x → {q : PieceData} → x.piece ≡ q
+pub here_inside : {s : Bytes} {from : Place} {p : Result Step Bool} → StepAt s from p → {x : Step} → p ≡ Ok x → {q : PieceData} → x.piece ≡ q
     → PieceInside s q
 here_inside {s} step f g = subst (PieceInside s) g (subst (StepInside s) f step.inside)
 
@@ -108,7 +107,7 @@ pattern_start {book} {words} {c} {s} asked {from} f {v} vn {e} en {k} kn {r} rn 
 }
 
 module _ {book : Bytes} {words : List ℕ} {c : BookCounts} {s : Bytes} {from : Place} {last : ℕ} {v : Vertices} {e : Edges} {k : Clauses} {r : Returns}
-    (so : PatternSoFar book words c s from last v e k r) {p : PieceRead} (step : StepAt s from p) where
+    (so : PatternSoFar book words c s from last v e k r) {p : Result Step Bool} (step : StepAt s from p) where
   abbrev b : Book
   b = book_at book words c
 
@@ -127,7 +126,7 @@ module _ {book : Bytes} {words : List ℕ} {c : BookCounts} {s : Bytes} {from : 
   few : Few (text_pieces s)
   few = few_pieces (text_pieces s) (text_ordered s) clear.limited
 
-  pub pattern_end : {w : Bool} → p ≡ read.None w → PatternRead b c s (pattern_made v e k r)
+  pub pattern_end : {w : Bool} → p ≡ Err w → PatternRead b c s (pattern_made v e k r)
   pattern_end {w} f =
       let found = vertices_end s from v so.vertices p step w f in
       pattern_read book words c s so.asked v found e k r
@@ -156,7 +155,7 @@ module _ {book : Bytes} {words : List ℕ} {c : BookCounts} {s : Bytes} {from : 
   returns_kept = returns_same r so.returns.listed
 
   -- a piece further: it is q, and the walk goes on at the next place
-  module _ {q : PieceData} {next : Place} (f : p ≡ read.Found (record { piece = q; next = next })) where
+  module _ {q : PieceData} {next : Place} (f : p ≡ Ok (record { piece = q; next = next })) where
     abbrev x : Step
     x = record { piece = q; next = next }
 
@@ -210,9 +209,9 @@ module _ {book : Bytes} {words : List ℕ} {c : BookCounts} {s : Bytes} {from : 
       vertex_more {u} g = vertex_placed s v so.vertices.stored name own n added_few u g
 
   -- the piece that is read, by its kind
-  module _ {x : Step} (f : p ≡ read.Found x) where
-    turn : {q : PieceData} → x.piece ≡ q → p ≡ read.Found (record { piece = q; next = x.next })
-    turn g = f ∙ ap (λ (q : PieceData). read.Found (record { piece = q; next = x.next })) g
+  module _ {x : Step} (f : p ≡ Ok x) where
+    turn : {q : PieceData} → x.piece ≡ q → p ≡ Ok (record { piece = q; next = x.next })
+    turn g = f ∙ ap (λ (q : PieceData). Ok (record { piece = q; next = x.next })) g
 
     -- the first vertex of a chain
     module _ {name : Part} (g : x.piece ≡ piece.Start name) {own : ℕ} (n : own ≡ place (name_at s name) ws) where
@@ -236,7 +235,7 @@ module _ {book : Bytes} {words : List ℕ} {c : BookCounts} {s : Bytes} {from : 
         goes_own = own_room (turn g) link.vertex refl n
 
         goes_on : {u : Vertices} → Placed v own link.vertex u → {y : Edge} → y ≡ edge_made b s link last own
-            → PatternSoFar book words c s x.next own u (record { edges = set e.edges e.count y; count = e.count + 1 }) k r
+            → PatternSoFar book words c s x.next own u (record { items = set e.items e.count y; count = e.count + 1 }) k r
         unfolding vertex_in edges_between condition_in return_in piece_of piece_standing vertex_part edge_part value_part joined number_after firsts_by
         goes_on h {y} made =
             pattern_on (turn g) (own_later (turn g) link.vertex refl n) (vertex_more (turn g) link.vertex refl n h)
@@ -254,7 +253,7 @@ module _ {book : Bytes} {words : List ℕ} {c : BookCounts} {s : Bytes} {from : 
         comes_own = own_room (turn g) link.vertex refl n
 
         comes_on : {u : Vertices} → Placed v own link.vertex u → {y : Edge} → y ≡ edge_made b s link own last
-            → PatternSoFar book words c s x.next own u (record { edges = set e.edges e.count y; count = e.count + 1 }) k r
+            → PatternSoFar book words c s x.next own u (record { items = set e.items e.count y; count = e.count + 1 }) k r
         unfolding vertex_in edges_between condition_in return_in piece_of piece_standing vertex_part edge_part value_part joined number_after firsts_by
         comes_on h {y} made =
             pattern_on (turn g) (own_later (turn g) link.vertex refl n) (vertex_more (turn g) link.vertex refl n h)
@@ -273,7 +272,7 @@ module _ {book : Bytes} {words : List ℕ} {c : BookCounts} {s : Bytes} {from : 
 
         pub link_on : (points : Bool) → x.piece ≡ piece.Linked points link → {u : Vertices} → Placed v own link.vertex u
             → {y : Edge} → y ≡ edge_made b s link (pick points last own) (pick points own last)
-            → PatternSoFar book words c s x.next own u (record { edges = set e.edges e.count y; count = e.count + 1 }) k r
+            → PatternSoFar book words c s x.next own u (record { items = set e.items e.count y; count = e.count + 1 }) k r
         link_on true g h made = goes_on g n h made
         link_on false g h made = comes_on g n h made
 
@@ -284,7 +283,7 @@ module _ {book : Bytes} {words : List ℕ} {c : BookCounts} {s : Bytes} {from : 
       differ_room = omega (arith, clause_room (turn g))
 
       pub differ_on : {y : Condition} → y ≡ Excluded (place (name_at s one) ws) (place (name_at s other) ws)
-          → PatternSoFar book words c s x.next last v e (record { clauses = set k.clauses k.count (record { condition = y }); count = k.count + 1 }) r
+          → PatternSoFar book words c s x.next last v e (record { items = set k.items k.count (record { condition = y }); count = k.count + 1 }) r
       unfolding vertex_in edges_between condition_in return_in piece_of piece_standing vertex_part edge_part value_part joined number_after firsts_by
       differ_on made =
           let scope = (scopes (turn g)).0.0 in
@@ -299,7 +298,7 @@ module _ {book : Bytes} {words : List ℕ} {c : BookCounts} {s : Bytes} {from : 
       asks_room = omega (arith, clause_room (turn g))
 
       pub asks_on : {y : Condition} → y ≡ demand_in b s ws fs d
-          → PatternSoFar book words c s x.next last v e (record { clauses = set k.clauses k.count (record { condition = y }); count = k.count + 1 }) r
+          → PatternSoFar book words c s x.next last v e (record { items = set k.items k.count (record { condition = y }); count = k.count + 1 }) r
       unfolding vertex_in edges_between condition_in return_in piece_of piece_standing number_after firsts_by
       asks_on made =
           let scope = (scopes (turn g)).0.0 in
@@ -324,10 +323,10 @@ module _ {book : Bytes} {words : List ℕ} {c : BookCounts} {s : Bytes} {from : 
           sym (ap (firsts ws) (ap vertices_in list ∙ none_behind (name_at s name) (found_at s x.next) order.1)) ∙ so.vertices.rest
 
       pub returned_on : {n : ℕ} → n ≡ place (name_at s name) ws
-          → PatternSoFar book words c s x.next last v e k (record { numbers = set r.numbers r.count n; count = r.count + 1 })
+          → PatternSoFar book words c s x.next last v e k (record { items = set r.items r.count n; count = r.count + 1 })
       unfolding vertex_in edges_between condition_in return_in piece_of piece_standing vertex_part edge_part value_part joined number_after firsts_by
       returned_on {n} h =
           let more = return_more r so.returns.listed n returned_room in
           pattern_on (turn g) refl vertices_kept edges_kept clauses_kept
-          (subst (λ i. MoreReturns r (i ∷ []) (record { numbers = set r.numbers r.count n; count = r.count + 1 }))
+          (subst (λ i. MoreReturns r (i ∷ []) (record { items = set r.items r.count n; count = r.count + 1 }))
           (h ∙ ap (place (name_at s name)) names_all) more)

@@ -6,11 +6,16 @@ use Rattle.model.specs.Names.{mem, place}
 use Rattle.model.specs.Book.{Book, attr_names}
 use Rattle.model.specs.Answers.{name_at}
 use Rattle.model.specs.declared.Requirement.{Requirement}
+use Rattle.model.specs.declared.Clause.{Clause}
 use Rattle.model.specs.declared.Condition.{Condition}
 use Rattle.model.specs.declared.Condition.TheVariants.{OfVertex, OfEdge}
 use Rattle.query_pieces.specs.declared.Demand.{Demand}
 use Rattle.model.specs.PlainData.{no_clause}
-use Rattle.query.specs.declared.clauses.Clauses.{Clauses}
+use Rattle.query.specs.declared.found.Found.{Found}
+
+-- the conditions found
+abbrev pub Clauses : Type 0
+Clauses = Found Clause 32
 
 -- a requirement by the number of its attribute among these names
 abbrev pub requirement_in : List Bytes → Bytes → Demand → Requirement
@@ -24,4 +29,4 @@ demand_in b s vs es d =
 
 -- no clause
 abbrev pub no_clauses : Clauses
-no_clauses = record { clauses = replicate 32 no_clause; count = 0 }
+no_clauses = record { items = replicate 32 no_clause; count = 0 }

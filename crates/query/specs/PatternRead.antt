@@ -17,18 +17,18 @@ use Rattle.book_tables.specs.Fits.{Fits}
 use Rattle.query_faults.specs.TextFault.{text_fault}
 use Rattle.query_writer.specs.Writable.{count_limits, PatternFits}
 use Rattle.model.specs.PlainData.{PartsWithin, PatternFits as WordsFit}
-use Rattle.query.specs.declared.vertices.Vertices.{Vertices}
-use Rattle.query.specs.declared.edges.Edges.{Edges}
-use Rattle.query.specs.declared.clauses.Clauses.{Clauses}
-use Rattle.query.specs.declared.returns.Returns.{Returns}
+use Rattle.query.specs.Vertices.{Vertices}
+use Rattle.query.specs.Edges.{Edges}
+use Rattle.query.specs.Clauses.{Clauses}
+use Rattle.query.specs.Returns.{Returns}
 
 -- what was found, as one pattern
 abbrev pub pattern_made : Vertices → Edges → Clauses → Returns → Pattern
 pattern_made v e k r = record {
-  vertices = v.parts;
-  edges = e.edges;
-  clauses = k.clauses;
-  returns = r.numbers;
+  vertices = v.items;
+  edges = e.items;
+  clauses = k.items;
+  returns = r.items;
   counts = record { vertices = v.count; edges = e.count; clauses = k.count; returns = r.count };
 }
 

@@ -11,9 +11,10 @@ ghost use Rattle.text.specs.Parts.{HasPart};
 ghost use Rattle.query_pieces.specs.Steps.{DemandInside};
 ghost use Rattle.query.specs.Vertices.{names_of, VerticesInside};
 ghost use Rattle.query.specs.Edges.{edge_names_of, EdgesInside};
-ghost use Rattle.query.specs.Clauses.{requirement_in, demand_in, no_clauses};
+ghost use Rattle.query.specs.Clauses.{requirement_in, demand_in};
 
 use crate::edges::Edges;
+use crate::found::Found;
 use crate::vertices::Vertices;
 use crate::{edges, vertices};
 use book_tables::{BookCounts, Owner, names};
@@ -23,21 +24,7 @@ use query_pieces::Demand;
 use text::parts;
 
 // The conditions found so far, in the order of the text.
-#[derive(Clone, Copy)]
-pub struct Clauses {
-    pub clauses: [Clause; MAX_CONDITIONS],
-    pub count: usize,
-}
-
-// No clause.
-pub fn no_clauses() -> Clauses
-    ensures { result ≡ no_clauses }
-{
-    let condition = Condition::Excluded(0, 0);
-    let none = Clause { condition };
-    let clauses = [none; MAX_CONDITIONS];
-    Clauses { clauses, count: 0 }
-}
+pub type Clauses = Found<Clause, MAX_CONDITIONS>;
 
 // A requirement of a vertex or of an edge, its attribute by number among those of the owner.
 fn requirement_of(

@@ -6,8 +6,9 @@ ghost use Rattle.model.specs.Answers.{name_at};
 ghost use Rattle.book_tables.specs.View.{book_at};
 ghost use Rattle.book_tables.specs.Fits.{Fits};
 ghost use Rattle.text.specs.Parts.{HasPart};
-ghost use Rattle.query.specs.Edges.{edge_names_of, EdgesInside, no_edges, edge_made};
+ghost use Rattle.query.specs.Edges.{edge_names_of, EdgesInside, edge_made};
 
+use crate::found::Found;
 use book_tables::{BookCounts, names};
 use model::limits::MAX_EDGES;
 use model::{Edge, Part};
@@ -16,29 +17,7 @@ use query_survey::scan;
 use text::parts;
 
 // The edges found so far, in the order of the text.
-#[derive(Clone, Copy)]
-pub struct Edges {
-    pub edges: [Edge; MAX_EDGES],
-    pub count: usize,
-}
-
-// No edge.
-pub fn no_edges() -> Edges
-    ensures { result ≡ no_edges }
-{
-    let name = Part {
-        start: 0,
-        length: 0,
-    };
-    let none = Edge {
-        name,
-        label: 0,
-        from: 0,
-        to: 0,
-    };
-    let edges = [none; MAX_EDGES];
-    Edges { edges, count: 0 }
-}
+pub type Edges = Found<Edge, MAX_EDGES>;
 
 // The number of an edge variable among those found; how many there are where it is none of them.
 pub fn edge_number(s: &[u8], links: Edges, name: Part) -> usize
@@ -46,14 +25,12 @@ pub fn edge_number(s: &[u8], links: Edges, name: Part) -> usize
     ensures { result ≡ place (name_at s.now name) (edge_names_of s.now links) }
 {
     let n = links.count;
-    let mut k = 0;
-    while k < n {
-        let e = links.edges[k];
+    for k in 0..n {
+        let e = links.items[k];
         let v = e.name;
         if scan::same_part(s, name, v) {
             return k;
         }
-        k += 1;
     }
     n
 }
@@ -73,21 +50,12 @@ pub fn edge_of(
     ensures { result ≡ edge_made (book_at book.now words.now counts) s.now link
         (pick points last own) (pick points own last) }
 {
-    let word = link.label;
-    let label = names::find_label(book, words, counts, parts::part_of(s, word));
-    let name = link.edge;
-    if points {
-        return Edge {
-            name,
-            label,
-            from: last,
-            to: own,
-        };
-    }
+    let label = names::find_label(book, words, counts, parts::part_of(s, link.label));
+    let (from, to) = if points { (last, own) } else { (own, last) };
     Edge {
-        name,
+        name: link.edge,
         label,
-        from: own,
-        to: last,
+        from,
+        to,
     }
 }

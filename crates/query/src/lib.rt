@@ -3,7 +3,7 @@
 
 pub mod clauses;
 pub mod edges;
+pub mod found;
 pub mod pattern;
 pub mod read;
-pub mod returns;
 pub mod vertices;

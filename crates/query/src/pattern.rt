@@ -6,70 +6,66 @@ ghost use Rattle.model.specs.PlainData.{no_pattern};
 
 use crate::clauses::Clauses;
 use crate::edges::Edges;
-use crate::returns::Returns;
+use crate::found::Found;
 use crate::vertices::Vertices;
-use crate::{clauses, edges, returns, vertices};
+use crate::{clauses, edges, vertices};
 use book_tables::BookCounts;
 use model::limits::{MAX_CONDITIONS, MAX_EDGES, MAX_RETURNS, MAX_VERTICES};
 use model::{Clause, Condition, Counts, Edge, Part, Pattern};
-use query_pieces::{Piece, PieceRead, Place, reading};
+use query_pieces::{Piece, reading};
 use query_survey::scan;
+
+// The numbers of the returned vertices found so far, in the order of the text.
+pub type Returns = Found<usize, MAX_RETURNS>;
+
+// What stands in a place past the counts.
+const NO_PART: Part = Part {
+    start: 0,
+    length: 0,
+};
+
+const NO_EDGE: Edge = Edge {
+    name: NO_PART,
+    label: 0,
+    from: 0,
+    to: 0,
+};
+
+const NO_CLAUSE: Clause = Clause {
+    condition: Condition::Excluded(0, 0),
+};
 
 // The empty pattern.
 pub fn empty() -> Pattern
     ensures { result ≡ no_pattern }
 {
-    let name = Part {
-        start: 0,
-        length: 0,
-    };
-    let edge = Edge {
-        name,
-        label: 0,
-        from: 0,
-        to: 0,
-    };
-    let condition = Condition::Excluded(0, 0);
-    let clause = Clause { condition };
-    let vertices = [name; MAX_VERTICES];
-    let edges = [edge; MAX_EDGES];
-    let clauses = [clause; MAX_CONDITIONS];
-    let returns = [0usize; MAX_RETURNS];
-    let counts = Counts {
-        vertices: 0,
-        edges: 0,
-        clauses: 0,
-        returns: 0,
-    };
-    Pattern {
-        vertices,
-        edges,
-        clauses,
-        returns,
-        counts,
-    }
+    made(
+        Found::none(NO_PART),
+        Found::none(NO_EDGE),
+        Found::none(NO_CLAUSE),
+        Found::none(0),
+    )
 }
 
 // The pattern of what is found.
 fn made(found: Vertices, links: Edges, conditions: Clauses, returned: Returns) -> Pattern
     ensures { result ≡ pattern_made found links conditions returned }
 {
-    let vertices = found.parts;
-    let edges = links.edges;
-    let clauses = conditions.clauses;
-    let returns = returned.numbers;
-    let counts = Counts {
-        vertices: found.count,
-        edges: links.count,
-        clauses: conditions.count,
-        returns: returned.count,
-    };
+    let vertices = found.items;
+    let edges = links.items;
+    let clauses = conditions.items;
+    let returns = returned.items;
     Pattern {
         vertices,
         edges,
         clauses,
         returns,
-        counts,
+        counts: Counts {
+            vertices: found.count,
+            edges: links.count,
+            clauses: conditions.count,
+            returns: returned.count,
+        },
     }
 }
 
@@ -81,24 +77,16 @@ pub fn pattern_of(book: &[u8], words: &[u32], counts: BookCounts, s: &[u8]) -> P
 {
     let mut place = scan::text_start();
     let mut last = 0;
-    let mut found = vertices::no_vertices();
-    let mut links = edges::no_edges();
-    let mut conditions = clauses::no_clauses();
-    let mut returned = returns::no_returns();
+    let mut found = Found::none(NO_PART);
+    let mut links = Found::none(NO_EDGE);
+    let mut conditions = Found::none(NO_CLAUSE);
+    let mut returned = Found::none(0);
     loop {
-        let PieceRead::Found(x) = reading::next_piece(s, place) else {
+        let Ok(x) = reading::next_piece(s, place) else {
             return made(found, links, conditions, returned);
         };
-        let p = x.piece;
-        let behind = x.next;
-        let spot = behind.spot;
-        // Field by field: as a whole it would be read before all of it is written.
-        place = Place {
-            at: behind.at,
-            close: behind.close,
-            spot,
-        };
-        match p {
+        place = x.next;
+        match x.piece {
             Piece::Start(v) => {
                 let own = vertices::vertex_number(s, found, v);
                 found = vertices::with_vertex(found, own, v);
@@ -108,28 +96,18 @@ pub fn pattern_of(book: &[u8], words: &[u32], counts: BookCounts, s: &[u8]) -> P
                 let v = link.vertex;
                 let own = vertices::vertex_number(s, found, v);
                 found = vertices::with_vertex(found, own, v);
-                let n = links.count;
-                links.edges[n] = edges::edge_of(book, words, counts, s, link, points, last, own);
-                links.count = n + 1;
+                links.push(edges::edge_of(book, words, counts, s, link, points, last, own));
                 last = own;
             }
             Piece::Differ(v, u) => {
                 let condition = clauses::exclusion(s, found, v, u);
-                let n = conditions.count;
-                conditions.clauses[n] = Clause { condition };
-                conditions.count = n + 1;
+                conditions.push(Clause { condition });
             }
             Piece::Asks(d) => {
                 let condition = clauses::requirement(book, words, counts, s, found, links, d);
-                let n = conditions.count;
-                conditions.clauses[n] = Clause { condition };
-                conditions.count = n + 1;
+                conditions.push(Clause { condition });
             }
-            Piece::Returns(v) => {
-                let n = returned.count;
-                returned.numbers[n] = vertices::vertex_number(s, found, v);
-                returned.count = n + 1;
-            }
+            Piece::Returns(v) => returned.push(vertices::vertex_number(s, found, v)),
         }
     }
 }

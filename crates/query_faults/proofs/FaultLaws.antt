@@ -8,7 +8,7 @@ use Rattle.model.specs.Refusal.{lowest, ◌if◌}
 use Rattle.model.specs.Book.{Book}
 use Rattle.model.specs.QueryText.{QueryText}
 use Rattle.model.specs.Signs.{signs_of}
-use Rattle.model.specs.Grammar.{at_start, tail_of, pieces, query_text}
+use Rattle.model.specs.Grammar.{at_start, tail_of, query_text}
 use Rattle.model.specs.ReadQuery.{query_fault}
 use Rattle.query_pieces.specs.Walk.{Walk, walk, Ordered}
 use Rattle.query_pieces.specs.Faults.{some_where, undeclared_at, twice_at, mistyped_at, from_itself_at}

@@ -5,6 +5,7 @@ use mathlib.Core.List.{List, [], ◌∷◌, ◌++◌}
 use mathlib.Core.Bool.{Bool, true}
 use native.Mathlib.Omega.{arith}
 use lib.ListN.{length, take, drop}
+use Rattle.std.specs.Prelude.{Result, Ok, Err}
 use Rattle.model.specs.Bytes.{Bytes}
 use Rattle.model.specs.Choice.{pick}
 use Rattle.model.specs.Lists.{joined}
@@ -14,8 +15,6 @@ use Rattle.query_pieces.specs.Faults.{some_where}
 use Rattle.query_pieces.specs.Steps.{piece_of, walk_at, StepAt}
 use Rattle.query_pieces.specs.declared.Place.{Place}
 use Rattle.query_pieces.specs.declared.Step.{Step}
-use Rattle.query_pieces.specs.declared.PieceRead.{PieceRead}
-use Rattle.query_pieces.specs.declared.PieceRead.TheVariants as read
 use Rattle.model.proofs.Places.{joined_end}
 use Rattle.names_met.specs.Table.{Holds}
 use Rattle.query_survey.specs.Names.{name_in, names_in, found_at, text_pieces, text_start}
@@ -53,15 +52,15 @@ undeclared_stays : (b : Book) (t : Survey) (done ps : List Piece) → t.undeclar
 undeclared_stays b t done ps e = ap (λ (x : Survey). x.undeclared) (survey_parts b t done ps) ∙ ap (λ x. pick x true (some_where (undeclared_by b) done ps)) e
 
 module _ (b : Book) (s : Bytes) (vertices edges returned : List ℕ) (place : Place) (i : ℕ) (t : Passed) (h : Walked b s vertices edges returned place i t)
-    (got : PieceRead) (at : StepAt s place got) where
-  pub walked_end : (w : Bool) → got ≡ read.None w → verdict w t.survey ≡ text_fault b s
+    (got : Result Step Bool) (at : StepAt s place got) where
+  pub walked_end : (w : Bool) → got ≡ Err w → verdict w t.survey ≡ text_fault b s
   unfolding survey_from
   walked_end w z =
       ap (λ x. verdict x t.survey) (sym (step_ends s place got at w z) ∙ h.whole)
       ∙ ap (verdict (walk_at s text_start).whole) (ap (survey_from b t.survey (take i (text_pieces s))) (sym (step_none s place got at w z)) ∙ h.survey)
       ∙ survey_fault b s
 
-  module _ (x : Step) (z : got ≡ read.Found x) where
+  module _ (x : Step) (z : got ≡ Ok x) where
     abbrev piece : Piece
     piece = piece_of s x.piece
 

@@ -1,5 +1,5 @@
 // The lowest fault of a query text.
-ghost use Rattle.std.specs.Prelude.{◌≡◌};
+ghost use Rattle.std.specs.Prelude.{◌≡◌, ◌≤◌};
 ghost use Rattle.book_tables.specs.View.{book_at};
 ghost use Rattle.book_tables.specs.Fits.{Fits};
 ghost use Rattle.query_faults.specs.TextFault.{text_fault};
@@ -21,30 +21,20 @@ pub fn fault_of(book: &[u8], words: &[u32], counts: BookCounts, s: &[u8]) -> u32
     ensures { result ≡ text_fault (book_at book.now words.now counts) s.now }
 {
     if s.len() <= SHORT {
-        return short_fault(book, words, counts, s);
+        fault_in::<SHORT_TABLE>(book, words, counts, s)
+    } else {
+        fault_in::<LONG_TABLE>(book, words, counts, s)
     }
-    let mut vertices = [0; LONG_TABLE];
-    let mut edges = [0; LONG_TABLE];
-    let mut returned = [0; LONG_TABLE];
-    walk::fault_with(
-        book,
-        words,
-        counts,
-        s,
-        &mut vertices,
-        &mut edges,
-        &mut returned,
-    )
 }
 
-// The same with small tables, which are soon cleared.
-fn short_fault(book: &[u8], words: &[u32], counts: BookCounts, s: &[u8]) -> u32
-    requires { Fits book.now words.now counts }
+// The same with three tables of N words, which are soon cleared where they are small.
+fn fault_in<const N: usize>(book: &[u8], words: &[u32], counts: BookCounts, s: &[u8]) -> u32
+    requires { Fits book.now words.now counts × 256 ≤ N × N ≤ 4352 }
     ensures { result ≡ text_fault (book_at book.now words.now counts) s.now }
 {
-    let mut vertices = [0; SHORT_TABLE];
-    let mut edges = [0; SHORT_TABLE];
-    let mut returned = [0; SHORT_TABLE];
+    let mut vertices = [0; N];
+    let mut edges = [0; N];
+    let mut returned = [0; N];
     walk::fault_with(
         book,
         words,

@@ -14,7 +14,7 @@ ghost use Rattle.query_faults.specs.Behind.{Behind};
 
 use crate::Passed;
 use book_tables::BookCounts;
-use query_pieces::{Link, Piece, PieceRead, Place, reading};
+use query_pieces::{Link, Piece, Place, reading};
 use query_survey::{Met, conditions, links, scan, tallies};
 
 // Behind an edge with its vertex, whichever way it points: the survey, and both names in their tables.
@@ -97,13 +97,8 @@ fn is_whole_from(s: &[u8], from: Place) -> bool
     let mut place = from;
     loop {
         match reading::next_piece(s, place) {
-            PieceRead::Found(x) => {
-                let next = x.next;
-                place = next;
-            }
-            PieceRead::None(w) => {
-                return w;
-            }
+            Ok(x) => place = x.next,
+            Err(whole) => return whole,
         }
     }
 }
@@ -132,26 +127,17 @@ pub fn fault_with(
     let mut t = Passed { survey, met };
     loop {
         match reading::next_piece(s, place) {
-            PieceRead::Found(x) => {
-                let p = x.piece;
-                let behind = x.next;
-                let spot = behind.spot;
-                // Field by field: as a whole it would be read before all of it is written.
-                let next = Place {
-                    at: behind.at,
-                    close: behind.close,
-                    spot,
-                };
-                t = piece_passed(book, words, counts, s, vertices, edges, returned, i, t, p);
+            Ok(x) => {
+                t = piece_passed(
+                    book, words, counts, s, vertices, edges, returned, i, t, x.piece,
+                );
                 if t.survey.undeclared {
-                    return tallies::fault_at_end(is_whole_from(s, next), t.survey);
+                    return tallies::fault_at_end(is_whole_from(s, x.next), t.survey);
                 }
-                place = next;
+                place = x.next;
                 i += 1;
             }
-            PieceRead::None(w) => {
-                return tallies::fault_at_end(w, t.survey);
-            }
+            Err(whole) => return tallies::fault_at_end(whole, t.survey),
         }
     }
 }

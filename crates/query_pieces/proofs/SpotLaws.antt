@@ -7,6 +7,8 @@ use native.Mathlib.Omega.{arith}
 use lib.ListN.{length}
 use lib.Dec.{T}
 use borrow.Author.Tests.{ne_eqb}
+use Rattle.std.specs.Prelude.{Option, Some, None}
+use Rattle.std.specs.Option.{ok_or}
 use Rattle.logic.specs.Tests.{either, equal_or_not}
 use Rattle.model.specs.Bytes.{Bytes, bytes_of, same}
 use Rattle.model.specs.Choice.{nothing, just, and_then}
@@ -17,8 +19,6 @@ use Rattle.model.specs.Places.{none, bracket_of, Standing, variable_at, standing
 use Rattle.model.proofs.Decides.{same→eq}
 use Rattle.query_signs.specs.declared.Sign.{Sign as SignData}
 use Rattle.query_signs.specs.declared.Sign.TheVariants as read
-use Rattle.query_signs.specs.declared.SignRead.{SignRead}
-use Rattle.query_signs.specs.declared.SignRead.TheVariants as sign
 use Rattle.query_signs.specs.Marks.{mark_bytes}
 use Rattle.query_signs.specs.Reads.{sign_of, signs_from, standings_from, standing_of, First, first, first_of, Behind, SignStands, NextSign}
 use Rattle.query_signs.specs.Expected.{code_of}
@@ -29,7 +29,7 @@ use Rattle.text.specs.Places.{past}
 use Rattle.query_pieces.specs.declared.Place.{Place}
 use Rattle.query_pieces.specs.declared.Spot.{Spot as SpotData}
 use Rattle.query_pieces.specs.declared.Spot.TheVariants.{AtStart, InChain, InWhere, InReturn}
-use Rattle.query_pieces.specs.declared.PieceRead.{PieceRead}
+use Rattle.query_pieces.specs.declared.Step.{Step}
 use Rattle.query_pieces.specs.Walk.{Walk, stopped, or_stopped, ends_well, walk}
 use Rattle.query_pieces.proofs.PartLaws.{step_stands}
 use Rattle.query_pieces.specs.Steps.{
@@ -185,8 +185,8 @@ module _ (s : Bytes) (t : SignData) (q : ℕ) where
   return_none a = rw (no_mark 44 (omega arith) a)
 
 -- a step of an equal walk
-pub step_same : {k l : List Standing} (v w : Walk) (s : Bytes) (from : ℕ) (r : PieceRead) → (v ≡ w) × (k ≡ l) → StepIs w l s from r → StepIs v k s from r
-step_same v w s from r e h = record { reads = e.0 ∙ h.reads; moves = h.moves; inside = h.inside; stands = step_stands s r e.1 h.stands }
+pub step_same : {k l : List Standing} (v w : Walk) (s : Bytes) (from : ℕ) (r : Option Step) → (v ≡ w) × (k ≡ l) → StepIs w l s from r → StepIs v k s from r
+step_same v w s from r e h = record { reads = e.0 ∙ h.reads; moves = h.moves; inside = h.inside; stands = step_stands s (ok_or r false) e.1 h.stands }
 
 -- the first sign of a list that has one
 first_some : (ts : List Sign) (x : First) → first ts ≡ just x → ts ≡ x.sign ∷ x.rest
@@ -222,20 +222,20 @@ module _ (s : Bytes) (place : Place) (at : ℕ) (p : at ≡ past is_blank s plac
   unfolding walk_at walk
   place_ends h = rw (no_signs (chain_at place.spot) place.close s place.at at p h)
 
-  module _ (l : at < length s) (r : SignRead) (h : NextSign (chain_at place.spot) place.close s place.at r) where
-    pub place_broken : r ≡ sign.None → walk_at s place ≡ stopped false
+  module _ (l : at < length s) (r : Option (SignData × ℕ)) (h : NextSign (chain_at place.spot) place.close s place.at r) where
+    pub place_broken : r ≡ None → walk_at s place ≡ stopped false
     unfolding walk_at first_of
     place_broken e =
         let x = some_sign (chain_at place.spot) place.close s place.at at p l in
         let f : first (x.0 ∷ x.1) ≡ nothing = ap first (sym x.2) ∙ h.reads ∙ ap (first_of (chain_at place.spot) s) e in
         ap (walk (spot_of place.spot) 0) x.2 ∙ unread_piece (spot_of place.spot) x.0 x.1 f
 
-    pub place_piece : (t : SignData) (q : ℕ) → r ≡ sign.Found t q → walk_at s place ≡ walk_by place.spot s t q
+    pub place_piece : (t : SignData) (q : ℕ) → r ≡ Some (t, q) → walk_at s place ≡ walk_by place.spot s t q
     unfolding walk_at first_of walk_by walk pieces_by
     place_piece t q e = ap (walk (spot_of place.spot) 0) (first_some here _ (h.reads ∙ ap (first_of (chain_at place.spot) s) e))
 
-    pub place_moves : (t : SignData) (q : ℕ) → r ≡ sign.Found t q → place.at < q
+    pub place_moves : (t : SignData) (q : ℕ) → r ≡ Some (t, q) → place.at < q
     place_moves t q e = subst (Behind place.at) e h.moves
 
-    pub place_stands : (t : SignData) (q : ℕ) → r ≡ sign.Found t q → standings_at s place ≡ standings_by place.spot s t q
+    pub place_stands : (t : SignData) (q : ℕ) → r ≡ Some (t, q) → standings_at s place ≡ standings_by place.spot s t q
     place_stands t q e = subst (SignStands none (chain_at place.spot) place.close s place.at) e (h.stands none)

@@ -1,5 +1,6 @@
 -- The pieces of a text from a place on, one step after another.
-use Rattle.std.specs.Prelude.{ℕ, ◌-◌, ◌<◌, ◌≡◌, List, [], ◌∷◌, ◌++◌, Bool, true, false, T, eqb, length}
+use Rattle.std.specs.Prelude.{ℕ, ◌-◌, ◌<◌, ◌≡◌, List, [], ◌∷◌, ◌++◌, Bool, true, false, T, eqb, length, Option, Some, None, Result, Ok, Err}
+use Rattle.std.specs.Option.{ok_or}
 use Rattle.model.specs.Bytes.{Bytes, bytes_of}
 use Rattle.model.specs.Choice.{pick, Maybe, nothing, just, and_then}
 use Rattle.model.specs.Words.{Got}
@@ -12,9 +13,8 @@ use Rattle.query_signs.specs.Reads.{sign_of, signs_from, standings_from, standin
 use Rattle.model.specs.PlainData.{ValueWithin}
 use Rattle.text.specs.Parts.{HasPart}
 use Rattle.query_signs.specs.Expected.{NameInside, value_standing}
+use Rattle.model.specs.declared.Part.{Part}
 use Rattle.query_signs.specs.declared.Sign.{Sign as SignData}
-use Rattle.query_signs.specs.declared.NameRead.{NameRead}
-use Rattle.query_signs.specs.declared.NameRead.TheVariants as name
 use Rattle.query_pieces.specs.declared.Spot.{Spot as SpotData}
 use Rattle.query_pieces.specs.declared.Spot.TheVariants as spot
 use Rattle.query_pieces.specs.declared.Place.{Place}
@@ -22,8 +22,7 @@ use Rattle.query_pieces.specs.declared.Link.{Link}
 use Rattle.query_pieces.specs.declared.Demand.{Demand}
 use Rattle.query_pieces.specs.declared.Piece.{Piece as PieceData}
 use Rattle.query_pieces.specs.declared.Piece.TheVariants as piece
-use Rattle.query_pieces.specs.declared.PieceRead.{PieceRead}
-use Rattle.query_pieces.specs.declared.PieceRead.TheVariants as read
+use Rattle.query_pieces.specs.declared.Step.{Step}
 use Rattle.query_pieces.specs.Walk.{Walk, stopped, ahead, or_stopped, walk}
 
 -- the spot that each case is, and whether signs are read as in a chain there
@@ -64,14 +63,14 @@ piece_standing (piece.Differ v u) = []
 piece_standing (piece.Asks d) = value_standing d.value
 piece_standing (piece.Returns v) = []
 
--- a piece and what follows it; or none
-unfoldable pub step_of : Bytes → PieceRead → Walk
-step_of s (read.None w) = stopped w
-step_of s (read.Found x) = ahead (piece_of s x.piece) (walk_at s x.next)
+-- a piece and what follows it; or none, and whether the text ends there as it may
+unfoldable pub step_of : Bytes → Result Step Bool → Walk
+step_of s (Err w) = stopped w
+step_of s (Ok x) = ahead (piece_of s x.piece) (walk_at s x.next)
 
-abbrev pub StepBehind : ℕ → PieceRead → Type 0
-StepBehind from (read.None w) = T true
-StepBehind from (read.Found x) = from < x.next.at
+abbrev pub StepBehind : ℕ → Result Step Bool → Type 0
+StepBehind from (Err w) = T true
+StepBehind from (Ok x) = from < x.next.at
 
 -- every part of a link, of a requirement, of a piece lies inside the text
 pub record LinkInside (s : Bytes) (l : Link) : Type 0 where
@@ -91,25 +90,25 @@ PieceInside s (piece.Differ v u) = HasPart s v × HasPart s u
 PieceInside s (piece.Asks d) = DemandInside s d
 PieceInside s (piece.Returns v) = HasPart s v
 
-abbrev pub StepInside : Bytes → PieceRead → Type 0
-StepInside s (read.None w) = T true
-StepInside s (read.Found x) = PieceInside s x.piece
+abbrev pub StepInside : Bytes → Result Step Bool → Type 0
+StepInside s (Err w) = T true
+StepInside s (Ok x) = PieceInside s x.piece
 
 -- what stands is of a piece and of what follows it
-abbrev pub StepStands : List Standing → Bytes → PieceRead → Type 0
-StepStands l s (read.None w) = T true
-StepStands l s (read.Found x) = l ≡ piece_standing x.piece ++ standings_at s x.next
+abbrev pub StepStands : List Standing → Bytes → Result Step Bool → Type 0
+StepStands l s (Err w) = T true
+StepStands l s (Ok x) = l ≡ piece_standing x.piece ++ standings_at s x.next
 
 -- a piece that was read at the front of signs, and what follows it
 unfoldable pub pieces_by : Maybe (Got Piece) → List Sign → Walk
 pieces_by m ts = or_stopped (and_then m (λ g. just (ahead g.got (walk (spot_after g.got) (g.size - 1) ts))))
 
--- a walk is r and what follows it, behind a place; so is what stands there; r lies inside the text
-pub record StepIs (w : Walk) (l : List Standing) (s : Bytes) (from : ℕ) (r : PieceRead) : Type 0 where
-  pub reads : w ≡ step_of s r
-  pub moves : StepBehind from r
-  pub inside : StepInside s r
-  pub stands : StepStands l s r
+-- a walk is r and what follows it, behind a place; so is what stands there; r lies inside the text; where there is none, the text does not end as it may
+pub record StepIs (w : Walk) (l : List Standing) (s : Bytes) (from : ℕ) (r : Option Step) : Type 0 where
+  pub reads : w ≡ step_of s (ok_or r false)
+  pub moves : StepBehind from (ok_or r false)
+  pub inside : StepInside s (ok_or r false)
+  pub stands : StepStands l s (ok_or r false)
 
 -- the signs behind the first sign, which ends at a place
 abbrev pub signs_behind : SpotData → Bytes → SignData → ℕ → List Sign
@@ -124,7 +123,7 @@ abbrev pub standings_by : SpotData → Bytes → SignData → ℕ → List Stand
 standings_by p s t q = let x = sign_of s t in standing_of none t ++ standings_from (bracket_of x) (Rattle.model.specs.Signs.chain_behind (chain_at p) x) (wordy x) s q
 
 -- r is the piece at a place
-pub record StepAt (s : Bytes) (p : Place) (r : PieceRead) : Type 0 where
+pub record StepAt (s : Bytes) (p : Place) (r : Result Step Bool) : Type 0 where
   pub reads : walk_at s p ≡ step_of s r
   pub moves : StepBehind p.at r
   pub inside : StepInside s r
@@ -134,19 +133,19 @@ pub record StepAt (s : Bytes) (p : Place) (r : PieceRead) : Type 0 where
 unfoldable pub vertex_then : List Sign → (Bytes → List Sign → Maybe Walk) → Maybe Walk
 vertex_then ts f = expect (bytes_of "(") ts (λ ts. next sign_name ts (λ v ts. expect (bytes_of ")") ts (λ ts. f v ts)))
 
-unfoldable pub on_vertex : Bytes → NameRead → (Bytes → List Sign → Maybe Walk) → Maybe Walk
-on_vertex s name.None f = nothing
-on_vertex s (name.Found p q) f = f (name_at s p) (signs_from true false s q)
+unfoldable pub on_vertex : Bytes → Option (Part × ℕ) → (Bytes → List Sign → Maybe Walk) → Maybe Walk
+on_vertex s None f = nothing
+on_vertex s (Some (p, q)) f = f (name_at s p) (signs_from true false s q)
 
-abbrev pub VertexBehind : ℕ → NameRead → Type 0
-VertexBehind from name.None = T true
-VertexBehind from (name.Found p q) = from < q
+abbrev pub VertexBehind : ℕ → Option (Part × ℕ) → Type 0
+VertexBehind from None = T true
+VertexBehind from (Some (p, q)) = from < q
 
-abbrev pub VertexStands : Bracket → Bool → Bytes → ℕ → NameRead → Type 0
-VertexStands o close s from name.None = T true
-VertexStands o close s from (name.Found p q) = standings_from o true close s from ≡ vertex p ∷ standings_from none true false s q
+abbrev pub VertexStands : Bracket → Bool → Bytes → ℕ → Option (Part × ℕ) → Type 0
+VertexStands o close s from None = T true
+VertexStands o close s from (Some (p, q)) = standings_from o true close s from ≡ vertex p ∷ standings_from none true false s q
 
-pub record VertexNext (close : Bool) (s : Bytes) (from : ℕ) (r : NameRead) : Type 0 where
+pub record VertexNext (close : Bool) (s : Bytes) (from : ℕ) (r : Option (Part × ℕ)) : Type 0 where
   pub reads : (f : Bytes → List Sign → Maybe Walk) → vertex_then (signs_from true close s from) f ≡ on_vertex s r f
   pub moves : VertexBehind from r
   pub inside : NameInside s r

@@ -57,10 +57,3 @@ pub struct Step {
     pub piece: Piece,
     pub next: Place,
 }
-
-// The piece at a place; or none, and whether the text ends there as it may.
-#[derive(Clone, Copy)]
-pub enum PieceRead {
-    Found(Step),
-    None(bool),
-}

@@ -11,25 +11,18 @@ ghost use Rattle.text.specs.Parts.{HasPart};
 ghost use Rattle.query_pieces.specs.Walk.{or_stopped};
 ghost use Rattle.query_pieces.specs.Steps.{VertexNext, LinkIs, StepIs, pieces_by, link_then, chained, other_then, value_then, asked};
 
-use crate::{Demand, Link, Piece, PieceRead, Place, Spot, Step};
+use crate::{Demand, Link, Piece, Place, Spot, Step};
 use model::Part;
-use query_signs::{NameRead, RelationRead, ValueRead, expected, marks};
-use text::End;
+use query_signs::{expected, marks};
 
 // A vertex in its brackets.
-pub fn vertex(s: &[u8], from: usize, close: bool) -> NameRead
+pub fn vertex(s: &[u8], from: usize, close: bool) -> Option<(Part, usize)>
     ensures { VertexNext close s.now from result }
 {
-    let End::At(a) = expected::mark_next(s, from, true, close, marks::OPEN) else {
-        return NameRead::None;
-    };
-    let NameRead::Found(v, b) = expected::name_next(s, a, true, false) else {
-        return NameRead::None;
-    };
-    let End::At(q) = expected::mark_next(s, b, true, true, marks::CLOSE) else {
-        return NameRead::None;
-    };
-    NameRead::Found(v, q)
+    let a = expected::mark_next(s, from, true, close, marks::OPEN)?;
+    let (v, b) = expected::name_next(s, a, true, false)?;
+    let q = expected::mark_next(s, b, true, true, marks::CLOSE)?;
+    Some((v, q))
 }
 
 // The piece that a link makes, by the mark at its arrow's end.
@@ -43,38 +36,24 @@ fn linked(arrow: usize, l: Link) -> Piece
 }
 
 // An edge in its brackets, an arrow's end, and the vertex behind it.
-pub fn link(s: &[u8], from: usize, arrow: usize) -> PieceRead
+pub fn link(s: &[u8], from: usize, arrow: usize) -> Option<Step>
     requires { 0 < arrow }
     ensures { StepIs (or_stopped (link_then (mark_bytes arrow) (signs_from true false s.now from) (chained arrow)))
         (standings_from none true false s.now from) s.now from result }
 {
-    let End::At(a) = expected::mark_next(s, from, true, false, marks::OPEN_SQUARE) else {
-        return PieceRead::None(false);
-    };
-    let NameRead::Found(edge, b) = expected::name_next(s, a, true, false) else {
-        return PieceRead::None(false);
-    };
-    let End::At(c) = expected::mark_next(s, b, true, true, marks::COLON) else {
-        return PieceRead::None(false);
-    };
-    let NameRead::Found(label, d) = expected::name_next(s, c, true, false) else {
-        return PieceRead::None(false);
-    };
-    let End::At(e) = expected::mark_next(s, d, true, true, marks::CLOSE_SQUARE) else {
-        return PieceRead::None(false);
-    };
-    let End::At(f) = expected::mark_next(s, e, true, false, arrow) else {
-        return PieceRead::None(false);
-    };
-    let NameRead::Found(vertex, q) = vertex(s, f, false) else {
-        return PieceRead::None(false);
-    };
+    let a = expected::mark_next(s, from, true, false, marks::OPEN_SQUARE)?;
+    let (edge, b) = expected::name_next(s, a, true, false)?;
+    let c = expected::mark_next(s, b, true, true, marks::COLON)?;
+    let (label, d) = expected::name_next(s, c, true, false)?;
+    let e = expected::mark_next(s, d, true, true, marks::CLOSE_SQUARE)?;
+    let f = expected::mark_next(s, e, true, false, arrow)?;
+    let (vertex, q) = vertex(s, f, false)?;
     let l = Link {
         edge,
         label,
         vertex,
     };
-    PieceRead::Found(Step {
+    Some(Step {
         piece: linked(arrow, l),
         next: Place {
             at: q,
@@ -85,14 +64,12 @@ pub fn link(s: &[u8], from: usize, arrow: usize) -> PieceRead
 }
 
 // Match (v), from behind Match.
-pub fn start(s: &[u8], from: usize) -> PieceRead
+pub fn start(s: &[u8], from: usize) -> Option<Step>
     ensures { StepIs (pieces_by (start_at (signs_from true true s.now from)) (signs_from true true s.now from))
         (standings_from none true true s.now from) s.now from result }
 {
-    let NameRead::Found(v, q) = vertex(s, from, true) else {
-        return PieceRead::None(false);
-    };
-    PieceRead::Found(Step {
+    let (v, q) = vertex(s, from, true)?;
+    Some(Step {
         piece: Piece::Start(v),
         next: Place {
             at: q,
@@ -103,15 +80,13 @@ pub fn start(s: &[u8], from: usize) -> PieceRead
 }
 
 // v <> u, from behind the sign.
-fn differ(s: &[u8], v: Part, from: usize) -> PieceRead
+fn differ(s: &[u8], v: Part, from: usize) -> Option<Step>
     requires { HasPart s.now v }
     ensures { StepIs (or_stopped (other_then (name_at s.now v) (signs_from false false s.now from) asked))
         (standings_from none false false s.now from) s.now from result }
 {
-    let NameRead::Found(u, q) = expected::name_next(s, from, false, false) else {
-        return PieceRead::None(false);
-    };
-    PieceRead::Found(Step {
+    let (u, q) = expected::name_next(s, from, false, false)?;
+    Some(Step {
         piece: Piece::Differ(v, u),
         next: Place {
             at: q,
@@ -122,24 +97,16 @@ fn differ(s: &[u8], v: Part, from: usize) -> PieceRead
 }
 
 // x.attr REL value, from behind x.
-fn demand(s: &[u8], subject: Part, from: usize) -> PieceRead
+fn demand(s: &[u8], subject: Part, from: usize) -> Option<Step>
     requires { HasPart s.now subject }
     ensures { StepIs (or_stopped (expect (bytes_of ".") (signs_from false true s.now from)
         (λ ts. value_then (name_at s.now subject) ts asked))) (standings_from none false true s.now from) s.now from result }
 {
-    let End::At(a) = expected::mark_next(s, from, false, true, marks::DOT) else {
-        return PieceRead::None(false);
-    };
-    let NameRead::Found(attribute, b) = expected::name_next(s, a, false, false) else {
-        return PieceRead::None(false);
-    };
-    let RelationRead::Found(relation, c) = expected::relation_next(s, b, true) else {
-        return PieceRead::None(false);
-    };
-    let ValueRead::Found(value, q, close) = expected::value_next(s, c, false) else {
-        return PieceRead::None(false);
-    };
-    PieceRead::Found(Step {
+    let a = expected::mark_next(s, from, false, true, marks::DOT)?;
+    let (attribute, b) = expected::name_next(s, a, false, false)?;
+    let (relation, c) = expected::relation_next(s, b, true)?;
+    let (value, q, close) = expected::value_next(s, c, false)?;
+    Some(Step {
         piece: Piece::Asks(Demand {
             subject,
             attribute,
@@ -155,28 +122,24 @@ fn demand(s: &[u8], subject: Part, from: usize) -> PieceRead
 }
 
 // A condition, from behind Where or AND.
-pub fn condition(s: &[u8], from: usize) -> PieceRead
+pub fn condition(s: &[u8], from: usize) -> Option<Step>
     ensures { StepIs (pieces_by (condition_at (signs_from false true s.now from)) (signs_from false true s.now from))
         (standings_from none false true s.now from) s.now from result }
 {
-    let NameRead::Found(x, a) = expected::name_next(s, from, false, true) else {
-        return PieceRead::None(false);
-    };
+    let (x, a) = expected::name_next(s, from, false, true)?;
     match expected::mark_next(s, a, false, true, marks::DIFFERS) {
-        End::At(b) => differ(s, x, b),
-        End::None => demand(s, x, a),
+        Some(b) => differ(s, x, b),
+        None => demand(s, x, a),
     }
 }
 
 // A returned name, from behind Return or a comma.
-pub fn returned(s: &[u8], from: usize, close: bool) -> PieceRead
+pub fn returned(s: &[u8], from: usize, close: bool) -> Option<Step>
     ensures { StepIs (pieces_by (return_at (signs_from false close s.now from)) (signs_from false close s.now from))
         (standings_from none false close s.now from) s.now from result }
 {
-    let NameRead::Found(v, q) = expected::name_next(s, from, false, close) else {
-        return PieceRead::None(false);
-    };
-    PieceRead::Found(Step {
+    let (v, q) = expected::name_next(s, from, false, close)?;
+    Some(Step {
         piece: Piece::Returns(v),
         next: Place {
             at: q,

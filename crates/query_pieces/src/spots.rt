@@ -1,13 +1,15 @@
 // The piece at each spot, by its first sign.
 ghost use Rattle.std.specs.Prelude.{◌≡◌};
 ghost use Rattle.model.specs.Signs.{is_word};
+ghost use Rattle.query_signs.specs.Marks.{code_or, IsCode};
 ghost use Rattle.query_signs.specs.Reads.{sign_of, SignInside};
+ghost use Rattle.query_signs.specs.Expected.{code_of};
 ghost use Rattle.query_pieces.specs.declared.Spot.TheVariants.{AtStart, InChain, InWhere, InReturn};
 ghost use Rattle.query_pieces.specs.Walk.{ends_well};
 ghost use Rattle.query_pieces.specs.Steps.{StepIs, arrow_behind, walk_by, standings_by, spot_of, chain_at};
 
-use crate::{PieceRead, Spot, parts};
-use query_signs::{Sign, expected, marks};
+use crate::{Spot, Step, parts};
+use query_signs::{Sign, marks};
 use text::parts::part_of;
 
 // Whether a sign is this word.
@@ -48,36 +50,38 @@ pub fn in_chain(spot: Spot) -> bool
 }
 
 // The piece at the beginning, whose first sign ends at q.
-fn first_piece(s: &[u8], t: Sign, q: usize) -> PieceRead
+fn first_piece(s: &[u8], t: Sign, q: usize) -> Option<Step>
     requires { SignInside s.now t }
     ensures { StepIs (walk_by AtStart s.now t q) (standings_by AtStart s.now t q) s.now q result }
 {
     if is_word(s, t, b"Match") {
         return parts::start(s, q);
     }
-    PieceRead::None(false)
+    None
 }
 
 // The mark that ends a link, by the one that begins it: -> behind -, and - behind <-.
-fn arrow_behind(code: usize) -> usize
-    ensures { result ≡ arrow_behind code }
+#[tactic(auto, using(query_signs::proofs::ExpectLaws::no_code), unfolding(query_signs::specs::Expected::code_of))]
+fn arrow_behind(t: Sign) -> Option<usize>
+    ensures reads { code_or result ≡ arrow_behind (code_of t) }
+    ensures some { IsCode result }
 {
-    if code == marks::MINUS {
-        return marks::RIGHTWARD;
+    let Sign::Mark(code) = t else {
+        return None;
+    };
+    match code {
+        marks::MINUS => Some(marks::RIGHTWARD),
+        marks::LEFTWARD => Some(marks::MINUS),
+        _ => None,
     }
-    if code == marks::LEFTWARD {
-        return marks::MINUS;
-    }
-    marks::NONE
 }
 
 // The piece behind a chain, whose first sign ends at q.
-fn chain_piece(s: &[u8], t: Sign, q: usize) -> PieceRead
+fn chain_piece(s: &[u8], t: Sign, q: usize) -> Option<Step>
     requires { SignInside s.now t }
     ensures { StepIs (walk_by InChain s.now t q) (standings_by InChain s.now t q) s.now q result }
 {
-    let arrow = arrow_behind(expected::mark_code(t));
-    if arrow != marks::NONE {
+    if let Some(arrow) = arrow_behind(t) {
         return parts::link(s, q, arrow);
     }
     if is_word(s, t, b"Where") {
@@ -89,11 +93,11 @@ fn chain_piece(s: &[u8], t: Sign, q: usize) -> PieceRead
     if is_word(s, t, b"Return") {
         return parts::returned(s, q, true);
     }
-    PieceRead::None(false)
+    None
 }
 
 // The piece behind a condition, whose first sign ends at q.
-fn where_piece(s: &[u8], t: Sign, q: usize) -> PieceRead
+fn where_piece(s: &[u8], t: Sign, q: usize) -> Option<Step>
     requires { SignInside s.now t }
     ensures { StepIs (walk_by InWhere s.now t q) (standings_by InWhere s.now t q) s.now q result }
 {
@@ -106,21 +110,24 @@ fn where_piece(s: &[u8], t: Sign, q: usize) -> PieceRead
     if is_word(s, t, b"Return") {
         return parts::returned(s, q, true);
     }
-    PieceRead::None(false)
+    None
 }
 
 // The piece behind a returned name, whose first sign ends at q.
-fn return_piece(s: &[u8], t: Sign, q: usize) -> PieceRead
+fn return_piece(s: &[u8], t: Sign, q: usize) -> Option<Step>
     ensures { StepIs (walk_by InReturn s.now t q) (standings_by InReturn s.now t q) s.now q result }
 {
-    if expected::mark_code(t) == marks::COMMA {
-        return parts::returned(s, q, false);
+    let Sign::Mark(code) = t else {
+        return None;
+    };
+    if code != marks::COMMA {
+        return None;
     }
-    PieceRead::None(false)
+    parts::returned(s, q, false)
 }
 
 // The piece at a spot, whose first sign ends at q.
-pub fn piece_by(s: &[u8], spot: Spot, t: Sign, q: usize) -> PieceRead
+pub fn piece_by(s: &[u8], spot: Spot, t: Sign, q: usize) -> Option<Step>
     requires { SignInside s.now t }
     ensures { StepIs (walk_by spot s.now t q) (standings_by spot s.now t q) s.now q result }
 {

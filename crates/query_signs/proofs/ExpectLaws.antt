@@ -2,10 +2,11 @@
 use Prim.Native.Nat.{ℕ, ◌<◌}
 use mathlib.Core.Path.{◌≡◌, refl, sym, ap, ◌∙◌, subst}
 use mathlib.Core.List.{List, [], ◌∷◌, ◌++◌}
-use mathlib.Core.Bool.{Bool, true, false, not, ◌&&◌}
+use mathlib.Core.Bool.{Bool, true, false, ◌&&◌}
 use native.Mathlib.Omega.{arith}
 use lib.Dec.{T, eqb}
 use borrow.Author.Tests.{eq-eqb, ne_eqb, eqb-true}
+use Rattle.std.specs.Prelude.{Option, Some, None}
 use Rattle.model.specs.Bytes.{Bytes, bytes_of, same}
 use Rattle.model.specs.Choice.{pick, Maybe, nothing, just, and_then}
 use Rattle.model.specs.Lists.{any}
@@ -22,18 +23,8 @@ use Rattle.model.specs.declared.Relation.{Relation as RelationData}
 use Rattle.model.specs.declared.Relation.TheVariants.{Equal, Differs, Less, AtMost, Greater, AtLeast}
 use Rattle.model.specs.declared.Value.TheVariants as given
 use Rattle.model.proofs.Decides.{same→eq}
-use Rattle.text.specs.declared.End.{End}
-use Rattle.text.specs.declared.End.TheVariants as end
 use Rattle.query_signs.specs.declared.Sign.{Sign as SignData}
 use Rattle.query_signs.specs.declared.Sign.TheVariants as sign
-use Rattle.query_signs.specs.declared.SignRead.{SignRead}
-use Rattle.query_signs.specs.declared.SignRead.TheVariants as read
-use Rattle.query_signs.specs.declared.NameRead.{NameRead}
-use Rattle.query_signs.specs.declared.NameRead.TheVariants as name
-use Rattle.query_signs.specs.declared.RelationRead.{RelationRead}
-use Rattle.query_signs.specs.declared.RelationRead.TheVariants as relation
-use Rattle.query_signs.specs.declared.ValueRead.{ValueRead}
-use Rattle.query_signs.specs.declared.ValueRead.TheVariants as value
 use Rattle.query_signs.specs.Marks.{mark_bytes}
 use Rattle.query_signs.specs.Reads.{sign_of, signs_from, first, first_of, NextSign, Behind, ReadInside, standings_from, standing_of, SignStands}
 use Rattle.query_signs.specs.Expected.{Then, code_of, behind_mark, MarkNext, behind_name, NameNext, relation_or, behind_relation, RelationNext}
@@ -123,6 +114,14 @@ code_is s (sign.Whole n) c h e = absurd (omega arith)
 code_is s (sign.Text p) c h e = absurd (omega arith)
 code_is s (sign.Mark m) c h e = ap (λ n. mark (mark_bytes n)) e
 
+-- a sign that is no mark has no code
+pub no_code : (t : SignData) → ((m : ℕ) → t ≡ sign.Mark m → ⊥) → code_of t ≡ 0
+unfolding code_of
+no_code (sign.Word p) h = refl
+no_code (sign.Whole n) h = refl
+no_code (sign.Text p) h = refl
+no_code (sign.Mark m) h = absurd (h m refl)
+
 -- a mark is no variable and no text value
 code_quiet : (o : Bracket) (t : SignData) (c : ℕ) → 0 < c → code_of t ≡ c → standing_of o t ≡ []
 unfolding standing_of code_of
@@ -133,11 +132,11 @@ code_quiet o (sign.Mark m) c h e = refl
 
 -- a mark that is expected
 module _ (chain close : Bool) (s : Bytes) (from c : ℕ) where
-  pub mark_end : first (signs_from chain close s from) ≡ nothing → MarkNext chain close s from c end.None
+  pub mark_end : first (signs_from chain close s from) ≡ nothing → MarkNext chain close s from c None
   unfolding behind_mark and_then
   mark_end h = record { reads = expect_first (mark_bytes c) (signs_from chain close s from) just ∙ rw h; moves = tt; stands = λ o. tt }
 
-  pub mark_met : (q : ℕ) → NextSign chain close s from (read.Found (sign.Mark c) q) → MarkNext chain close s from c (end.At q)
+  pub mark_met : (q : ℕ) → NextSign chain close s from (Some (sign.Mark c, q)) → MarkNext chain close s from c (Some q)
   unfolding first_of behind_mark and_then sign_of standing_of is_mark wordy
   mark_met q h = record {
     reads = expect_first (mark_bytes c) (signs_from chain close s from) just ∙ rw (h.reads, same_marks c c, eq-eqb c c refl, chain_mark chain (mark_bytes c));
@@ -150,12 +149,12 @@ module _ (chain close : Bool) (s : Bytes) (from : ℕ) where
   abbrev named : Bytes → List Sign → Maybe (Then Bytes)
   named v ts = just (record { got = v; rest = ts })
 
-  pub name_end : first (signs_from chain close s from) ≡ nothing → NameNext chain close s from name.None
+  pub name_end : first (signs_from chain close s from) ≡ nothing → NameNext chain close s from None
   unfolding behind_name and_then sign_name
   name_end h = record { reads = next_first sign_name (signs_from chain close s from) named refl ∙ rw h; moves = tt; inside = tt; stands = λ o. tt }
 
-  module _ (p : Part) (q : ℕ) (h : NextSign chain close s from (read.Found (sign.Word p) q)) where
-    pub name_met_law : mem (name_at s p) never_names ≡ false → NameNext chain close s from (name.Found p q)
+  module _ (p : Part) (q : ℕ) (h : NextSign chain close s from (Some (sign.Word p, q))) where
+    pub name_met_law : mem (name_at s p) never_names ≡ false → NameNext chain close s from (Some (p, q))
     unfolding sign_name sign_of name_of first_of behind_name and_then standing_of wordy bracket_of is_mark
     name_met_law k = record {
       reads = next_first sign_name (signs_from chain close s from) named refl ∙ rw (h.reads, k, chain_name chain (name_at s p) k);
@@ -164,7 +163,7 @@ module _ (chain close : Bool) (s : Bytes) (from : ℕ) where
       stands = λ o. h.stands o ∙ rw (chain_name chain (name_at s p) k);
     }
 
-    pub name_never : mem (name_at s p) never_names ≡ true → NameNext chain close s from name.None
+    pub name_never : mem (name_at s p) never_names ≡ true → NameNext chain close s from None
     unfolding sign_name sign_of name_of first_of behind_name and_then
     name_never k = record {
       reads = next_first sign_name (signs_from chain close s from) named refl ∙ rw (h.reads, k);
@@ -196,11 +195,11 @@ relation_code s t = rw (
 )
 
 module _ (close : Bool) (s : Bytes) (from : ℕ) where
-  pub relation_end : (r : SignRead) → NextSign false close s from r → r ≡ read.None → RelationNext close s from relation.None
+  pub relation_end : (r : Option (SignData × ℕ)) → NextSign false close s from r → r ≡ None → RelationNext close s from None
   unfolding first_of behind_relation and_then sign_relation is_mark
   relation_end r h e = record { reads = next_first sign_relation (signs_from false close s from) related refl ∙ rw (h.reads, e); moves = tt; stands = λ o. tt }
 
-  module _ (r : SignRead) (h : NextSign false close s from r) (t : SignData) (q : ℕ) (e : r ≡ read.Found t q) where
+  module _ (r : Option (SignData × ℕ)) (h : NextSign false close s from r) (t : SignData) (q : ℕ) (e : r ≡ Some (t, q)) where
     abbrev found : Maybe Relation → Maybe (Then Relation)
     found m = and_then m (λ x. related x (signs_from (chain_behind false (sign_of s t)) (wordy (sign_of s t)) s q))
 
@@ -215,7 +214,7 @@ module _ (close : Bool) (s : Bytes) (from : ℕ) where
         ∙ rw (code_quiet o t k p c, code_is s t k p c, chain_mark false (mark_bytes k), n)
 
     relation_is : (k : ℕ) (d : RelationData) → 0 < k → bracket_of (mark (mark_bytes k)) ≡ none → code_of t ≡ k
-        → sign_relation (sign_of s t) ≡ just (relation_of d) → RelationNext close s from (relation.Found d q)
+        → sign_relation (sign_of s t) ≡ just (relation_of d) → RelationNext close s from (Some (d, q))
     unfolding behind_relation and_then wordy
     relation_is k d p n c m = record {
       reads = relation_reads ∙ rw (m, code_is s t k p c, chain_mark false (mark_bytes k));
@@ -223,13 +222,13 @@ module _ (close : Bool) (s : Bytes) (from : ℕ) where
       stands = relation_stands k p c n;
     }
 
-    relation_or_law : (k : ℕ) (d : RelationData) (R : RelationRead) (M : Maybe Relation) → 0 < k → bracket_of (mark (mark_bytes k)) ≡ none
+    relation_or_law : (k : ℕ) (d : RelationData) (R : Option (RelationData × ℕ)) (M : Maybe Relation) → 0 < k → bracket_of (mark (mark_bytes k)) ≡ none
         → sign_relation (sign_of s t) ≡ pick (eqb (code_of t) k) (just (relation_of d)) M
-        → (sign_relation (sign_of s t) ≡ M → RelationNext close s from R) → RelationNext close s from (pick (eqb (code_of t) k) (relation.Found d q) R)
+        → (sign_relation (sign_of s t) ≡ M → RelationNext close s from R) → RelationNext close s from (pick (eqb (code_of t) k) (Some (d, q)) R)
     relation_or_law k d R M p n m f = go (eqb (code_of t) k) refl m
       where
         go : (x : Bool) → eqb (code_of t) k ≡ x → sign_relation (sign_of s t) ≡ pick x (just (relation_of d)) M
-            → RelationNext close s from (pick x (relation.Found d q) R)
+            → RelationNext close s from (pick x (Some (d, q)) R)
         go true c m = relation_is k d p n (eqb-true (code_of t) k c) m
         go false c m = f m
 
@@ -248,20 +247,20 @@ abbrev valued : Value → List Sign → Maybe (Then Value)
 valued v ts = just (record { got = v; rest = ts })
 
 module _ (close : Bool) (s : Bytes) (from : ℕ) where
-  pub value_end : (r : SignRead) → NextSign false close s from r → r ≡ read.None → ValueNext close s from value.None
+  pub value_end : (r : Option (SignData × ℕ)) → NextSign false close s from r → r ≡ None → ValueNext close s from None
   unfolding first_of behind_value and_then sign_value
   value_end r h e = record { reads = next_first sign_value (signs_from false close s from) valued refl ∙ rw (h.reads, e); moves = tt; inside = tt; stands = tt }
 
-  module _ (r : SignRead) (h : NextSign false close s from r) (q : ℕ) where
-    value_stands : (t : SignData) → r ≡ read.Found t q → chain_behind false (sign_of s t) ≡ false → bracket_of (sign_of s t) ≡ none
+  module _ (r : Option (SignData × ℕ)) (h : NextSign false close s from r) (q : ℕ) where
+    value_stands : (t : SignData) → r ≡ Some (t, q) → chain_behind false (sign_of s t) ≡ false → bracket_of (sign_of s t) ≡ none
         → standings_from none false close s from ≡ standing_of none t ++ standings_from none false (wordy (sign_of s t)) s q
     value_stands t e c o = subst (SignStands none false close s from) e (h.stands none) ∙ rw (c, o)
 
-    pub value_mark : (c : ℕ) → r ≡ read.Found (sign.Mark c) q → ValueNext close s from value.None
+    pub value_mark : (c : ℕ) → r ≡ Some (sign.Mark c, q) → ValueNext close s from None
     unfolding first_of behind_value and_then sign_value sign_of
     value_mark c e = record { reads = next_first sign_value (signs_from false close s from) valued refl ∙ rw (h.reads, e); moves = tt; inside = tt; stands = tt }
 
-    pub value_whole : (n : ℕ) → r ≡ read.Found (sign.Whole n) q → ValueNext close s from (value.Found (given.Number n) q true)
+    pub value_whole : (n : ℕ) → r ≡ Some (sign.Whole n, q) → ValueNext close s from (Some (given.Number n, q, true))
     unfolding first_of behind_value and_then sign_value sign_of value_of chain_behind is_word is_mark wordy bracket_of standing_of value_standing
     value_whole n e = record {
       reads = next_first sign_value (signs_from false close s from) valued refl
@@ -271,7 +270,7 @@ module _ (close : Bool) (s : Bytes) (from : ℕ) where
       stands = value_stands (sign.Whole n) e refl refl;
     }
 
-    pub value_text_law : (p : Part) → r ≡ read.Found (sign.Text p) q → ValueNext close s from (value.Found (given.Text p.start p.length) q false)
+    pub value_text_law : (p : Part) → r ≡ Some (sign.Text p, q) → ValueNext close s from (Some (given.Text p.start p.length, q, false))
     unfolding first_of behind_value and_then sign_value sign_of value_of name_at chain_behind is_word is_mark wordy bracket_of standing_of value_standing
     value_text_law p e = record {
       reads = next_first sign_value (signs_from false close s from) valued refl
@@ -284,12 +283,12 @@ module _ (close : Bool) (s : Bytes) (from : ℕ) where
     truth_chain : (w b : Bytes) → same w b ≡ true → chain_behind false (word b) ≡ false → chain_behind false (word w) ≡ false
     truth_chain w b k f = rw (same→eq w b (subst T (sym k) tt)) f
 
-    pub value_word : (p : Part) → r ≡ read.Found (sign.Word p) q → ValueNext close s from (truth_or s p q)
+    pub value_word : (p : Part) → r ≡ Some (sign.Word p, q) → ValueNext close s from (truth_or s p q)
     unfolding truth_or first_of behind_value and_then sign_value sign_of truth_of value_of wordy bracket_of is_mark standing_of variable_at value_standing
     value_word p e = go (same (name_at s p) (bytes_of "true")) refl (same (name_at s p) (bytes_of "false")) refl
       where
         go : (x : Bool) → same (name_at s p) (bytes_of "true") ≡ x → (y : Bool) → same (name_at s p) (bytes_of "false") ≡ y
-            → ValueNext close s from (pick x (value.Found (given.Truth true) q true) (pick y (value.Found (given.Truth false) q true) value.None))
+            → ValueNext close s from (pick x (Some (given.Truth true, q, true)) (pick y (Some (given.Truth false, q, true)) None))
         go true k y l = record {
           reads = next_first sign_value (signs_from false close s from) valued refl
               ∙ rw (h.reads, e, k, truth_chain (name_at s p) (bytes_of "true") k (unfold chain_behind is_word same in refl));

@@ -8,6 +8,7 @@ use native.Mathlib.Omega.{arith}
 use lib.ListN.{length, drop, length-drop}
 use lib.Dec.{eqb, leb}
 use borrow.Author.Tests.{ne_eqb, eqb-true, not-true, not-false}
+use Rattle.std.specs.Prelude.{Some, None}
 use Rattle.model.specs.Bytes.{Bytes}
 use Rattle.model.specs.Choice.{pick, Maybe, nothing, just, and_then}
 use Rattle.model.specs.Lists.{all}
@@ -16,12 +17,9 @@ use Rattle.model.specs.Forms.{never_names}
 use Rattle.model.specs.Answers.{part_of, name_at}
 use Rattle.model.specs.Words.{Got, is_letter, is_digit, between, is_word_byte, run, word_at, whole_at, text_at}
 use Rattle.model.specs.Signs.{Sign, word, whole, text, mark, broken, is_mark, marks, begins, mark_at, or_broken, digit_next, sign_at, sign_name, next, expect}
-use Rattle.text.specs.declared.End.TheVariants as end
 use Rattle.text.specs.Places.{peek_at, past, end_of}
 use Rattle.text.proofs.PlaceLaws.{below_or_not, drop_peek, run_length, test_in}
 use Rattle.query_signs.specs.declared.Sign.TheVariants as sign
-use Rattle.query_signs.specs.declared.NameRead.TheVariants as name
-use Rattle.query_signs.specs.declared.SignRead.TheVariants as read
 use Rattle.query_signs.specs.Marks.{mark_bytes, mark_got, mark_size}
 use Rattle.query_signs.specs.Reads.{is_blank, is_wordy, NextSign}
 use Rattle.query_signs.specs.Expected.{behind_mark, MarkNext, behind_name, NameNext}
@@ -123,29 +121,29 @@ module _ (chain close : Bool) (s : Bytes) (from at : ℕ) (p : at ≡ past is_bl
   -- another sign than the mark
   module _ (l : at < length s) (c : ℕ) where
     unlike : ((is_digit (peek_at s at) || eqb (peek_at s at) 45 && digit_next (drop (at + 1) s)) ≡ false
-        → is_mark (mark_bytes c) (mark_at (marks chain) (drop at s)).got ≡ false) → MarkNext chain close s from c end.None
+        → is_mark (mark_bytes c) (mark_at (marks chain) (drop at s)).got ≡ false) → MarkNext chain close s from c None
     unfolding expect behind_mark is_mark
     unlike h =
         let k = each_kind (is_mark (mark_bytes c)) false refl chain (peek_at s at) (drop (at + 1) s) (λ i a. refl) (λ a. refl) (λ a. refl)
         (λ n. rw (← drop_peek s at l) (h n)) in
         record { reads = rw (sign_at_law chain close s from at p l, or_close (is_mark (mark_bytes c)) false refl _ _ k); moves = tt; stands = λ o. tt }
 
-    pub mark_other : (m : ℕ) → mark_got m ≡ mark_at (marks chain) (drop at s) → (m ≡ c → ⊥) → MarkNext chain close s from c end.None
+    pub mark_other : (m : ℕ) → mark_got m ≡ mark_at (marks chain) (drop at s) → (m ≡ c → ⊥) → MarkNext chain close s from c None
     mark_other m e h = unlike (λ n. rw (← e) (other_code m c h))
 
-    pub mark_number : (is_digit (peek_at s at) || eqb (peek_at s at) 45 && digit_next (drop (at + 1) s)) ≡ true → MarkNext chain close s from c end.None
+    pub mark_number : (is_digit (peek_at s at) || eqb (peek_at s at) 45 && digit_next (drop (at + 1) s)) ≡ true → MarkNext chain close s from c None
     mark_number h = unlike (λ n. let z : true ≡ false = sym h ∙ n in cc)
 
     pub mark_next : 0 < c → (n : ℕ) → mark_got c ≡ mark_at (marks chain) (drop at s)
         → (is_digit (peek_at s at) || eqb (peek_at s at) 45 && digit_next (drop (at + 1) s)) ≡ false → n ≡ mark_size c
-        → MarkNext chain close s from c (end.At (at + n))
+        → MarkNext chain close s from c (Some (at + n))
     unfolding is_wordy
     mark_next h n e f z = mark_met chain close s from c (at + n) (next_found chain close s from at p l (sign.Mark c) (at + n)
         (mark_found s at chain c n e z (λ z. omega arith)
         ∙ rw (drop_peek s at l) (marked chain (peek_at s at) c (drop (at + 1) s) h (rw (← drop_peek s at l) e) f)) (and_false (close && eqb at from)) tt)
 
   -- no word
-  pub name_other : is_letter (peek_at s at) ≡ false → NameNext chain close s from name.None
+  pub name_other : is_letter (peek_at s at) ≡ false → NameNext chain close s from None
   unfolding next and_then behind_name sign_name
   name_other h = ⊎_elim some (λ g. name_end chain close s from (none_left chain close s from at p g)) (below_or_not at (length s))
     where
@@ -153,7 +151,7 @@ module _ (chain close : Bool) (s : Bytes) (from at : ℕ) (p : at ≡ past is_bl
       unnamed = each_kind sign_name nothing refl chain (peek_at s at) (drop (at + 1) s) (λ i a. let z : true ≡ false = sym i ∙ h in cc) (λ a. refl)
           (λ a. refl) (λ n. nameless (marks chain) _)
 
-      some : at < length s → NameNext chain close s from name.None
+      some : at < length s → NameNext chain close s from None
       some l = record { reads = rw (sign_at_law chain close s from at p l, or_close sign_name nothing refl _ _ unnamed); moves = tt; inside = tt; stands = λ o. tt }
 
   -- a word, if it is not too long and does not stand right behind another
@@ -162,35 +160,35 @@ module _ (chain close : Bool) (s : Bytes) (from at : ℕ) (p : at ≡ past is_bl
     unfolding is_letter between
     inside = test_in is_letter s at refl h
 
-    pub name_long : end.None ≡ end_of at (word_at (drop at s)) → NameNext chain close s from name.None
+    pub name_long : None ≡ end_of at (word_at (drop at s)) → NameNext chain close s from None
     name_long e = name_end chain close s from (sign_none chain close s from at p inside (sign_word s at chain inside _ h (word_none s at e)))
 
-    module _ (q : ℕ) (e : end.At q ≡ end_of at (word_at (drop at s))) where
+    module _ (q : ℕ) (e : Some q ≡ end_of at (word_at (drop at s))) where
       pub name_within : (at ≤ q) × (q ≤ length s)
       unfolding word_at end_of
       name_within = go (leb (length (run is_word_byte (drop at s))) 24) e
         where
-          go : (x : Bool) → end.At q ≡ end_of at (pick x (just (record { got = run is_word_byte (drop at s); size = length (run is_word_byte (drop at s)) }))
+          go : (x : Bool) → Some q ≡ end_of at (pick x (just (record { got = run is_word_byte (drop at s); size = length (run is_word_byte (drop at s)) }))
               nothing) → (at ≤ q) × (q ≤ length s)
           go true e = let z : q ≡ at + length (run is_word_byte (drop at s)) = cc in
               (omega arith, omega (arith, inside, run_length is_word_byte (drop at s), length-drop at s))
           go false e = let z : ◌≡◌ {A = ℕ} 0 1 = cc in absurd (omega arith)
 
-      pub name_close : (close && eqb at from) ≡ true → NameNext chain close s from name.None
+      pub name_close : (close && eqb at from) ≡ true → NameNext chain close s from None
       unfolding is_wordy
       name_close k = name_end chain close s from
           (sign_close chain close s from at p inside _ q (sign_word s at chain inside _ h (word_found s at q e)) (and_true _ ∙ k))
 
       module _ (k : (close && eqb at from) ≡ false) where
-        word_next_law : NextSign chain close s from (read.Found (sign.Word (record { start = at; length = q - at })) q)
+        word_next_law : NextSign chain close s from (Some (sign.Word (record { start = at; length = q - at }), q))
         unfolding is_wordy
         word_next_law = next_found chain close s from at p inside _ q (sign_word s at chain inside _ h (word_found s at q e)) (and_true _ ∙ k) (word_part s at q e)
 
         pub name_found : not (mem (part_of s at (q - at)) never_names) ≡ true
-            → NameNext chain close s from (name.Found (record { start = at; length = q - at }) q)
+            → NameNext chain close s from (Some (record { start = at; length = q - at }, q))
         unfolding name_at
         name_found i = name_met_law chain close s from _ q word_next_law (not-true _ i)
 
-        pub name_reserved : not (mem (part_of s at (q - at)) never_names) ≡ false → NameNext chain close s from name.None
+        pub name_reserved : not (mem (part_of s at (q - at)) never_names) ≡ false → NameNext chain close s from None
         unfolding name_at
         name_reserved i = name_never chain close s from _ q word_next_law (not-false _ i)

@@ -1,7 +1,7 @@
 -- Laws of marks and their codes.
-use Prim.Native.Nat.{ℕ, ◌+◌, ◌*◌, ◌/◌, ◌%◌, ◌<◌, ◌≤◌}
+use Prim.Native.Nat.{zero, suc, ℕ, ◌+◌, ◌*◌, ◌/◌, ◌%◌, ◌<◌, ◌≤◌}
 use mathlib.Core.Path.{◌≡◌, refl, sym, ap, ◌∙◌}
-use mathlib.Core.Logic.{⊎_elim, ◌⊎◌}
+use mathlib.Core.Logic.{⊎_elim}
 use mathlib.Core.List.{List, [], ◌∷◌, map}
 use mathlib.Core.Bool.{Bool, true, false, ◌&&◌, ◌||◌}
 use native.Mathlib.Omega.{arith}
@@ -193,3 +193,20 @@ module _ (s : Bytes) (at : ℕ) (l : at < length s) (byte : (i : ℕ) → get_or
 
   pub mark_none : (chain && is_arrow (b * 256 + c)) ≡ false → is_pair (b * 256 + c) ≡ false → is_single b ≡ false → mark_got 0 ≡ mark_at (marks chain) (drop at s)
   mark_none e f g = rw (e, f, g) at read_mark
+
+-- a code is not 0
+pub arrow_some : (chain : Bool) (c : ℕ) → (chain && is_arrow c) ≡ true → 0 < c
+unfolding is_arrow
+arrow_some true zero e = cc
+arrow_some false zero e = cc
+arrow_some chain (suc c) e = omega arith
+
+pub pair_some : (c : ℕ) → is_pair c ≡ true → 0 < c
+unfolding is_pair
+pair_some zero e = cc
+pair_some (suc c) e = omega arith
+
+pub single_some : (b : ℕ) → is_single b ≡ true → 0 < b
+unfolding is_single
+single_some zero e = cc
+single_some (suc b) e = omega arith

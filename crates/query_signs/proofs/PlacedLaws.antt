@@ -7,6 +7,7 @@ use native.Mathlib.Omega.{arith}
 use lib.ListN.{length, drop, length-take, length-drop}
 use lib.Seq.{drop-drop}
 use lib.Dec.{eqb, leb}
+use Rattle.std.specs.Prelude.{Some}
 use Rattle.model.specs.Bytes.{Bytes}
 use Rattle.model.specs.Choice.{pick, Maybe, nothing, just, and_then}
 use Rattle.model.specs.Lists.{is_nil}
@@ -18,13 +19,11 @@ use Rattle.model.specs.declared.Part.{Part}
 use Rattle.model.proofs.Standings.{placed_skip}
 use Rattle.text.specs.Places.{peek_at, past, end_of, word_to, text_to}
 use Rattle.text.specs.Parts.{HasPart}
-use Rattle.text.specs.declared.End.TheVariants as end
 use Rattle.text.proofs.PlaceLaws.{drop_peek, past_on}
 use Rattle.text.proofs.WordLaws.{word_read}
 use Rattle.text.proofs.QuoteLaws.{text_read}
 use Rattle.query_signs.specs.declared.Sign.{Sign as SignData}
 use Rattle.query_signs.specs.declared.Sign.TheVariants as sign
-use Rattle.query_signs.specs.declared.SignRead.TheVariants as read
 use Rattle.query_signs.specs.Reads.{is_blank, is_wordy, sign_of, got_of, standings_from, standing_of, PartAt, SignInside, NextSign}
 use Rattle.query_signs.proofs.SignLaws.{and_false, and_true, nil_length, no_blank, wordy_sign, sign_behind, sign_first}
 
@@ -50,16 +49,16 @@ text_long t g h = go (before 39 t) h
         some false h = cc
 
 module _ (s : Bytes) (at q : ℕ) where
-  pub word_part : end.At q ≡ end_of at (word_at (drop at s)) → PartAt s at (sign.Word (record { start = at; length = q - at }))
+  pub word_part : Some q ≡ end_of at (word_at (drop at s)) → PartAt s at (sign.Word (record { start = at; length = q - at }))
   unfolding word_to name_at
   word_part e =
-      let w : word_at (drop at s) ≡ word_to s at (end.At q) = word_read s at ∙ ap (word_to s at) (sym e) in
+      let w : word_at (drop at s) ≡ word_to s at (Some q) = word_read s at ∙ ap (word_to s at) (sym e) in
       ap (λ n. record { start = at; length = n }) (word_long (drop at s) (record { got = part_of s at (q - at); size = q - at }) w)
 
-  pub text_part : end.At q ≡ end_of at (text_at (drop (at + 1) s)) → PartAt s at (sign.Text (record { start = at + 1; length = q - at - 2 }))
+  pub text_part : Some q ≡ end_of at (text_at (drop (at + 1) s)) → PartAt s at (sign.Text (record { start = at + 1; length = q - at - 2 }))
   unfolding text_to name_at
   text_part e =
-      let w : text_at (drop (at + 1) s) ≡ text_to s at (end.At q) = text_read s at ∙ ap (text_to s at) (sym e) in
+      let w : text_at (drop (at + 1) s) ≡ text_to s at (Some q) = text_read s at ∙ ap (text_to s at) (sym e) in
       let l = text_long (drop (at + 1) s) (record { got = part_of s (at + 1) (q - at - 2); size = q - at }) w in
       let n : q - at - 2 ≡ length (part_of s (at + 1) (q - at - 2)) = omega arith in
       ap (λ n. record { start = at + 1; length = n }) n
@@ -110,7 +109,7 @@ module _ (chain close : Bool) (s : Bytes) (from at : ℕ) (p : at ≡ past is_bl
   placed_at = placed_blanks chain close from (drop from s)
       ∙ rw (p, nil_length (run is_blank (drop from s)) from, drop-drop (length (run is_blank (drop from s))) from s)
 
-  module _ (t : SignData) (q : ℕ) (e : got_of s at (read.Found t q) ≡ sign_at chain (peek_at s at) (drop (at + 1) s))
+  module _ (t : SignData) (q : ℕ) (e : got_of s at (Some (t, q)) ≡ sign_at chain (peek_at s at) (drop (at + 1) s))
       (h : ((close && eqb at from) && is_wordy t) ≡ false) where
     abbrev x : Sign
     x = sign_of s t
@@ -134,7 +133,7 @@ module _ (chain close : Bool) (s : Bytes) (from at : ℕ) (p : at ≡ past is_bl
     sign_stands k o = ap (standings o) placed_first ∙ ap (λ l. standing_at x o at ++ standings (bracket_of x) l) placed_rest
         ∙ ap (λ l. l ++ standings_from (bracket_of x) (chain_behind chain x) (wordy x) s q) (part_standing s at o t k)
 
-    pub next_found : PartAt s at t → NextSign chain close s from (read.Found t q)
+    pub next_found : PartAt s at t → NextSign chain close s from (Some (t, q))
     next_found k = record {
       reads = sign_first chain close s from at p l t q e h;
       moves = omega (arith, sign_behind chain close s from at p l t q e, p, past_on is_blank s from);

@@ -10,6 +10,7 @@ use lib.Seq.{drop-drop}
 use lib.Dec.{eqb, leb, ltb}
 use borrow.Author.Tests.{eq-eqb, ne_eqb}
 pub use Rattle.logic.specs.Flags.{and_false, and_true}
+use Rattle.std.specs.Prelude.{Some, None}
 use Rattle.model.specs.Bytes.{Bytes}
 use Rattle.model.specs.Choice.{pick, Maybe, nothing, just, and_then}
 use Rattle.model.specs.Lists.{is_nil}
@@ -20,9 +21,6 @@ use Rattle.model.proofs.Skips.{signs_skip}
 use Rattle.text.specs.Places.{peek_at, past}
 use Rattle.text.proofs.PlaceLaws.{below_or_not, drop_peek, drop_end, peek_end, past_test}
 use Rattle.model.specs.Answers.{name_at}
-use Rattle.text.specs.declared.End.{End}
-use Rattle.text.specs.declared.End.TheVariants as end
-use Rattle.text.specs.declared.NumberRead.TheVariants as number
 use Rattle.text.specs.Places.{end_of, number_of, word_to, text_to, whole_to}
 use Rattle.text.proofs.WordLaws.{word_read}
 use Rattle.text.proofs.NumberLaws.{whole_read}
@@ -30,8 +28,6 @@ use Rattle.text.proofs.QuoteLaws.{text_read}
 use Rattle.query_signs.specs.Marks.{mark_got, mark_size}
 use Rattle.query_signs.specs.declared.Sign.{Sign as SignData}
 use Rattle.query_signs.specs.declared.Sign.TheVariants as sign
-use Rattle.query_signs.specs.declared.SignRead.{SignRead}
-use Rattle.query_signs.specs.declared.SignRead.TheVariants as read
 use Rattle.query_signs.specs.Reads.{is_blank, is_wordy, sign_of, got_of, signs_from, first, first_of}
 
 -- blanks before a sign part it from a word or number before it
@@ -176,27 +172,27 @@ module _ (chain close : Bool) (s : Bytes) (from at : ℕ) (p : at ≡ past is_bl
     pub some_sign : (t : Sign) × (ts : List Sign) × (signs_from chain close s from ≡ t ∷ ts)
     some_sign = (_, _, sign_at_law)
 
-    pub sign_none : got_of s at read.None ≡ sign_at chain (peek_at s at) (drop (at + 1) s) → first (signs_from chain close s from) ≡ nothing
+    pub sign_none : got_of s at None ≡ sign_at chain (peek_at s at) (drop (at + 1) s) → first (signs_from chain close s from) ≡ nothing
     unfolding got_of first wordy
     sign_none e = rw (sign_at_law, ← e, and_false near)
 
-    sign_found : (t : SignData) (q : ℕ) → got_of s at (read.Found t q) ≡ sign_at chain (peek_at s at) (drop (at + 1) s)
+    sign_found : (t : SignData) (q : ℕ) → got_of s at (Some (t, q)) ≡ sign_at chain (peek_at s at) (drop (at + 1) s)
         → signs_from chain close s from ≡ pick (near && is_wordy t) broken (sign_of s t) ∷ signs (chain_behind chain (sign_of s t)) (wordy (sign_of s t))
         (q - at - 1) (drop (at + 1) s)
     unfolding got_of
     sign_found t q e = rw (sign_at_law, ← e, wordy_sign s t)
 
-    pub sign_close : (t : SignData) (q : ℕ) → got_of s at (read.Found t q) ≡ sign_at chain (peek_at s at) (drop (at + 1) s) → (near && is_wordy t) ≡ true
+    pub sign_close : (t : SignData) (q : ℕ) → got_of s at (Some (t, q)) ≡ sign_at chain (peek_at s at) (drop (at + 1) s) → (near && is_wordy t) ≡ true
         → first (signs_from chain close s from) ≡ nothing
     unfolding first
     sign_close t q e h = rw (sign_found t q e, h)
 
-    pub sign_behind : (t : SignData) (q : ℕ) → got_of s at (read.Found t q) ≡ sign_at chain (peek_at s at) (drop (at + 1) s) → at < q
+    pub sign_behind : (t : SignData) (q : ℕ) → got_of s at (Some (t, q)) ≡ sign_at chain (peek_at s at) (drop (at + 1) s) → at < q
     unfolding got_of
     sign_behind t q e = let z : 0 < q - at = rw (← e) at (sign_size chain (peek_at s at) (drop (at + 1) s)) in omega arith
 
-    pub sign_first : (t : SignData) (q : ℕ) → got_of s at (read.Found t q) ≡ sign_at chain (peek_at s at) (drop (at + 1) s) → (near && is_wordy t) ≡ false
-        → first (signs_from chain close s from) ≡ first_of chain s (read.Found t q)
+    pub sign_first : (t : SignData) (q : ℕ) → got_of s at (Some (t, q)) ≡ sign_at chain (peek_at s at) (drop (at + 1) s) → (near && is_wordy t) ≡ false
+        → first (signs_from chain close s from) ≡ first_of chain s (Some (t, q))
     unfolding first_of
     sign_first t q e h =
         let l = sign_behind t q e in
@@ -206,55 +202,55 @@ module _ (chain close : Bool) (s : Bytes) (from at : ℕ) (p : at ≡ past is_bl
         ∙ ap (signs (chain_behind chain (sign_of s t)) (wordy (sign_of s t)) 0) (drop-drop (q - at - 1) (at + 1) s ∙ ap (λ n. drop n s) d)))
 
 -- what the leaf readers say
-pub end_behind : {A : Type 0} (at q : ℕ) (m : Maybe (Got A)) → end.At q ≡ end_of at m → at ≤ q
+pub end_behind : {A : Type 0} (at q : ℕ) (m : Maybe (Got A)) → Some q ≡ end_of at m → at ≤ q
 unfolding end_of
 end_behind at q nothing e = let z : ◌≡◌ {A = ℕ} 0 1 = cc in omega arith
 end_behind at q (just g) e = let z : q ≡ at + g.size = cc in omega arith
 
 module _ (s : Bytes) (at : ℕ) where
-  pub word_found : (q : ℕ) → end.At q ≡ end_of at (word_at (drop at s))
-      → got_of s at (read.Found (sign.Word (record { start = at; length = q - at })) q) ≡ or_broken word (word_at (drop at s))
+  pub word_found : (q : ℕ) → Some q ≡ end_of at (word_at (drop at s))
+      → got_of s at (Some (sign.Word (record { start = at; length = q - at }), q)) ≡ or_broken word (word_at (drop at s))
   unfolding got_of or_broken word_to sign_of name_at
-  word_found q e = let w : word_at (drop at s) ≡ word_to s at (end.At q) = word_read s at ∙ ap (word_to s at) (sym e) in rw w
+  word_found q e = let w : word_at (drop at s) ≡ word_to s at (Some q) = word_read s at ∙ ap (word_to s at) (sym e) in rw w
 
-  pub word_none : end.None ≡ end_of at (word_at (drop at s)) → got_of s at read.None ≡ or_broken word (word_at (drop at s))
+  pub word_none : None ≡ end_of at (word_at (drop at s)) → got_of s at None ≡ or_broken word (word_at (drop at s))
   unfolding got_of or_broken word_to
-  word_none e = let w : word_at (drop at s) ≡ word_to s at end.None = word_read s at ∙ ap (word_to s at) (sym e) in rw w
+  word_none e = let w : word_at (drop at s) ≡ word_to s at None = word_read s at ∙ ap (word_to s at) (sym e) in rw w
 
-  pub whole_found : (n q : ℕ) → number.Number n q ≡ number_of at (whole_at (drop at s))
-      → got_of s at (read.Found (sign.Whole n) q) ≡ or_broken whole (whole_at (drop at s))
+  pub whole_found : (n q : ℕ) → Some (n, q) ≡ number_of at (whole_at (drop at s))
+      → got_of s at (Some (sign.Whole n, q)) ≡ or_broken whole (whole_at (drop at s))
   unfolding got_of or_broken whole_to sign_of
-  whole_found n q e = let w : whole_at (drop at s) ≡ whole_to at (number.Number n q) = whole_read s at ∙ ap (whole_to at) (sym e) in rw w
+  whole_found n q e = let w : whole_at (drop at s) ≡ whole_to at (Some (n, q)) = whole_read s at ∙ ap (whole_to at) (sym e) in rw w
 
-  pub whole_none : number.None ≡ number_of at (whole_at (drop at s)) → got_of s at read.None ≡ or_broken whole (whole_at (drop at s))
+  pub whole_none : None ≡ number_of at (whole_at (drop at s)) → got_of s at None ≡ or_broken whole (whole_at (drop at s))
   unfolding got_of or_broken whole_to
-  whole_none e = let w : whole_at (drop at s) ≡ whole_to at number.None = whole_read s at ∙ ap (whole_to at) (sym e) in rw w
+  whole_none e = let w : whole_at (drop at s) ≡ whole_to at None = whole_read s at ∙ ap (whole_to at) (sym e) in rw w
 
-  pub text_found : (q : ℕ) → end.At q ≡ end_of at (text_at (drop (at + 1) s))
-      → got_of s at (read.Found (sign.Text (record { start = at + 1; length = q - at - 2 })) q) ≡ or_broken text (text_at (drop (at + 1) s))
+  pub text_found : (q : ℕ) → Some q ≡ end_of at (text_at (drop (at + 1) s))
+      → got_of s at (Some (sign.Text (record { start = at + 1; length = q - at - 2 }), q)) ≡ or_broken text (text_at (drop (at + 1) s))
   unfolding got_of or_broken text_to sign_of name_at
-  text_found q e = let w : text_at (drop (at + 1) s) ≡ text_to s at (end.At q) = text_read s at ∙ ap (text_to s at) (sym e) in rw w
+  text_found q e = let w : text_at (drop (at + 1) s) ≡ text_to s at (Some q) = text_read s at ∙ ap (text_to s at) (sym e) in rw w
 
-  pub text_none : end.None ≡ end_of at (text_at (drop (at + 1) s)) → got_of s at read.None ≡ or_broken text (text_at (drop (at + 1) s))
+  pub text_none : None ≡ end_of at (text_at (drop (at + 1) s)) → got_of s at None ≡ or_broken text (text_at (drop (at + 1) s))
   unfolding got_of or_broken text_to
-  text_none e = let w : text_at (drop (at + 1) s) ≡ text_to s at end.None = text_read s at ∙ ap (text_to s at) (sym e) in rw w
+  text_none e = let w : text_at (drop (at + 1) s) ≡ text_to s at None = text_read s at ∙ ap (text_to s at) (sym e) in rw w
 
-  pub text_behind : (q : ℕ) → end.At q ≡ end_of at (text_at (drop (at + 1) s)) → at + 2 ≤ q
+  pub text_behind : (q : ℕ) → Some q ≡ end_of at (text_at (drop (at + 1) s)) → at + 2 ≤ q
   unfolding text_to end_of
   text_behind q e = go (text_at (drop (at + 1) s)) refl e
     where
-      go : (m : Maybe (Got Bytes)) → text_at (drop (at + 1) s) ≡ m → end.At q ≡ end_of at m → at + 2 ≤ q
+      go : (m : Maybe (Got Bytes)) → text_at (drop (at + 1) s) ≡ m → Some q ≡ end_of at m → at + 2 ≤ q
       go nothing f e = let z : ◌≡◌ {A = ℕ} 0 1 = cc in omega arith
       go (just g) f e = let z : q ≡ at + g.size = cc in omega (arith, text_size (drop (at + 1) s) g f)
 
   pub mark_found : (chain : Bool) (m n : ℕ) → mark_got m ≡ mark_at (marks chain) (drop at s) → n ≡ mark_size m → (m ≡ 0 → ⊥)
-      → got_of s at (read.Found (sign.Mark m) (at + n)) ≡ mark_at (marks chain) (drop at s)
+      → got_of s at (Some (sign.Mark m, at + n)) ≡ mark_at (marks chain) (drop at s)
   unfolding got_of mark_got sign_of
   mark_found chain m n e f h = let d : at + n - at ≡ n = omega arith in rw (d, f) ((rw (ne_eqb m 0 h) at e))
 
-  pub mark_missing : (chain : Bool) (m : ℕ) → mark_got m ≡ mark_at (marks chain) (drop at s) → m ≡ 0 → got_of s at read.None ≡ mark_at (marks chain) (drop at s)
+  pub mark_missing : (chain : Bool) → mark_got 0 ≡ mark_at (marks chain) (drop at s) → got_of s at None ≡ mark_at (marks chain) (drop at s)
   unfolding got_of mark_got
-  mark_missing chain m e h = rw (eq-eqb m 0 h) at e
+  mark_missing chain e = e
 
   module _ (chain : Bool) (l : at < length s) where
     pub sign_word : (g : Got Sign) → is_letter (peek_at s at) ≡ true → g ≡ or_broken word (word_at (drop at s)) → g ≡ sign_at chain (peek_at s at) (drop (at + 1) s)

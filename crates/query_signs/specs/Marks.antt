@@ -1,5 +1,5 @@
 -- Relation signs and marks by their codes: a byte, or 256 times the first byte and the second.
-use Rattle.std.specs.Prelude.{ℕ, ◌/◌, ◌%◌, [], ◌∷◌, Bool, true, false, ◌||◌, leb, ltb, eqb}
+use Rattle.std.specs.Prelude.{ℕ, ◌/◌, ◌%◌, [], ◌∷◌, Bool, true, false, ◌||◌, leb, ltb, eqb, ◌<◌, T, Option, Some, None}
 use Rattle.model.specs.Bytes.{Bytes}
 use Rattle.model.specs.Choice.{pick}
 use Rattle.model.specs.Words.{Got}
@@ -16,6 +16,15 @@ mark_size c = pick (ltb c 256) 1 2
 -- the sign that a code is; 0 is none
 unfoldable pub mark_got : ℕ → Got Sign
 mark_got c = pick (eqb c 0) (record { got = broken; size = 1 }) (record { got = mark (mark_bytes c); size = mark_size c })
+
+-- the code of a mark, 0 where there is none; a code is not 0
+abbrev pub code_or : Option ℕ → ℕ
+code_or None = 0
+code_or (Some c) = c
+
+abbrev pub IsCode : Option ℕ → Type 0
+IsCode None = T true
+IsCode (Some c) = 0 < c
 
 -- ( ) , - . : < = > [ ]
 unfoldable pub is_single : ℕ → Bool

@@ -1,5 +1,5 @@
 -- What the readers of signs give: the first sign of a text from a place on, and the signs behind it.
-use Rattle.std.specs.Prelude.{ℕ, ◌+◌, ◌-◌, ◌<◌, ◌≡◌, List, [], ◌∷◌, ◌++◌, Bool, true, false, ◌||◌, length, drop, T, eqb}
+use Rattle.std.specs.Prelude.{ℕ, ◌+◌, ◌-◌, ◌<◌, ◌≡◌, List, [], ◌∷◌, ◌++◌, Bool, true, false, ◌||◌, length, drop, T, eqb, Option, Some, None}
 use Rattle.model.specs.Bytes.{Bytes}
 use Rattle.model.specs.Choice.{Maybe, nothing, just}
 use Rattle.model.specs.Words.{Got}
@@ -7,18 +7,8 @@ use Rattle.model.specs.Signs.{Sign, word, whole, text, mark, broken, chain_behin
 use Rattle.model.specs.Answers.{name_at}
 use Rattle.model.specs.Places.{placed, Bracket, bracket_of, Standing, value as value_at, variable_at, standings}
 use Rattle.text.specs.Parts.{HasPart}
-use Rattle.text.specs.declared.End.{End}
-use Rattle.text.specs.declared.End.TheVariants as end
 use Rattle.query_signs.specs.declared.Sign.{Sign as SignData}
 use Rattle.query_signs.specs.declared.Sign.TheVariants as sign
-use Rattle.query_signs.specs.declared.SignRead.{SignRead}
-use Rattle.query_signs.specs.declared.SignRead.TheVariants as read
-use Rattle.query_signs.specs.declared.NameRead.{NameRead}
-use Rattle.query_signs.specs.declared.NameRead.TheVariants as name
-use Rattle.query_signs.specs.declared.RelationRead.{RelationRead}
-use Rattle.query_signs.specs.declared.RelationRead.TheVariants as relation
-use Rattle.query_signs.specs.declared.ValueRead.{ValueRead}
-use Rattle.query_signs.specs.declared.ValueRead.TheVariants as value
 use Rattle.query_signs.specs.Marks.{mark_bytes}
 
 -- a space or a line feed
@@ -33,9 +23,9 @@ sign_of s (sign.Text p) = text (name_at s p)
 sign_of s (sign.Mark c) = mark (mark_bytes c)
 
 -- a sign that was read at a place, and its size
-unfoldable pub got_of : Bytes → ℕ → SignRead → Got Sign
-got_of s at read.None = record { got = broken; size = 1 }
-got_of s at (read.Found t q) = record { got = sign_of s t; size = q - at }
+unfoldable pub got_of : Bytes → ℕ → Option (SignData × ℕ) → Got Sign
+got_of s at None = record { got = broken; size = 1 }
+got_of s at (Some (t, q)) = record { got = sign_of s t; size = q - at }
 
 -- the part of a word, and of a text value behind its apostrophe, for a sign at a place
 abbrev pub PartAt : Bytes → ℕ → SignData → Type 0
@@ -44,9 +34,9 @@ PartAt s at (sign.Whole n) = T true
 PartAt s at (sign.Text p) = p ≡ record { start = at + 1; length = length (name_at s p) }
 PartAt s at (sign.Mark c) = T true
 
-abbrev pub ReadPartAt : Bytes → ℕ → SignRead → Type 0
-ReadPartAt s at read.None = T true
-ReadPartAt s at (read.Found t q) = PartAt s at t
+abbrev pub ReadPartAt : Bytes → ℕ → Option (SignData × ℕ) → Type 0
+ReadPartAt s at None = T true
+ReadPartAt s at (Some (t, q)) = PartAt s at t
 
 -- the part of a word or a text value lies inside the text
 abbrev pub SignInside : Bytes → SignData → Type 0
@@ -55,12 +45,12 @@ SignInside s (sign.Whole n) = T true
 SignInside s (sign.Text p) = HasPart s p
 SignInside s (sign.Mark c) = T true
 
-abbrev pub ReadInside : Bytes → SignRead → Type 0
-ReadInside s read.None = T true
-ReadInside s (read.Found t q) = SignInside s t
+abbrev pub ReadInside : Bytes → Option (SignData × ℕ) → Type 0
+ReadInside s None = T true
+ReadInside s (Some (t, q)) = SignInside s t
 
 -- r is the sign g, read at a place
-pub record SignGot (s : Bytes) (at : ℕ) (g : Got Sign) (r : SignRead) : Type 0 where
+pub record SignGot (s : Bytes) (at : ℕ) (g : Got Sign) (r : Option (SignData × ℕ)) : Type 0 where
   pub got : got_of s at r ≡ g
   pub part : ReadPartAt s at r
 
@@ -72,9 +62,9 @@ is_wordy (sign.Text p) = false
 is_wordy (sign.Mark c) = false
 
 -- what is read ends behind a place
-abbrev pub Behind : ℕ → SignRead → Type 0
-Behind at read.None = T true
-Behind at (read.Found t q) = at < q
+abbrev pub Behind : ℕ → Option (SignData × ℕ) → Type 0
+Behind at None = T true
+Behind at (Some (t, q)) = at < q
 
 -- the signs from a place on, in a chain or not, behind a word or number or not
 abbrev pub signs_from : Bool → Bool → Bytes → ℕ → List Sign
@@ -92,9 +82,9 @@ standing_of o (sign.Text p) = value_at p ∷ []
 standing_of o (sign.Mark c) = []
 
 -- a sign that was read stands before what stands behind it
-abbrev pub SignStands : Bracket → Bool → Bool → Bytes → ℕ → SignRead → Type 0
-SignStands o chain close s from read.None = T true
-SignStands o chain close s from (read.Found t q) =
+abbrev pub SignStands : Bracket → Bool → Bool → Bytes → ℕ → Option (SignData × ℕ) → Type 0
+SignStands o chain close s from None = T true
+SignStands o chain close s from (Some (t, q)) =
     standings_from o chain close s from ≡ standing_of o t ++ standings_from (bracket_of (sign_of s t)) (chain_behind chain (sign_of s t)) (wordy (sign_of s t)) s q
 
 -- a sign that is not broken, and the signs behind it
@@ -111,12 +101,12 @@ first (mark m ∷ ts) = just (record { sign = mark m; rest = ts })
 first (broken ∷ ts) = nothing
 
 -- the first sign by its place
-unfoldable pub first_of : Bool → Bytes → SignRead → Maybe First
-first_of chain s read.None = nothing
-first_of chain s (read.Found t q) = let x = sign_of s t in just (record { sign = x; rest = signs_from (chain_behind chain x) (wordy x) s q })
+unfoldable pub first_of : Bool → Bytes → Option (SignData × ℕ) → Maybe First
+first_of chain s None = nothing
+first_of chain s (Some (t, q)) = let x = sign_of s t in just (record { sign = x; rest = signs_from (chain_behind chain x) (wordy x) s q })
 
 -- r is the first sign from a place on, if that is not broken
-pub record NextSign (chain close : Bool) (s : Bytes) (from : ℕ) (r : SignRead) : Type 0 where
+pub record NextSign (chain close : Bool) (s : Bytes) (from : ℕ) (r : Option (SignData × ℕ)) : Type 0 where
   pub reads : first (signs_from chain close s from) ≡ first_of chain s r
   pub moves : Behind from r
   pub inside : ReadInside s r

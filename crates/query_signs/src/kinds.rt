@@ -22,11 +22,12 @@ fn is_blank(b: usize) -> bool
 pub fn blanks_end(s: &[u8], from: usize) -> usize
     ensures { result ≡ past is_blank s.now from }
 {
-    let mut i = from;
-    while is_blank(bytes::peek(s, i)) {
-        i += 1;
+    for i in from..s.len() {
+        if !is_blank(s[i] as usize) {
+            return i;
+        }
     }
-    i
+    from.max(s.len())
 }
 
 // A number begins at a place: a digit stands there, or a minus before a digit.

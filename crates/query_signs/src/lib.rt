@@ -16,31 +16,3 @@ pub enum Sign {
     Text(Part),
     Mark(usize),
 }
-
-// A sign that was read, and the place behind it; or none.
-#[derive(Clone, Copy)]
-pub enum SignRead {
-    Found(Sign, usize),
-    None,
-}
-
-// A name that was read, and the place behind it; or none.
-#[derive(Clone, Copy)]
-pub enum NameRead {
-    Found(Part, usize),
-    None,
-}
-
-// A relation that was read, and the place behind it; or none.
-#[derive(Clone, Copy)]
-pub enum RelationRead {
-    Found(Relation, usize),
-    None,
-}
-
-// A value that was read, the place behind it, and whether it ends in a word or a number; or none.
-#[derive(Clone, Copy)]
-pub enum ValueRead {
-    Found(Value, usize, bool),
-    None,
-}

@@ -1,7 +1,8 @@
 // Relation signs and marks, each kept as a code: its byte, or 256 times its first byte and its second.
+// A code stays a number: an enum of the 16 marks would need a table from bytes to marks, one back and one of sizes, where a code is all three.
 ghost use Rattle.std.specs.Prelude.{◌≡◌, ◌&&◌, ◌+◌, ◌*◌, ◌<◌, length, drop};
 ghost use Rattle.model.specs.Signs.{mark_at};
-ghost use Rattle.query_signs.specs.Marks.{is_single, is_pair, is_arrow, mark_got, mark_size};
+ghost use Rattle.query_signs.specs.Marks.{is_single, is_pair, is_arrow, mark_got, mark_size, code_or, IsCode};
 
 use text::bytes;
 
@@ -36,9 +37,6 @@ pub const AT_LEAST: usize = 62 * 256 + 61;
 pub const LEFTWARD: usize = 60 * 256 + 45;
 
 pub const RIGHTWARD: usize = 45 * 256 + 62;
-
-// No mark.
-pub const NONE: usize = 0;
 
 // A byte that is a mark by itself.
 fn is_single(b: usize) -> bool
@@ -97,23 +95,24 @@ fn is_arrow(chain: bool, code: usize) -> bool
     code == RIGHTWARD
 }
 
-// The code of the mark at a place, in a chain or not; NONE if no mark stands there.
-pub fn mark_at(s: &[u8], at: usize, chain: bool) -> usize
+// The code of the mark at a place, in a chain or not.
+pub fn mark_at(s: &[u8], at: usize, chain: bool) -> Option<usize>
     requires { at < length s.now }
-    ensures { mark_got result ≡ mark_at (Rattle.model.specs.Signs.marks chain) (drop at s.now) }
+    ensures reads { mark_got (code_or result) ≡ mark_at (Rattle.model.specs.Signs.marks chain) (drop at s.now) }
+    ensures some { IsCode result }
 {
     let b = bytes::peek(s, at);
     let pair = b * 256 + bytes::peek(s, at + 1);
     if is_arrow(chain, pair) {
-        return pair;
+        return Some(pair);
     }
     if is_pair(pair) {
-        return pair;
+        return Some(pair);
     }
     if is_single(b) {
-        return b;
+        return Some(b);
     }
-    NONE
+    None
 }
 
 // How many bytes a mark has.

@@ -5,67 +5,58 @@ ghost use Rattle.model.specs.Signs.{or_broken, mark_at, sign_at};
 ghost use Rattle.text.specs.Places.{peek_at};
 ghost use Rattle.query_signs.specs.Reads.{SignGot, NextSign};
 
-use crate::{Sign, SignRead, kinds, marks};
+use crate::{Sign, kinds, marks};
 use model::Part;
-use text::{End, NumberRead, bytes, numbers, quotes, words};
+use text::{bytes, numbers, quotes, words};
 
 // The word at a place.
-fn word_sign(s: &[u8], at: usize) -> SignRead
+fn word_sign(s: &[u8], at: usize) -> Option<(Sign, usize)>
     ensures { SignGot s.now at (or_broken Rattle.model.specs.Signs.Sign.word (word_at (drop at s.now))) result }
 {
-    let End::At(q) = words::word(s, at) else {
-        return SignRead::None;
-    };
-    SignRead::Found(
+    let q = words::word(s, at)?;
+    Some((
         Sign::Word(Part {
             start: at,
             length: q - at,
         }),
         q,
-    )
+    ))
 }
 
 // The whole number at a place.
-fn number_sign(s: &[u8], at: usize) -> SignRead
+fn number_sign(s: &[u8], at: usize) -> Option<(Sign, usize)>
     ensures { SignGot s.now at (or_broken Rattle.model.specs.Signs.Sign.whole (whole_at (drop at s.now))) result }
 {
-    let NumberRead::Number(n, q) = numbers::whole(s, at) else {
-        return SignRead::None;
-    };
-    SignRead::Found(Sign::Whole(n), q)
+    let (n, q) = numbers::whole(s, at)?;
+    Some((Sign::Whole(n), q))
 }
 
 // The text value whose first apostrophe stands at a place.
-fn text_sign(s: &[u8], at: usize) -> SignRead
+fn text_sign(s: &[u8], at: usize) -> Option<(Sign, usize)>
     requires { at < length s.now }
     ensures { SignGot s.now at (or_broken Rattle.model.specs.Signs.Sign.text (text_at (drop (at + 1) s.now))) result }
 {
-    let End::At(q) = quotes::text_value(s, at) else {
-        return SignRead::None;
-    };
-    SignRead::Found(
+    let q = quotes::text_value(s, at)?;
+    Some((
         Sign::Text(Part {
             start: at + 1,
             length: q - at - 2,
         }),
         q,
-    )
+    ))
 }
 
 // The mark at a place, in a chain or not.
-fn mark_sign(s: &[u8], at: usize, chain: bool) -> SignRead
+fn mark_sign(s: &[u8], at: usize, chain: bool) -> Option<(Sign, usize)>
     requires { at < length s.now }
     ensures { SignGot s.now at (mark_at (Rattle.model.specs.Signs.marks chain) (drop at s.now)) result }
 {
-    let m = marks::mark_at(s, at, chain);
-    if m == marks::NONE {
-        return SignRead::None;
-    }
-    SignRead::Found(Sign::Mark(m), at + marks::mark_size(m))
+    let m = marks::mark_at(s, at, chain)?;
+    Some((Sign::Mark(m), at + marks::mark_size(m)))
 }
 
 // The sign at a place, in a chain or not.
-fn sign_at(s: &[u8], at: usize, chain: bool) -> SignRead
+fn sign_at(s: &[u8], at: usize, chain: bool) -> Option<(Sign, usize)>
     requires { at < length s.now }
     ensures { SignGot s.now at (sign_at chain (peek_at s.now at) (drop (at + 1) s.now)) result }
 {
@@ -83,18 +74,16 @@ fn sign_at(s: &[u8], at: usize, chain: bool) -> SignRead
 }
 
 // The next sign from a place on, in a chain or not, behind a word or number or not.
-pub fn next_sign(s: &[u8], from: usize, chain: bool, close: bool) -> SignRead
+pub fn next_sign(s: &[u8], from: usize, chain: bool, close: bool) -> Option<(Sign, usize)>
     ensures { NextSign chain close s.now from result }
 {
     let at = kinds::blanks_end(s, from);
     if s.len() <= at {
-        return SignRead::None;
+        return None;
     }
-    let SignRead::Found(t, q) = sign_at(s, at, chain) else {
-        return SignRead::None;
-    };
+    let (t, q) = sign_at(s, at, chain)?;
     if kinds::adjoins(close, from, at, t) {
-        return SignRead::None;
+        return None;
     }
-    SignRead::Found(t, q)
+    Some((t, q))
 }

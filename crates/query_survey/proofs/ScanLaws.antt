@@ -8,6 +8,7 @@ use native.Mathlib.Numerals.{add-one}
 use lib.ListN.{length, take, drop, get_or, length-drop}
 use lib.Seq.{take-suc, drop-cons, drop-drop}
 use lib.Dec.{eqb}
+use Rattle.std.specs.Prelude.{Option, Some, None, Result, Ok, Err}
 use Rattle.model.specs.Bytes.{Bytes, same}
 use Rattle.model.specs.Choice.{pick, Maybe, nothing, just, and_then}
 use Rattle.model.specs.Lists.{any, joined}
@@ -22,14 +23,11 @@ use Rattle.query_signs.specs.Reads.{signs_from}
 use Rattle.query_pieces.specs.Steps.{spot_of, chain_at, piece_of, walk_at, step_of, StepAt}
 use Rattle.query_pieces.specs.Named.{vertex_in, edge_in, return_in}
 use Rattle.query_pieces.specs.declared.Link.{Link}
+use Rattle.query_pieces.specs.declared.Piece.{Piece as PieceData}
 use Rattle.query_pieces.specs.declared.Piece.TheVariants as piece
 use Rattle.query_pieces.specs.declared.Place.{Place}
 use Rattle.query_pieces.specs.declared.Step.{Step}
-use Rattle.query_pieces.specs.declared.PieceRead.{PieceRead}
-use Rattle.query_pieces.specs.declared.PieceRead.TheVariants as read
 use Rattle.query_survey.specs.declared.Which.{Which}
-use Rattle.query_survey.specs.declared.NameOf.{NameOf}
-use Rattle.query_survey.specs.declared.NameOf.TheVariants.{Is, None}
 use Rattle.query_survey.specs.Names.{name_in, names_in, as_list, found_at}
 
 pub mem_append : (w : Bytes) (a b : List Bytes) → mem w (a ++ b) ≡ (mem w a || mem w b)
@@ -42,7 +40,7 @@ mem_append w (x ∷ a) b = rw (mem_append w a b) (go (same w x) (any (same w) a)
     go false x y = refl
 
 -- a name in a list of one or none
-pub name_is : (s : Bytes) (w : Which) (p : Piece) (n : Bytes) (r : NameOf) → as_list s r ≡ name_in w p → (q : Part) → r ≡ Is q
+pub name_is : (s : Bytes) (w : Which) (p : Piece) (n : Bytes) (r : Option Part) → as_list s r ≡ name_in w p → (q : Part) → r ≡ Some q
     → same n (name_at s q) ≡ mem n (name_in w p)
 unfolding as_list mem any
 name_is s w p n r h q e = rw (← h, e) (sym (go (same n (name_at s q))))
@@ -51,29 +49,29 @@ name_is s w p n r h q e = rw (← h, e) (sym (go (same n (name_at s q))))
     go true = refl
     go false = refl
 
-pub name_none : (s : Bytes) (w : Which) (p : Piece) (n : Bytes) (r : NameOf) → as_list s r ≡ name_in w p → r ≡ None → false ≡ mem n (name_in w p)
+pub name_none : (s : Bytes) (w : Which) (p : Piece) (n : Bytes) (r : Option Part) → as_list s r ≡ name_in w p → r ≡ None → false ≡ mem n (name_in w p)
 unfolding as_list mem any
 name_none s w p n r h e = rw (← h, e)
 
 -- the pieces from a place on, one step further
-module _ (s : Bytes) (place : Place) (r : PieceRead) (h : StepAt s place r) where
-  pub step_found : (x : Step) → r ≡ read.Found x → walk_at s place ≡ ahead (piece_of s x.piece) (walk_at s x.next)
+module _ (s : Bytes) (place : Place) (r : Result Step Bool) (h : StepAt s place r) where
+  pub step_found : (x : Step) → r ≡ Ok x → walk_at s place ≡ ahead (piece_of s x.piece) (walk_at s x.next)
   unfolding step_of
   step_found x e = h.reads ∙ ap (step_of s) e
 
-  pub step_list : (x : Step) → r ≡ read.Found x → found_at s place ≡ piece_of s x.piece ∷ found_at s x.next
+  pub step_list : (x : Step) → r ≡ Ok x → found_at s place ≡ piece_of s x.piece ∷ found_at s x.next
   unfolding ahead
   step_list x e = ap (λ (w : Walk). w.found) (step_found x e)
 
-  pub step_whole : (x : Step) → r ≡ read.Found x → (walk_at s place).whole ≡ (walk_at s x.next).whole
+  pub step_whole : (x : Step) → r ≡ Ok x → (walk_at s place).whole ≡ (walk_at s x.next).whole
   unfolding ahead
   step_whole x e = ap (λ (w : Walk). w.whole) (step_found x e)
 
-  pub step_none : (w : Bool) → r ≡ read.None w → found_at s place ≡ []
+  pub step_none : (w : Bool) → r ≡ Err w → found_at s place ≡ []
   unfolding step_of stopped
   step_none w e = ap (λ (w : Walk). w.found) (h.reads ∙ ap (step_of s) e)
 
-  pub step_ends : (w : Bool) → r ≡ read.None w → (walk_at s place).whole ≡ w
+  pub step_ends : (w : Bool) → r ≡ Err w → (walk_at s place).whole ≡ w
   unfolding step_of stopped
   step_ends w e = ap (λ (w : Walk). w.whole) (h.reads ∙ ap (step_of s) e)
 
@@ -156,7 +154,30 @@ module _ (s : Bytes) (l : Link) where
   linked_edge true = refl
   linked_edge false = refl
 
-  pub linked_return : (points : Bool) → return_in (piece_of s (piece.Linked points l)) ≡ []
+-- a piece that is none of those with a name of the kind
+module _ (s : Bytes) where
+  pub no_vertex : (p : PieceData) → ((v : Part) → p ≡ piece.Start v → ⊥) → ((points : Bool) (l : Link) → p ≡ piece.Linked points l → ⊥)
+      → [] ≡ vertex_in (piece_of s p)
+  unfolding vertex_in piece_of
+  no_vertex (piece.Start v) h k = absurd (h v refl)
+  no_vertex (piece.Linked points l) h k = absurd (k points l refl)
+  no_vertex (piece.Differ v u) h k = refl
+  no_vertex (piece.Asks d) h k = refl
+  no_vertex (piece.Returns v) h k = refl
+
+  pub no_edge : (p : PieceData) → ((points : Bool) (l : Link) → p ≡ piece.Linked points l → ⊥) → [] ≡ edge_in (piece_of s p)
+  unfolding edge_in piece_of
+  no_edge (piece.Start v) k = refl
+  no_edge (piece.Linked points l) k = absurd (k points l refl)
+  no_edge (piece.Differ v u) k = refl
+  no_edge (piece.Asks d) k = refl
+  no_edge (piece.Returns v) k = refl
+
+  pub no_return : (p : PieceData) → ((v : Part) → p ≡ piece.Returns v → ⊥) → [] ≡ return_in (piece_of s p)
   unfolding return_in piece_of
-  linked_return true = refl
-  linked_return false = refl
+  no_return (piece.Start v) h = refl
+  no_return (piece.Linked true l) h = refl
+  no_return (piece.Linked false l) h = refl
+  no_return (piece.Differ v u) h = refl
+  no_return (piece.Asks d) h = refl
+  no_return (piece.Returns v) h = absurd (h v refl)

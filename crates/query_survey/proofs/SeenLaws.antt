@@ -18,6 +18,13 @@ use Rattle.query_survey.specs.Counting.{new_vertex, an_edge, an_exclusion, a_req
 use Rattle.query_survey.specs.declared.Survey.{Survey}
 use Rattle.query_survey.specs.Survey.{undeclared_by, repeats, surveyed}
 
+-- a fault that is seen here or was seen before
+pub or_before : (x y : Bool) → (y || x) ≡ pick x true y
+or_before true true = refl
+or_before true false = refl
+or_before false true = refl
+or_before false false = refl
+
 -- a fault that was seen stays seen
 pub stays_seen : (x y : Bool) → y ≡ true → true ≡ pick x true y
 stays_seen true y e = refl

@@ -1,9 +1,10 @@
 -- The names of each kind in the pieces of a text.
-use Rattle.std.specs.Prelude.{List, [], ◌∷◌, true, false, T}
+use Rattle.std.specs.Prelude.{List, [], ◌∷◌, true, false, T, Option, Some, None}
 use Rattle.model.specs.Bytes.{Bytes}
 use Rattle.model.specs.Lists.{joined}
 use Rattle.model.specs.Grammar.{Piece}
 use Rattle.model.specs.Answers.{name_at}
+use Rattle.model.specs.declared.Part.{Part}
 use Rattle.text.specs.Parts.{HasPart}
 use Rattle.query_pieces.specs.Named.{vertex_in, edge_in, return_in}
 use Rattle.query_pieces.specs.Steps.{walk_at}
@@ -11,8 +12,6 @@ use Rattle.query_pieces.specs.declared.Place.{Place}
 use Rattle.query_pieces.specs.declared.Spot.TheVariants.{AtStart}
 use Rattle.query_survey.specs.declared.Which.{Which}
 use Rattle.query_survey.specs.declared.Which.TheVariants.{Vertex, Edge, Returned}
-use Rattle.query_survey.specs.declared.NameOf.{NameOf}
-use Rattle.query_survey.specs.declared.NameOf.TheVariants.{Is, None}
 
 -- a list of pieces
 abbrev pub Pieces : Type 0
@@ -28,13 +27,13 @@ abbrev pub names_in : Which → List Piece → List Bytes
 names_in w ps = joined (name_in w) ps
 
 -- a name, or none, as a list
-unfoldable pub as_list : Bytes → NameOf → List Bytes
-as_list s (Is p) = name_at s p ∷ []
+unfoldable pub as_list : Bytes → Option Part → List Bytes
+as_list s (Some p) = name_at s p ∷ []
 as_list s None = []
 
 -- it lies inside the text
-abbrev pub OfInside : Bytes → NameOf → Type 0
-OfInside s (Is p) = HasPart s p
+abbrev pub OfInside : Bytes → Option Part → Type 0
+OfInside s (Some p) = HasPart s p
 OfInside s None = T true
 
 -- the place at which a text begins

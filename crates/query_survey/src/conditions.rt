@@ -47,16 +47,10 @@ pub fn differ_seen(
     ensures { (b : Book) (rest : Pieces)
         → result ≡ surveyed b (take i (text_pieces s.now)) t (asks (differ (name_at s.now v) (name_at s.now u))) rest }
 {
-    let n = met.vertices;
-    let unknown = is_unknown_pair(s, vertices, n, i, v, u);
-    let undeclared = tallies::flagged(unknown, t.undeclared);
-    let same = scan::same_part(s, v, u);
-    let itself = tallies::flagged(same, t.itself);
-    let fewer = tallies::less(t.exclusions);
     let mut r = t;
-    r.undeclared = undeclared;
-    r.itself = itself;
-    r.exclusions = fewer;
+    r.undeclared |= is_unknown_pair(s, vertices, met.vertices, i, v, u);
+    r.itself |= scan::same_part(s, v, u);
+    r.exclusions = t.exclusions.saturating_sub(1);
     r
 }
 
@@ -81,13 +75,18 @@ pub fn demand_seen(
 {
     let x = d.subject;
     let a = d.attribute;
-    let relation = d.relation;
-    let value = d.value;
-    let n = met.vertices;
-    let m = met.edges;
-    let vertex = table::stands_before(s, vertices, n, i, Which::Vertex, x);
-    let edge = table::stands_before(s, edges, m, i, Which::Edge, x);
-    let of_vertex = declared::attr_seen(book, words, counts, Owner::Node, s, a, relation, value);
+    let vertex = table::stands_before(s, vertices, met.vertices, i, Which::Vertex, x);
+    let edge = table::stands_before(s, edges, met.edges, i, Which::Edge, x);
+    let of_vertex = declared::attr_seen(
+        book,
+        words,
+        counts,
+        Owner::Node,
+        s,
+        a,
+        d.relation,
+        d.value,
+    );
     let of_edge = declared::attr_seen(
         book,
         words,
@@ -95,18 +94,13 @@ pub fn demand_seen(
         Owner::Relationship,
         s,
         a,
-        relation,
-        value,
+        d.relation,
+        d.value,
     );
-    let unknown = tallies::neither(vertex, of_vertex.known, edge, of_edge.known);
-    let unsuited = tallies::neither(vertex, of_vertex.typed, edge, of_edge.typed);
-    let undeclared = tallies::flagged(unknown, t.undeclared);
-    let mistyped = tallies::flagged(unsuited, t.mistyped);
-    let fewer = tallies::less(t.requirements);
     let mut r = t;
-    r.undeclared = undeclared;
-    r.mistyped = mistyped;
-    r.requirements = fewer;
+    r.undeclared |= tallies::neither(vertex, of_vertex.known, edge, of_edge.known);
+    r.mistyped |= tallies::neither(vertex, of_vertex.typed, edge, of_edge.typed);
+    r.requirements = t.requirements.saturating_sub(1);
     r
 }
 
@@ -124,15 +118,9 @@ pub fn return_seen(
         × Holds s.now returned.now met.returned (names_in Returned (take i (text_pieces s.now))) × HasPart s.now v }
     ensures { (b : Book) (rest : Pieces) → result ≡ surveyed b (take i (text_pieces s.now)) t (returns (name_at s.now v)) rest }
 {
-    let n = met.vertices;
-    let m = met.returned;
-    let known = table::stands_before(s, vertices, n, i, Which::Vertex, v);
-    let undeclared = tallies::flagged(!known, t.undeclared);
-    let twice = table::seen_before(s, returned, m, i, Which::Returned, v, t.twice);
-    let fewer = tallies::less(t.returns);
     let mut r = t;
-    r.undeclared = undeclared;
-    r.twice = twice;
-    r.returns = fewer;
+    r.undeclared |= !table::stands_before(s, vertices, met.vertices, i, Which::Vertex, v);
+    r.twice = table::seen_before(s, returned, met.returned, i, Which::Returned, v, t.twice);
+    r.returns = t.returns.saturating_sub(1);
     r
 }

@@ -18,14 +18,8 @@ pub enum Which {
     Returned,
 }
 
-// The name of a kind in a piece, if it has one.
-#[derive(Clone, Copy)]
-pub enum NameOf {
-    Is(Part),
-    None,
-}
-
 // What is known behind some pieces of a text: which of the faults 4, 5, 6 and 8 a piece showed, and how many more of each kind would pass a limit.
+// Four tests beside five counts, each with a meaning of its own: no flag says whether another field stands.
 #[derive(Clone, Copy)]
 pub struct Survey {
     pub undeclared: bool,
@@ -48,6 +42,7 @@ pub struct Met {
 }
 
 // What a book says of an attribute: whether it is declared, and whether with a type that has a relation and a value.
+// Two tests and no Option of the second: each fault asks for one of them alone, of a vertex and of an edge.
 #[derive(Clone, Copy)]
 pub struct AttrSeen {
     pub known: bool,

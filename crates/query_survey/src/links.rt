@@ -53,15 +53,13 @@ fn link_twice(
     if before {
         return true;
     }
-    let n = met.edges;
-    if table::stands_before(s, edges, n, i, Which::Edge, e) {
+    if table::stands_before(s, edges, met.edges, i, Which::Edge, e) {
         return true;
     }
-    let m = met.vertices;
-    if table::stands_before(s, vertices, m, i, Which::Vertex, e) {
+    if table::stands_before(s, vertices, met.vertices, i, Which::Vertex, e) {
         return true;
     }
-    if table::stands_before(s, edges, n, i, Which::Edge, v) {
+    if table::stands_before(s, edges, met.edges, i, Which::Edge, v) {
         return true;
     }
     scan::same_part(s, v, e)
@@ -80,13 +78,9 @@ pub fn start_seen(
     requires { Known s.now vertices.now edges.now met (take i (text_pieces s.now)) × HasPart s.now v }
     ensures { (b : Book) (rest : Pieces) → result ≡ surveyed b (take i (text_pieces s.now)) t (start (name_at s.now v)) rest }
 {
-    let n = met.vertices;
-    let m = met.edges;
-    let twice = table::seen_before(s, edges, m, i, Which::Edge, v, t.twice);
-    let left = vertices_left(s, vertices, n, i, v, t.vertices);
     let mut r = t;
-    r.twice = twice;
-    r.vertices = left;
+    r.twice = table::seen_before(s, edges, met.edges, i, Which::Edge, v, t.twice);
+    r.vertices = vertices_left(s, vertices, met.vertices, i, v, t.vertices);
     r
 }
 
@@ -110,19 +104,10 @@ pub fn link_seen(
         × (result ≡ surveyed (book_at book.now words.now counts) (take i (text_pieces s.now)) t
         (comes (name_at s.now l.edge) (name_at s.now l.label) (name_at s.now l.vertex)) rest) }
 {
-    let e = l.edge;
-    let label = l.label;
-    let v = l.vertex;
-    let n = met.vertices;
-    let known = declared::label_known(book, words, counts, s, label);
-    let undeclared = tallies::flagged(!known, t.undeclared);
-    let twice = link_twice(s, vertices, edges, met, i, e, v, t.twice);
-    let left = vertices_left(s, vertices, n, i, v, t.vertices);
-    let fewer = tallies::less(t.edges);
     let mut r = t;
-    r.undeclared = undeclared;
-    r.twice = twice;
-    r.vertices = left;
-    r.edges = fewer;
+    r.undeclared |= !declared::label_known(book, words, counts, s, l.label);
+    r.twice = link_twice(s, vertices, edges, met, i, l.edge, l.vertex, t.twice);
+    r.vertices = vertices_left(s, vertices, met.vertices, i, l.vertex, t.vertices);
+    r.edges = t.edges.saturating_sub(1);
     r
 }

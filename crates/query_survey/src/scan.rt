@@ -5,12 +5,11 @@ ghost use Rattle.model.specs.Names.{mem};
 ghost use Rattle.model.specs.Answers.{name_at};
 ghost use Rattle.text.specs.Parts.{HasPart};
 ghost use Rattle.query_pieces.specs.Steps.{piece_of, PieceInside};
-ghost use Rattle.query_pieces.specs.Named.{vertex_in, edge_in, return_in};
 ghost use Rattle.query_survey.specs.Names.{name_in, names_in, as_list, OfInside, found_at, text_start};
 
-use crate::{NameOf, Which};
+use crate::Which;
 use model::Part;
-use query_pieces::{Piece, PieceRead, Place, Spot, reading};
+use query_pieces::{Piece, Place, Spot, reading};
 use text::parts;
 
 // The place at which a text begins.
@@ -24,63 +23,17 @@ pub fn text_start() -> Place
     }
 }
 
-// The vertex of a piece.
-pub fn vertex_of(p: Piece) -> NameOf
-    ensures reads { (s : Bytes) → as_list s result ≡ vertex_in (piece_of s p) }
-    ensures inside { (s : Bytes) → PieceInside s p → OfInside s result }
-{
-    match p {
-        Piece::Start(v) => NameOf::Is(v),
-        Piece::Linked(_, l) => {
-            let name = l.vertex;
-            NameOf::Is(name)
-        }
-        Piece::Differ(_, _) => NameOf::None,
-        Piece::Asks(_) => NameOf::None,
-        Piece::Returns(_) => NameOf::None,
-    }
-}
-
-// The edge variable of a piece.
-pub fn edge_of(p: Piece) -> NameOf
-    ensures reads { (s : Bytes) → as_list s result ≡ edge_in (piece_of s p) }
-    ensures inside { (s : Bytes) → PieceInside s p → OfInside s result }
-{
-    match p {
-        Piece::Start(_) => NameOf::None,
-        Piece::Linked(_, l) => {
-            let name = l.edge;
-            NameOf::Is(name)
-        }
-        Piece::Differ(_, _) => NameOf::None,
-        Piece::Asks(_) => NameOf::None,
-        Piece::Returns(_) => NameOf::None,
-    }
-}
-
-// The returned name of a piece.
-pub fn return_of(p: Piece) -> NameOf
-    ensures reads { (s : Bytes) → as_list s result ≡ return_in (piece_of s p) }
-    ensures inside { (s : Bytes) → PieceInside s p → OfInside s result }
-{
-    match p {
-        Piece::Start(_) => NameOf::None,
-        Piece::Linked(_, _) => NameOf::None,
-        Piece::Differ(_, _) => NameOf::None,
-        Piece::Asks(_) => NameOf::None,
-        Piece::Returns(v) => NameOf::Is(v),
-    }
-}
-
 // The name of a kind in a piece.
-pub fn name_of(which: Which, p: Piece) -> NameOf
+pub fn name_of(which: Which, p: Piece) -> Option<Part>
     ensures reads { (s : Bytes) → as_list s result ≡ name_in which (piece_of s p) }
     ensures inside { (s : Bytes) → PieceInside s p → OfInside s result }
 {
-    match which {
-        Which::Vertex => vertex_of(p),
-        Which::Edge => edge_of(p),
-        Which::Returned => return_of(p),
+    match (which, p) {
+        (Which::Vertex, Piece::Start(v)) => Some(v),
+        (Which::Vertex, Piece::Linked(_, l)) => Some(l.vertex),
+        (Which::Edge, Piece::Linked(_, l)) => Some(l.edge),
+        (Which::Returned, Piece::Returns(v)) => Some(v),
+        _ => None,
     }
 }
 
@@ -98,8 +51,8 @@ pub fn has_name(s: &[u8], which: Which, p: Piece, name: Part) -> bool
     ensures { result ≡ mem (name_at s.now name) (name_in which (piece_of s.now p)) }
 {
     match name_of(which, p) {
-        NameOf::Is(q) => same_part(s, name, q),
-        NameOf::None => false,
+        Some(q) => same_part(s, name, q),
+        None => false,
     }
 }
 
@@ -109,18 +62,14 @@ pub fn stands(s: &[u8], from: Place, count: usize, which: Which, name: Part) -> 
     ensures { result ≡ mem (name_at s.now name) (names_in which (take count (found_at s.now from))) }
 {
     let mut place = from;
-    let mut i = 0;
-    while i < count {
-        let PieceRead::Found(x) = reading::next_piece(s, place) else {
+    for i in 0..count {
+        let Ok(x) = reading::next_piece(s, place) else {
             return false;
         };
-        let p = x.piece;
-        if has_name(s, which, p, name) {
+        if has_name(s, which, x.piece, name) {
             return true;
         }
-        let next = x.next;
-        place = next;
-        i += 1;
+        place = x.next;
     }
     false
 }

@@ -1,6 +1,5 @@
 // A fault seen or not, and what is left of a limit.
-ghost use Rattle.std.specs.Prelude.{◌≡◌, true, not, ◌&&◌, ◌||◌, ◌-◌};
-ghost use Rattle.model.specs.Choice.{pick};
+ghost use Rattle.std.specs.Prelude.{◌≡◌, not, ◌&&◌, ◌||◌};
 ghost use Rattle.query_survey.specs.Survey.{unseen, over_limit, verdict};
 
 use crate::Survey;
@@ -8,37 +7,11 @@ use model::refusal_numbers::{
     BROKEN, LIMIT_PASSED, NOT_DECLARED, OTHER_TYPE, SECOND_TIME, SELF_EXCLUDED,
 };
 
-// True where a test holds, else what was so before.
-pub fn flagged(test: bool, before: bool) -> bool
-    ensures { result ≡ pick test true before }
-{
-    if test { true } else { before }
-}
-
-// One less, down to 0.
-pub fn less(n: u32) -> u32
-    ensures { result ≡ n - 1 }
-{
-    if n == 0 { 0 } else { n - 1 }
-}
-
 // Neither of two pairs of tests holds.
 pub fn neither(a: bool, b: bool, c: bool, d: bool) -> bool
     ensures { result ≡ not (a && b || c && d) }
 {
-    if a {
-        if b {
-            return false;
-        }
-        if c {
-            return !d;
-        }
-        return true;
-    }
-    if c {
-        return !d;
-    }
-    true
+    !(a && b || c && d)
 }
 
 // Before the first piece: no fault, and one more than each limit is left.
@@ -62,19 +35,7 @@ pub fn nothing_seen() -> Survey
 pub fn is_over(t: Survey) -> bool
     ensures { result ≡ over_limit t }
 {
-    if t.vertices == 0 {
-        return true;
-    }
-    if t.edges == 0 {
-        return true;
-    }
-    if t.exclusions == 0 {
-        return true;
-    }
-    if t.requirements == 0 {
-        return true;
-    }
-    t.returns == 0
+    [t.vertices, t.edges, t.exclusions, t.requirements, t.returns].contains(&0)
 }
 
 // The lowest fault at the end of a text, which keeps the grammar or not; 0 if there is none.

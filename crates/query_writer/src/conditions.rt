@@ -31,13 +31,11 @@ pub fn put_conditions(
         out.new result }
 {
     let mut next = at;
-    let mut i = 0;
-    while i < count {
+    for i in 0..count {
         let clause = clauses[i];
         let condition = clause.condition;
         next = put_where(i, out, next);
         next = put_condition(book, words, query, vertices, edges, condition, out, next);
-        i += 1;
     }
     next
 }

@@ -13,14 +13,14 @@ ghost use Rattle.query_writer.specs.Inside.{PatternInside};
 use book_tables::BookCounts;
 use model::Pattern;
 use model::limits::MAX_QUERY_BYTES;
-use putting::{Written, bytes};
+use putting::bytes;
 
 mod conditions;
 mod matches;
 mod returns;
 mod values;
 
-// Writes the query of a pattern in front of a buffer; a text that does not fit leaves the buffer as it is.
+// Writes the query of a pattern in front of a buffer, and answers its length; a text that does not fit leaves the buffer as it is.
 pub fn write_query(
     book: &[u8],
     words: &[u32],
@@ -28,17 +28,17 @@ pub fn write_query(
     query: &[u8],
     pattern: Pattern,
     out: &mut [u8],
-) -> Written
+) -> Option<usize>
     requires { Writable book.now words.now counts query.now pattern }
     ensures { Writes 2048 (written_query (pattern_in (book_at book.now words.now counts) query.now pattern))
         out.old out.new result }
 {
     let length = put_query(book, words, query, pattern, &mut out[..0], 0);
     if putting::too_long(MAX_QUERY_BYTES, out.len(), length) {
-        return Written::TooLong;
+        return None;
     }
     put_query(book, words, query, pattern, out, 0);
-    Written::Length(length)
+    Some(length)
 }
 
 // Puts the whole text: Matches, conditions, Return.

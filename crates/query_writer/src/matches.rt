@@ -24,11 +24,9 @@ pub fn put_vertices(
     ensures { Puts out.old at (vertices_text query.now vertices count) out.new result }
 {
     let mut next = at;
-    let mut i = 0;
-    while i < count {
+    for i in 0..count {
         let name = vertices[i];
         next = put_vertex(query, i, name, out, next);
-        i += 1;
     }
     next
 }
@@ -49,11 +47,9 @@ pub fn put_edges(
         out.new result }
 {
     let mut next = at;
-    let mut i = 0;
-    while i < count {
+    for i in 0..count {
         let edge = edges[i];
         next = put_edge(book, words, query, vertices, edge, out, next);
-        i += 1;
     }
     next
 }

@@ -25,12 +25,10 @@ pub fn put_returns(
     ensures { Puts out.old at (returns_text query.now vertices returns count) out.new result }
 {
     let mut next = at;
-    let mut i = 0;
-    while i < count {
+    for i in 0..count {
         let v = returns[i];
         let name = vertices[v];
         next = put_return(query, i, name, out, next);
-        i += 1;
     }
     next
 }

@@ -6,6 +6,7 @@ use mathlib.Core.Bool.{Bool, true, false}
 use native.Mathlib.Omega.{arith}
 use lib.ListN.{length, get_or}
 use lib.Dec.{eqb}
+use Rattle.std.specs.Prelude.{Result, Ok, Err}
 use Rattle.model.specs.Bytes.{Bytes, same}
 use Rattle.model.specs.Choice.{pick, nothing, just}
 use Rattle.model.specs.Lists.{place_where}
@@ -18,16 +19,11 @@ use Rattle.model.specs.Renaming.{later_names, renamed, first_stuck, declares_nod
 use Rattle.model.specs.Service.{with_work, rename_service}
 use Rattle.model.specs.Answers.{refusal_of, writer_answer}
 use Rattle.model.specs.declared.Refusal.{Refusal as RefusalData}
-use Rattle.model.specs.declared.TextWritten.TheVariants.{Refused}
 use Rattle.renaming.proofs.AcceptedBook.{book_bytes}
 use Rattle.book_tables.specs.declared.BookCounts.{BookCounts}
 use Rattle.book_tables.specs.View.{book_at}
 use Rattle.book_tables.specs.Fits.{Fits}
-use Rattle.book.specs.declared.BookLoad.{BookLoad}
-use Rattle.book.specs.declared.BookLoad.TheVariants as load
 use Rattle.book.specs.Loaded.{Loaded}
-use Rattle.later_names.specs.declared.NewNames.{NewNames}
-use Rattle.later_names.specs.declared.NewNames.TheVariants.{Free, Stuck}
 use Rattle.later_names.specs.Ask.{ReadExactly, Answered}
 use Rattle.later_names.specs.Later.{later_marks}
 use Rattle.later_names.proofs.MarkLaws.{marks_tell}
@@ -63,13 +59,13 @@ pub declared_in_book : (s : Bytes) (b : Book) → read_book_by same s ≡ accept
 declared_in_book s b e n = omega (arith, declared_small n s, (book_bytes same s b e).short)
 
 -- what is answered of the new names, by its case
-pub answered_stuck : (s : Bytes) (names : List Name) (nodes : ℕ) (r : NewNames) (i : ℕ) → r ≡ Stuck i → Answered s names nodes r
+pub answered_stuck : (s : Bytes) (names : List Name) (nodes : ℕ) (r : Result ℕ ℕ) (i : ℕ) → r ≡ Err i → Answered s names nodes r
     → (i < nodes) × (first_stuck s names [] (later_names [] names) ≡ just (get_or names i []))
-answered_stuck s names nodes r i e h = subst (λ (x : NewNames). Answered s names nodes x) e h
+answered_stuck s names nodes r i e h = subst (λ (x : Result ℕ ℕ). Answered s names nodes x) e h
 
-pub answered_free : (s : Bytes) (names : List Name) (nodes : ℕ) (r : NewNames) (n : ℕ) → r ≡ Free n → Answered s names nodes r
+pub answered_free : (s : Bytes) (names : List Name) (nodes : ℕ) (r : Result ℕ ℕ) (n : ℕ) → r ≡ Ok n → Answered s names nodes r
     → (first_stuck s names [] (later_names [] names) ≡ nothing) × (n ≡ length (renamed (later_names [] names) s))
-answered_free s names nodes r n e h = subst (λ (x : NewNames). Answered s names nodes x) e h
+answered_free s names nodes r n e h = subst (λ (x : Result ℕ ℕ). Answered s names nodes x) e h
 
 -- the marks of later names tell them
 pub marks_right : (text : Bytes) (words : List ℕ) (c : BookCounts) → Fits text words c → (marks : List Bool)
@@ -79,13 +75,13 @@ unfolding is_marked
 marks_right text words c fits marks e = record { told = λ w. rw e (marks_tell text words c fits w) }
 
 -- a book that was loaded by the very names
-pub loaded_exactly : (work : ℕ) (text : Bytes) (words : List ℕ) (r : BookLoad) (c : BookCounts) → r ≡ load.Loaded c
+pub loaded_exactly : (work : ℕ) (text : Bytes) (words : List ℕ) (r : Result BookCounts RefusalData) (c : BookCounts) → r ≡ Ok c
     → Loaded text words r (with_work work (read_book_by same text)) → ReadExactly text words c
 loaded_exactly work text words r c e l = let h = loaded work text words r (read_book_by same text) c e l in record { fits = h.2; is = h.1 }
 
 -- the first refusal, of the memory or of the book, is the renaming's
 pub refused_first : (work : ℕ) (book out : Bytes) (x : RefusalData) → with_work work (read_book_by same book) ≡ refused (refusal_of x)
-    → (writer_answer (Refused x) ≡ (rename_service work out book).answer) × (out ≡ (rename_service work out book).text)
+    → (writer_answer (Err x) ≡ (rename_service work out book).answer) × (out ≡ (rename_service work out book).text)
 unfolding rename_service renamed_book
 refused_first work book out x e = first_refused work out (read_book_by same book) _ x e
 

@@ -8,24 +8,23 @@ ghost use Rattle.model.specs.Answers.{writer_answer};
 ghost use Rattle.later_names.specs.Ask.{ReadExactly};
 ghost use Rattle.written_book.specs.Leaves.{Leaves};
 
-use book::BookLoad;
 use book_tables::{BookCounts, NameRule};
-use later_names::NewNames;
+use model::Refusal;
 use model::refusal_numbers::{BOOK, NO_LINE, NO_ROOM, SECOND_TIME};
-use model::{Refusal, TextWritten};
 
+// The steps of `tidy_book`, by another rule of names; the two share them as `load_whole`, and each clause names its own service.
 // Writes the new book in front of the text buffer and answers its length, or a refusal, which leaves the buffer as it is. The book is read by the very
 // names of its nodes. The working memory ends all ones.
-pub fn rename_book(book: &[u8], text: &mut [u8], work: &mut [u32]) -> TextWritten
+pub fn rename_book(book: &[u8], text: &mut [u8], work: &mut [u32]) -> Result<usize, Refusal>
     ensures answer { writer_answer result ≡ (rename_service (length work.old) text.old book.now).answer }
     ensures text { text.new ≡ (rename_service (length work.old) text.old book.now).text }
     ensures cleared { work.new ≡ ones (length work.old) }
 {
     match written_book::load_whole(book, work, NameRule::Exact) {
-        BookLoad::Refused(refusal) => {
-            return TextWritten::Refused(refusal);
+        Err(refusal) => {
+            return Err(refusal);
         }
-        BookLoad::Loaded(counts) => {
+        Ok(counts) => {
             let written = write_renamed(book, work, counts, text);
             fill::fill(work, 0);
             return written;
@@ -34,22 +33,27 @@ pub fn rename_book(book: &[u8], text: &mut [u8], work: &mut [u32]) -> TextWritte
 }
 
 // The book being read: writes it with its new names, unless one of them cannot be had or the buffer is too short.
-fn write_renamed(book: &[u8], words: &[u32], counts: BookCounts, text: &mut [u8]) -> TextWritten
+fn write_renamed(
+    book: &[u8],
+    words: &[u32],
+    counts: BookCounts,
+    text: &mut [u8],
+) -> Result<usize, Refusal>
     requires { ReadExactly book.now words.now counts }
     ensures { Leaves (renamed_book book.now) text.old text.new result }
 {
     match later_names::new_names(book, words, counts) {
-        NewNames::Stuck(node) => {
+        Err(node) => {
             let name = book_lookup::names::node_name(book, words, node);
-            return TextWritten::Refused(Refusal {
+            return Err(Refusal {
                 number: SECOND_TIME,
                 text: BOOK,
                 line: renamed_text::declared_at(book, name) as u32,
             });
         }
-        NewNames::Free(size) => {
+        Ok(size) => {
             if text.len() < size {
-                return TextWritten::Refused(Refusal {
+                return Err(Refusal {
                     number: NO_ROOM,
                     text: BOOK,
                     line: NO_LINE,
@@ -57,7 +61,7 @@ fn write_renamed(book: &[u8], words: &[u32], counts: BookCounts, text: &mut [u8]
             }
             let marks = later_names::later_marks(book, words, counts);
             renamed_text::put_renamed(book, words, counts, &marks, text);
-            return TextWritten::Length(size);
+            return Ok(size);
         }
     }
 }

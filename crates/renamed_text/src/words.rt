@@ -14,14 +14,12 @@ pub struct Word {
 fn word_start(s: &[u8], from: usize) -> usize
     ensures { result ≡ past is_between s.now from }
 {
-    let mut i = from;
-    while i < s.len() {
+    for i in from..s.len() {
         if text::bytes::in_word(s[i]) {
             return i;
         }
-        i += 1;
     }
-    i
+    from.max(s.len())
 }
 
 // The first word from a place on; an empty one behind the last byte if there is none.

@@ -5,7 +5,7 @@ use mathlib.Core.List.{List, [], ◌∷◌, ◌++◌}
 use mathlib.Core.Bool.{Bool, true, false, not}
 use native.Mathlib.Omega.{arith}
 use lib.ListN.{length, length-map}
-use lib.Dec.{T, eqb, ltb}
+use lib.Dec.{T, ltb}
 use borrow.Author.Tests.{lt-ltb, le-ltb}
 use Rattle.model.specs.Bytes.{Bytes, bytes_of}
 use Rattle.model.specs.Choice.{pick, Maybe, nothing, just}
@@ -83,7 +83,7 @@ module _ (text : Bytes) (words : List ℕ) (c : RulesCounts) (f : Fits text word
   abbrev pub unknown_test : Bool
   unknown_test = any (is_unknown (actors_at text words k) (node_names b)) xs
 
-  pub is_undeclared : c.categories ≤ k → fault ≡ pick (eqb 4 0) nothing (just 4)
+  pub is_undeclared : c.categories ≤ k → fault ≡ just 4
   unfolding request_fault lowest
   is_undeclared l =
       let m : mem w (category_names (rules_at text words c)) ≡ false = ap (mem w) (category_names_law text words c)
@@ -104,21 +104,21 @@ module _ (text : Bytes) (words : List ℕ) (c : RulesCounts) (f : Fits text word
     unfolding request_fault
     by_tests = rw (known_category, its_actors)
 
-    pub is_4 : unknown_test ≡ true → fault ≡ pick (eqb 4 0) nothing (just 4)
+    pub is_4 : unknown_test ≡ true → fault ≡ just 4
     unfolding lowest
     is_4 h = by_tests ∙ rw h
 
     module _ (h4 : unknown_test ≡ false) where
-      pub is_5 : twice (actors_in xs) ≡ true → fault ≡ pick (eqb 5 0) nothing (just 5)
+      pub is_5 : twice (actors_in xs) ≡ true → fault ≡ just 5
       unfolding lowest
       is_5 h = by_tests ∙ rw (h4, h)
 
       module _ (h5 : twice (actors_in xs) ≡ false) where
-        pub is_11 : mem (bytes_of "requestor") (actors_in xs) ≡ false → fault ≡ pick (eqb 11 0) nothing (just 11)
+        pub is_11 : mem (bytes_of "requestor") (actors_in xs) ≡ false → fault ≡ just 11
         unfolding lowest
         is_11 h = by_tests ∙ rw (h4, h5, h)
 
-        pub is_none : mem (bytes_of "requestor") (actors_in xs) ≡ true → fault ≡ pick (eqb 0 0) nothing (just 0)
+        pub is_none : mem (bytes_of "requestor") (actors_in xs) ≡ true → fault ≡ nothing
         unfolding lowest
         is_none h = by_tests ∙ rw (h4, h5, h)
 

@@ -4,6 +4,7 @@ use mathlib.Core.Path.{◌≡◌, refl, ap, subst, ◌∙◌}
 use mathlib.Core.List.{List}
 use mathlib.Core.Bool.{Bool, true, false}
 use native.Mathlib.Omega.{arith}
+use Rattle.std.specs.Prelude.{Option, Some, None}
 use Rattle.model.specs.Bytes.{Bytes, bytes_of, same}
 use Rattle.model.specs.Choice.{pick, Maybe, nothing, just, and_then}
 use Rattle.model.specs.Lists.{each}
@@ -12,11 +13,8 @@ use Rattle.model.specs.Forms.{as_name, first}
 use Rattle.model.specs.Request.{Claim, claim_of, RequestLine, request_line}
 use Rattle.model.specs.Answers.{name_at}
 use Rattle.model.specs.declared.Part.{Part}
-use Rattle.text.specs.declared.End.TheVariants as end
-use Rattle.item_forms.specs.declared.ItemAt.{ItemAt}
-use Rattle.item_forms.specs.declared.ItemAt.TheVariants as piece
 use Rattle.item_forms.specs.Ends.{line_at}
-use Rattle.item_forms.specs.Pieces.{behind, name_places, word_next, name_next}
+use Rattle.item_forms.specs.Pieces.{behind, item_place, word_next, name_next}
 use Rattle.item_forms.specs.Forms.{form_opens}
 use Rattle.item_forms.specs.Places.{WordPlaces}
 use Rattle.name_lists.proofs.Forms.{line_unopened, line_opened, no_word, a_word, no_name, a_name_law}
@@ -38,15 +36,15 @@ then_never nothing = refl
 then_never (just a) = refl
 
 module _ (s : Bytes) where
-  pub unopened : end.None ≡ form_opens s 0 → and_then (line_items s) request_line ≡ nothing
+  pub unopened : None ≡ form_opens s 0 → and_then (line_items s) request_line ≡ nothing
   unopened e = line_unopened s request_line e
 
-  module _ {i : ℕ} (opened : end.At i ≡ form_opens s 0) where
-    pub wordless : piece.None ≡ word_next 3 true s i → and_then (line_items s) request_line ≡ nothing
+  module _ {i : ℕ} (opened : Some i ≡ form_opens s 0) where
+    pub wordless : None ≡ word_next 3 true s i → and_then (line_items s) request_line ≡ nothing
     unfolding request_line by_word made
     wordless w = line_opened s request_line opened ∙ no_word true s i by_word w
 
-    module _ {h : Part} (w : piece.At h ≡ word_next 3 true s i) where
+    module _ {h : Part} (w : Some h ≡ word_next 3 true s i) where
       worded : and_then (line_items s) request_line ≡ line_at false (behind h) s (by_word (name_at s h))
       unfolding request_line by_word made
       worded = line_opened s request_line opened ∙ a_word true s i by_word w
@@ -54,21 +52,21 @@ module _ (s : Bytes) where
       pub of_other_law : same (name_at s h) (bytes_of "request") ≡ false → and_then (line_items s) request_line ≡ nothing
       unfolding by_word made
       of_other_law t = worded ∙ ap (λ (t : Bool). line_at false (behind h) s (λ is. first as_name is (made t))) t
-          ∙ go (name_places (name_next 3 false s (behind h))) refl
+          ∙ go (item_place (name_next 3 false s (behind h))) refl
         where
-          go : (r : ItemAt) → r ≡ name_places (name_next 3 false s (behind h)) → line_at false (behind h) s (λ is. first as_name is (made false)) ≡ nothing
-          go (piece.At n) e = a_name_law s (behind h) (made false) n e ∙ claims_then s (behind n) false (λ cs. nothing) ∙ then_never (claims_from s (behind n))
-          go piece.None e = no_name s (behind h) (made false) e
+          go : (r : Option Part) → r ≡ item_place (name_next 3 false s (behind h)) → line_at false (behind h) s (λ is. first as_name is (made false)) ≡ nothing
+          go (Some n) e = a_name_law s (behind h) (made false) n e ∙ claims_then s (behind n) false (λ cs. nothing) ∙ then_never (claims_from s (behind n))
+          go None e = no_name s (behind h) (made false) e
 
       module _ (t : same (name_at s h) (bytes_of "request") ≡ true) where
         of_request : and_then (line_items s) request_line ≡ line_at false (behind h) s (λ is. first as_name is (made true))
         unfolding by_word
         of_request = worded ∙ ap (λ (t : Bool). line_at false (behind h) s (λ is. first as_name is (made t))) t
 
-        pub unnamed : piece.None ≡ name_places (name_next 3 false s (behind h)) → and_then (line_items s) request_line ≡ nothing
+        pub unnamed : None ≡ item_place (name_next 3 false s (behind h)) → and_then (line_items s) request_line ≡ nothing
         unnamed e = of_request ∙ no_name s (behind h) (made true) e
 
-        module _ {c : Part} (n : piece.At c ≡ name_places (name_next 3 false s (behind h))) where
+        module _ {c : Part} (n : Some c ≡ item_place (name_next 3 false s (behind h))) where
           named : and_then (line_items s) request_line ≡ and_then (claims_from s (behind c)) (λ cs. just (line_of s c cs))
           unfolding made
           named = of_request ∙ a_name_law s (behind h) (made true) c n ∙ claims_then s (behind c) false (λ cs. just (line_of s c cs))
@@ -96,8 +94,8 @@ module _ (s : Bytes) where
               }
 
 -- what was read, by the answer
-pub form_at_law : (s : Bytes) (line : Maybe RequestLine) {w : Part} (r : ItemAt) → r ≡ piece.At w → FormRead s line r → LineRead s line w
+pub form_at_law : (s : Bytes) (line : Maybe RequestLine) {w : Part} (r : Option Part) → r ≡ Some w → FormRead s line r → LineRead s line w
 form_at_law s line r e h = subst (FormRead s line) e h
 
-pub form_none : (s : Bytes) (line : Maybe RequestLine) (r : ItemAt) → r ≡ piece.None → FormRead s line r → line ≡ nothing
+pub form_none : (s : Bytes) (line : Maybe RequestLine) (r : Option Part) → r ≡ None → FormRead s line r → line ≡ nothing
 form_none s line r e h = subst (FormRead s line) e h

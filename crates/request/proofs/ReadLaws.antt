@@ -1,39 +1,36 @@
 -- A whole request: its bytes, its one line, and the answer.
 use Prim.Native.Nat.{ℕ, ◌+◌, ◌-◌, ◌≤◌, ◌<◌}
-use mathlib.Core.Logic.{◌≢◌}
 use mathlib.Core.Path.{◌≡◌, refl, sym, ap, subst, ◌∙◌}
 use mathlib.Core.List.{List, [], ◌∷◌, ◌++◌, map}
 use mathlib.Core.Bool.{Bool, true, false}
 use native.Mathlib.Omega.{arith}
 use lib.ListN.{length, get_or, take, drop, take-append-drop, length-map}
 use lib.Seq.{take-append_seam}
-use lib.Dec.{eqb, ltb}
-use borrow.Author.Tests.{ne_eqb, eqb-true, ltb-false, not-false}
+use lib.Dec.{ltb, eqb}
+use borrow.Author.Tests.{eqb-true, ltb-false, not-false, ne_eqb}
+use Rattle.std.specs.Prelude.{Ok, Err}
 use Rattle.logic.specs.Tests.{either, below_or_not}
 use Rattle.model.specs.Bytes.{Bytes}
 use Rattle.model.specs.Choice.{pick, Maybe, nothing, just, and_then}
 use Rattle.model.specs.Lists.{is_nil}
 use Rattle.model.specs.Items.{line_items}
 use Rattle.model.specs.Refusal.{Outcome, accepted, refused, refusal}
-use Rattle.model.specs.Lines.{Line, Step, fault, known, form_step, fault_or, step_then, lines_of, bad_line}
+use Rattle.model.specs.Lines.{Line, Step, fault, known, form_step, fault_or, step_then, lines_of}
 use Rattle.model.specs.Forms.{form_of}
 use Rattle.model.specs.Book.{Book}
 use Rattle.model.specs.Rules.{Rules}
-use Rattle.model.specs.Request.{Claim, Request, RequestLine, request_line, request_fault, request_of, request_step, one_line, read_request}
+use Rattle.model.specs.Request.{Claim, Request, RequestLine, request_line, request_fault, request_of, request_step, one_line}
 use Rattle.model.specs.Answers.{refusal_of, part_of, name_at}
 use Rattle.model.specs.RequestPlaces.{words_from, placed_by, identity_places, slots}
 use Rattle.model.specs.declared.Part.{Part}
 use Rattle.item_forms.specs.Pieces.{behind}
 use Rattle.model.specs.declared.Refusal.{Refusal as RefusalData}
-use Rattle.model.specs.declared.Verdict.TheVariants as verdict
 use Rattle.model.specs.declared.RequestRead.{RequestRead}
 use Rattle.model.proofs.Outcomes.{never}
-use Rattle.text.specs.declared.BytesRead.{BytesRead}
-use Rattle.text.specs.declared.BytesRead.TheVariants.{Allowed, TooLong, BadLine}
 use Rattle.text.specs.Places.{past, is_other}
-use Rattle.text.specs.Lines.{is_in_line, on_line, bytes_of, on_bytes}
+use Rattle.text.specs.Lines.{is_in_line}
 use Rattle.text.proofs.PlaceLaws.{drop_at, drop_end, past_stops}
-use Rattle.text.proofs.LineLaws.{bytes_first_law, bad_line_small, lines_none, lines_ended, lines_last}
+use Rattle.text.proofs.LineLaws.{lines_none, lines_ended, lines_last}
 use Rattle.book_tables.specs.View.{name_of}
 use Rattle.rules_tables.specs.Layout.{names}
 use Rattle.request.specs.declared.Identities.{Identities}
@@ -53,19 +50,15 @@ module _ (b : Book) (r : Rules) (s : Bytes) (k : Request → Outcome Request) wh
   unfolding request_step form_of form_step step_then
   line_broken e = rw e
 
-  pub line_faulty : (x : RequestLine) (n : ℕ) → and_then (line_items s) request_line ≡ just x → request_fault b r x ≡ pick (eqb n 0) nothing (just n) → n ≢ 0
+  pub line_faulty : (x : RequestLine) (n : ℕ) → and_then (line_items s) request_line ≡ just x → request_fault b r x ≡ just n
       → step_then (request_step b r (ended s)) 4 1 k ≡ refusal n 4 1
   unfolding request_step form_of form_step fault_or step_then
-  line_faulty x n e f h = rw (e, f, ne_eqb n 0 h)
+  line_faulty x n e f = rw (e, f)
 
   pub line_known : (x : RequestLine) → and_then (line_items s) request_line ≡ just x → request_fault b r x ≡ nothing
       → step_then (request_step b r (ended s)) 4 1 k ≡ k (request_of b x)
   unfolding request_step form_of form_step fault_or step_then
   line_known x e f = rw (e, f)
-
--- a fault that is told as 0
-pub no_fault : (o : Maybe ℕ) (n : ℕ) → o ≡ pick (eqb n 0) nothing (just n) → n ≡ 0 → o ≡ nothing
-no_fault o n e z = e ∙ rw z
 
 -- a line is the part before its line feed
 fed_part : (s : Bytes) → part_of (fed s) 0 (length s) ≡ s
@@ -79,7 +72,7 @@ pub accepts_line : (b : Book) (r : Rules) (nodes : ℕ) (rules : Bytes) (table :
     → name_of rules table names k ≡ name_at s w → k < categories
     → ClaimsStored b nodes s (behind w) xs given → drop 2 (words_from false 0 s) ≡ words_at s (behind w)
     → Accepts nodes rules table categories (fed s) (step_then (request_step b r (ended s)) 4 1 accepted)
-    (record { verdict = verdict.Accepted; category = k; identities = given.list; count = given.count })
+    (record { verdict = Ok tt; category = k; identities = given.list; count = given.count })
 unfolding request_of identity_places
 accepts_line b r nodes rules table categories s w k xs given e f n l h o = record {
   request = request_of b (line_of s w xs);
@@ -181,7 +174,7 @@ module _ (nodes : ℕ) (rules : Bytes) (table : List ℕ) (categories : ℕ) (te
 
   module _ (x : Step Request) (r : RequestRead) (h : Reads nodes rules table categories text (step_then x 4 1 accepted) r) where
     -- a refusal of the line is that of the request
-    pub still_refused : (request : Bytes) (k : Request → Outcome Request) (y : RefusalData) → r.verdict ≡ verdict.Refused y
+    pub still_refused : (request : Bytes) (k : Request → Outcome Request) (y : RefusalData) → r.verdict ≡ Err y
         → Reads nodes rules table categories request (step_then x 4 1 k) r
     still_refused request k y e =
         let f = subst (ByVerdict nodes rules table categories text (step_then x 4 1 accepted) r) e h in
@@ -189,37 +182,9 @@ module _ (nodes : ℕ) (rules : Bytes) (table : List ℕ) (categories : ℕ) (te
         record { is = step_refused x k y f.is; category = f.category; identities = f.identities; count = f.count } in
         subst (ByVerdict nodes rules table categories request (step_then x 4 1 k) r) (sym e) g
 
-    its_request : r.verdict ≡ verdict.Accepted → Accepts nodes rules table categories text (step_then x 4 1 accepted) r
+    its_request : r.verdict ≡ Ok tt → Accepts nodes rules table categories text (step_then x 4 1 accepted) r
     its_request e = subst (ByVerdict nodes rules table categories text (step_then x 4 1 accepted) r) e h
 
     -- a second line
-    pub second_line : r.verdict ≡ verdict.Accepted → step_then x 4 1 (λ z. pick false (accepted z) (refusal 3 4 2)) ≡ refusal 3 4 2
+    pub second_line : r.verdict ≡ Ok tt → step_then x 4 1 (λ z. pick false (accepted z) (refusal 3 4 2)) ≡ refusal 3 4 2
     second_line e = step_accepted x (λ z. refusal 3 4 2) (its_request e).request (its_request e).is
-
--- refusals 1 and 2
-module _ (b : Book) (r : Rules) (text : Bytes) (x : BytesRead) (e : x ≡ bytes_of 2048 text) where
-  request_by_bytes : read_request b r text ≡ on_bytes x 4 (λ l. l) (one_line b r (lines_of text))
-  unfolding read_request
-  request_by_bytes = bytes_first_law 4 2048 (λ l. l) text (one_line b r (lines_of text))
-      ∙ ap (λ (y : BytesRead). on_bytes y 4 (λ l. l) (one_line b r (lines_of text))) (sym e)
-
-  pub too_long_law : x ≡ TooLong → read_request b r text ≡ refusal 1 4 0
-  unfolding on_bytes
-  too_long_law h = request_by_bytes ∙ rw h
-
-  pub bad_line_law : (l : ℕ) → x ≡ BadLine l → read_request b r text ≡ refusal 2 4 l
-  unfolding on_bytes
-  bad_line_law l h = request_by_bytes ∙ rw h
-
-  pub allowed : x ≡ Allowed → read_request b r text ≡ one_line b r (lines_of text)
-  unfolding on_bytes
-  allowed h = request_by_bytes ∙ rw h
-
-pub bad_small : (text : Bytes) (x : BytesRead) → x ≡ bytes_of 2048 text → (l : ℕ) → x ≡ BadLine l → l < 2049
-unfolding bytes_of on_line
-bad_small text x e l h = go (ltb 2048 (length text)) refl (bad_line 1 text) refl (sym h ∙ e)
-  where
-    go : (t : Bool) → ltb 2048 (length text) ≡ t → (m : Maybe ℕ) → bad_line 1 text ≡ m → BadLine l ≡ pick t TooLong (on_line m) → l < 2049
-    go true q m b p = let z : ◌≡◌ {A = ℕ} 0 1 = cc in omega arith
-    go false q nothing b p = let z : ◌≡◌ {A = ℕ} 0 1 = cc in omega arith
-    go false q (just k) b p = let same : l ≡ k = cc in omega (arith, bad_line_small 1 k text b, ltb-false 2048 (length text) q)

@@ -8,9 +8,10 @@ use native.Mathlib.Numerals.{add-one}
 use lib.ListN.{length, get_or, set, take, drop, replicate, take-append-drop, length-append, length-set, length-map}
 use lib.Seq.{take-suc-set, drop-set-lt, drop-drop, get_or-set_same, get_or-set_other}
 use mathlib.Core.Logic.{◌≢◌}
+use Rattle.std.specs.Prelude.{None, Some, Result, Ok, Err}
 use Rattle.logic.specs.Tests.{either, equal_or_not}
 use Rattle.model.specs.Bytes.{Bytes}
-use Rattle.model.specs.Choice.{just}
+use Rattle.model.specs.Choice.{nothing, just}
 use Rattle.model.specs.Lists.{any}
 use Rattle.model.specs.Names.{mem, twice, place}
 use Rattle.model.specs.Book.{Book, node_names}
@@ -28,12 +29,12 @@ use Rattle.name_lists.proofs.Again.{again, twice_again}
 use Rattle.book_tables.specs.Listed.{listed}
 use Rattle.book_tables.proofs.ListedLaws.{listed_more, listed_same, map_end}
 use Rattle.book_tables.specs.declared.BookCounts.{BookCounts}
+use Rattle.book_tables.specs.View.{book_at}
 use Rattle.rules_tables.specs.declared.RulesCounts.{RulesCounts}
-use Rattle.request.specs.declared.ClaimAt.TheVariants as at
 use Rattle.request.specs.declared.Identities.{Identities}
-use Rattle.request.specs.Claims.{words_at, claims_from, actors_in, is_unknown, ClaimPlaces, claim_at, claim_on}
+use Rattle.request.specs.Claims.{words_at, claims_from, actors_in, is_unknown, ClaimPlaces, claim_of_places, claim_at, claim_on}
 use Rattle.request.specs.Faults.{FaultTold}
-use Rattle.request.specs.Stored.{no_identities, numbered, ClaimsAsked, fault_only, actor_names, InsideAll, ClaimsStored, ClaimsTold}
+use Rattle.request.specs.Stored.{no_identities, numbered, ClaimsAsked, actor_names, InsideAll, ClaimsStored, ClaimsTold}
 use Rattle.request.proofs.PlaceLaws.{claim_words}
 use Rattle.request.proofs.ClaimLaws.{claim_step, claims_done, claims_over}
 use Rattle.request.proofs.FaultLaws.{any_none, any_found, any_other, any_behind, few_claims}
@@ -117,7 +118,7 @@ module _ {b : Book} {nodes : ℕ} {actors : List Bytes} {s : Bytes} {from : ℕ}
   pub count_few : length actors ≤ 8 → count ≤ 8
   count_few l = omega (arith, few_claims actors (node_names b) h.done h.known h.once, h.counted)
 
-  module _ (a x : Part) (e : ℕ) (n : at.At a x e ≡ claim_at (claim_next 2 s i)) where
+  module _ (a x : Part) (e : ℕ) (n : Some (claim_of_places a x e) ≡ claim_at (claim_next 2 s i)) where
     -- the next identity, and those behind it
     next : (ys : List Claim) × (claims_from s e ≡ just ys) × (h.rest ≡ claim_on s a x ∷ ys)
     next = claim_step s i h.rest a x e n h.left
@@ -245,7 +246,7 @@ module _ {b : Book} {nodes : ℕ} {actors : List Bytes} {s : Bytes} {from : ℕ}
                 }
 
   -- no identity is left
-  module _ (n : at.None ≡ claim_at (claim_next 2 s i)) (xs : List Claim) (d : claims_from s from ≡ just xs) where
+  module _ (n : None ≡ claim_at (claim_next 2 s i)) (xs : List Claim) (d : claims_from s from ≡ just xs) where
     none : h.rest ≡ []
     none = claims_done s i h.rest n h.left
 
@@ -266,7 +267,7 @@ module _ {b : Book} {nodes : ℕ} {actors : List Bytes} {s : Bytes} {from : ℕ}
     none_left = sym (append-nil (take count list)) ∙ ap (λ (t : List Claim). take count list ++ placed_by (words_at s i) (map (numbered b) t)) (sym none)
 
     -- all are stored
-    pub stored : length actors ≤ 8 → ClaimsStored b nodes s from xs (record { fault = 0; list = list; count = count })
+    pub stored : length actors ≤ 8 → ClaimsStored b nodes s from xs (record { list = list; count = count })
     stored few =
         let full : count ≡ length xs = h.counted ∙ ap length done_all in
         let front : take count list ≡ placed_by (words_at s from) (map (numbered b) xs) = none_left ∙ h.places
@@ -284,9 +285,12 @@ module _ {b : Book} {nodes : ℕ} {actors : List Bytes} {s : Bytes} {from : ℕ}
   pub stored_over : {C : Type 0} → length s ≤ i → C
   stored_over l = claims_over s i h.rest l h.left
 
--- a fault that is told beside no identities
-pub told_fault : (book : Bytes) (words : List ℕ) (counts : BookCounts) (rules : Bytes) (table : List ℕ) (sizes : RulesCounts) (k : ℕ) (s : Bytes)
-    (from n : ℕ) → 0 < n → FaultTold book words counts rules table sizes k s from n → (r : Identities) → r ≡ fault_only n
-    → ClaimsTold book words counts rules table sizes k s from r
-told_fault book words counts rules table sizes k s from n p f r e =
-    subst (ClaimsTold book words counts rules table sizes k s from) (sym e) (record { told = f; stored = λ z. absurd (omega arith) })
+-- what is told, by its case
+module _ (book : Bytes) (words : List ℕ) (counts : BookCounts) (rules : Bytes) (table : List ℕ) (sizes : RulesCounts) (k : ℕ) (s : Bytes) (from : ℕ)
+    (r : Result Identities ℕ) (h : ClaimsTold book words counts rules table sizes k s from r) where
+  pub fault_told : (n : ℕ) → r ≡ Err n → FaultTold book words counts rules table sizes k s from (just n)
+  fault_told n e = subst (ClaimsTold book words counts rules table sizes k s from) e h
+
+  pub claims_told : (given : Identities) → r ≡ Ok given → FaultTold book words counts rules table sizes k s from nothing
+      × ((xs : List Claim) → claims_from s from ≡ just xs → ClaimsStored (book_at book words counts) counts.nodes s from xs given)
+  claims_told given e = subst (ClaimsTold book words counts rules table sizes k s from) e h

@@ -7,6 +7,7 @@ use native.Mathlib.Omega.{arith}
 use lib.ListN.{length, drop}
 use lib.Dec.{leb, eqb}
 use borrow.Author.Tests.{eqb-true}
+use Rattle.std.specs.Prelude.{Some}
 use Rattle.model.specs.Bytes.{Bytes}
 use Rattle.model.specs.Choice.{pick, Maybe, nothing, just}
 use Rattle.model.specs.Words.{Got, between, is_letter, is_digit, is_word_byte, run, word_at, whole_at, text_at, quoted_at, read_as}
@@ -14,7 +15,7 @@ use Rattle.model.specs.Items.{Item, word, whole, text, quoted, list, Items, open
 use Rattle.model.specs.RequestPlaces.{words_from}
 use Rattle.model.specs.declared.Part.{Part}
 use Rattle.text.specs.Places.{is_space}
-use Rattle.items.specs.declared.ItemRead.TheVariants.{Word}
+use Rattle.items.specs.declared.ItemEnd.TheVariants.{Word}
 use Rattle.items.specs.Reads.{kind_at, read_of}
 
 -- a byte that is no word byte begins no word
@@ -128,13 +129,13 @@ unfolding item_at
 item_run zero t = run_or t (opens t) nothing (plain_at t) tt (plain_run t)
 item_run (suc d) t = run_or t (opens t) _ (plain_at t) (list_run t (list_at (item_at d) true 0 (drop 1 t))) (plain_run t)
 
-pub read_run : (t : Bytes) (p q : ℕ) (o : Maybe (Got Item)) → IsRun t o → read_of p o ≡ Word q
+pub read_run : (t : Bytes) (p q : ℕ) (o : Maybe (Got Item)) → IsRun t o → read_of p o ≡ Some (Word q)
     → (q ≡ p + length (run is_word_byte t)) × (0 < length (run is_word_byte t))
 unfolding read_of kind_at
 read_run t p q nothing h e = let z : ◌≡◌ {A = ℕ} 0 1 = cc in absurd (omega arith)
 read_run t p q (just g) h e = go g.got h e
   where
-    go : (x : Item) → ByKind t x g.size → kind_at x (p + g.size) ≡ Word q → (q ≡ p + length (run is_word_byte t)) × (0 < length (run is_word_byte t))
+    go : (x : Item) → ByKind t x g.size → Some (kind_at x (p + g.size)) ≡ Some (Word q) → (q ≡ p + length (run is_word_byte t)) × (0 < length (run is_word_byte t))
     go (word w) h e = let z : p + g.size ≡ q = cc in (omega (arith, h.0), omega (arith, h.0, h.1))
     go (whole n) h e = let z : ◌≡◌ {A = ℕ} 0 1 = cc in absurd (omega arith)
     go (text n) h e = let z : ◌≡◌ {A = ℕ} 0 1 = cc in absurd (omega arith)

@@ -1,5 +1,5 @@
 -- The identities of a request's line, by places.
-use Rattle.std.specs.Prelude.{ℕ, ◌<◌, ◌≡◌, List, ◌∷◌, map, Bool, true, false, not, ◌||◌, drop}
+use Rattle.std.specs.Prelude.{ℕ, ◌<◌, ◌≡◌, List, ◌∷◌, map, Bool, true, false, not, ◌||◌, drop, Option, None, Some}
 use Rattle.model.specs.Bytes.{Bytes}
 use Rattle.model.specs.Choice.{Maybe, nothing, just, and_then}
 use Rattle.model.specs.Lists.{each}
@@ -8,13 +8,12 @@ use Rattle.model.specs.Request.{Claim, claim_of}
 use Rattle.model.specs.Answers.{name_at}
 use Rattle.model.specs.RequestPlaces.{words_from}
 use Rattle.model.specs.declared.Part.{Part}
-use Rattle.item_forms.specs.declared.ClaimRead.{ClaimRead}
-use Rattle.item_forms.specs.declared.ClaimRead.TheVariants as claim
+use Rattle.items.specs.declared.Next.{Next}
+use Rattle.items.specs.declared.Next.TheVariants.{Item, Close}
+use Rattle.item_forms.specs.declared.ClaimParts.{ClaimParts}
 use Rattle.item_forms.specs.Ends.{line_at}
 use Rattle.item_forms.specs.Forms.{claim_next}
 use Rattle.item_forms.specs.Places.{WordPlaces}
-use Rattle.request.specs.declared.ClaimAt.{ClaimAt}
-use Rattle.request.specs.declared.ClaimAt.TheVariants as at
 
 -- the words of a line from a place on, where no word byte stands before
 abbrev pub words_at : Bytes → ℕ → List Part
@@ -47,19 +46,23 @@ pub record ClaimPlaces (s : Bytes) (i : ℕ) (a x : Part) (e : ℕ) : Type 0 whe
   pub node : WordPlaces s i x
   pub onward : i < e
 
+-- an identity whose names stand at these places, by what follows it
+abbrev pub claim_of_places : Part → Part → ℕ → ClaimParts
+claim_of_places a x e = record { actor = a; node = x; next = e }
+
 -- an identity that was read, if one was
-abbrev pub claim_at : ClaimRead → ClaimAt
-claim_at (claim.Claim a x e) = at.At a x e
-claim_at (claim.Close e) = at.None
-claim_at claim.None = at.None
+abbrev pub claim_at : Option (Next ClaimParts) → Option ClaimParts
+claim_at (Some (Item x)) = Some x
+claim_at (Some (Close e)) = None
+claim_at None = None
 
 -- where it stands
-abbrev pub ClaimPlaced : Bytes → ℕ → ClaimAt → Type 0
-ClaimPlaced s i (at.At a x e) = ClaimPlaces s i a x e
-ClaimPlaced s i at.None = Unit {0}
+abbrev pub ClaimPlaced : Bytes → ℕ → Option ClaimParts → Type 0
+ClaimPlaced s i (Some r) = ClaimPlaces s i r.actor r.node r.next
+ClaimPlaced s i None = Unit {0}
 
 -- the identity that follows, and where it stands
-pub record NextClaim (s : Bytes) (i : ℕ) (r : ClaimAt) : Type 0 where
+pub record NextClaim (s : Bytes) (i : ℕ) (r : Option ClaimParts) : Type 0 where
   pub is : r ≡ claim_at (claim_next 2 s i)
   pub placed : ClaimPlaced s i r
 

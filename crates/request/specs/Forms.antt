@@ -1,13 +1,11 @@
 -- What the form of a request's line says: the line that the model reads, by places.
-use Rattle.std.specs.Prelude.{◌≡◌, List, false, drop}
+use Rattle.std.specs.Prelude.{◌≡◌, List, false, drop, Option, Some, None}
 use Rattle.model.specs.Bytes.{Bytes}
 use Rattle.model.specs.Choice.{Maybe, nothing, just}
 use Rattle.model.specs.Request.{Claim, RequestLine}
 use Rattle.model.specs.Answers.{name_at}
 use Rattle.model.specs.RequestPlaces.{words_from}
 use Rattle.model.specs.declared.Part.{Part}
-use Rattle.item_forms.specs.declared.ItemAt.{ItemAt}
-use Rattle.item_forms.specs.declared.ItemAt.TheVariants as piece
 use Rattle.item_forms.specs.Pieces.{behind}
 use Rattle.item_forms.specs.Places.{WordPlaces}
 use Rattle.request.specs.Claims.{words_at, claims_from}
@@ -25,6 +23,6 @@ pub record LineRead (s : Bytes) (line : Maybe RequestLine) (w : Part) : Type 0 w
   pub words : drop 2 (words_from false 0 s) ≡ words_at s (behind w)
 
 -- what a form says of the line that the model reads
-abbrev pub FormRead : Bytes → Maybe RequestLine → ItemAt → Type 0
-FormRead s line (piece.At w) = LineRead s line w
-FormRead s line piece.None = line ≡ nothing
+abbrev pub FormRead : Bytes → Maybe RequestLine → Option Part → Type 0
+FormRead s line (Some w) = LineRead s line w
+FormRead s line None = line ≡ nothing

@@ -1,5 +1,5 @@
 -- What reading a request gives: the category's number and the identities, or a refusal beside none.
-use Rattle.std.specs.Prelude.{ℕ, ◌≤◌, ◌<◌, ◌≡◌, List, [], ◌∷◌, ◌++◌, map, true, length, get_or, take}
+use Rattle.std.specs.Prelude.{ℕ, ◌≤◌, ◌<◌, ◌≡◌, List, [], ◌∷◌, ◌++◌, map, true, length, get_or, take, Result, ⊤, Ok, Err}
 use Rattle.model.specs.Bytes.{Bytes}
 use Rattle.model.specs.Refusal.{Outcome, accepted, refused}
 use Rattle.model.specs.Lines.{step_then}
@@ -7,8 +7,6 @@ use Rattle.model.specs.Request.{Request, request_step, read_request}
 use Rattle.model.specs.Answers.{refusal_of, identity_in}
 use Rattle.model.specs.RequestPlaces.{no_identity, identity_places, slots}
 use Rattle.model.specs.declared.Refusal.{Refusal}
-use Rattle.model.specs.declared.Verdict.{Verdict}
-use Rattle.model.specs.declared.Verdict.TheVariants as verdict
 use Rattle.model.specs.declared.RequestRead.{RequestRead}
 use Rattle.book_tables.specs.declared.BookCounts.{BookCounts}
 use Rattle.book_tables.specs.View.{name_of, book_at}
@@ -39,16 +37,16 @@ pub record Refuses (o : Outcome Request) (r : RequestRead) (x : Refusal) : Type 
 -- such an answer
 abbrev pub refused_read : ℕ → ℕ → RequestRead
 refused_read number line = record {
-  verdict = verdict.Refused (record { number = number; text = 4; line = line });
+  verdict = Err (record { number = number; text = 4; line = line });
   category = 0;
   identities = no_identities;
   count = 0;
 }
 
 -- one of the two, by the verdict
-abbrev pub ByVerdict : ℕ → Bytes → List ℕ → ℕ → Bytes → Outcome Request → RequestRead → Verdict → Type 0
-ByVerdict nodes rules words categories text o r verdict.Accepted = Accepts nodes rules words categories text o r
-ByVerdict nodes rules words categories text o r (verdict.Refused x) = Refuses o r x
+abbrev pub ByVerdict : ℕ → Bytes → List ℕ → ℕ → Bytes → Outcome Request → RequestRead → Result ⊤ Refusal → Type 0
+ByVerdict nodes rules words categories text o r (Ok u) = Accepts nodes rules words categories text o r
+ByVerdict nodes rules words categories text o r (Err x) = Refuses o r x
 
 -- what is read says the outcome
 abbrev pub Reads : ℕ → Bytes → List ℕ → ℕ → Bytes → Outcome Request → RequestRead → Type 0

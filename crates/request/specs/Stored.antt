@@ -1,7 +1,7 @@
 -- The identities of a request as plain data: the actors' names by places of the text, the nodes by number.
-use Rattle.std.specs.Prelude.{ℕ, ◌≤◌, ◌<◌, ◌≡◌, List, map, length, get_or, take, replicate}
+use Rattle.std.specs.Prelude.{ℕ, ◌≤◌, ◌<◌, ◌≡◌, List, map, length, get_or, take, replicate, Result, Ok, Err}
 use Rattle.model.specs.Bytes.{Bytes}
-use Rattle.model.specs.Choice.{just}
+use Rattle.model.specs.Choice.{nothing, just}
 use Rattle.model.specs.Names.{place}
 use Rattle.model.specs.Book.{Book, node_names}
 use Rattle.model.specs.Request.{Claim, Identity}
@@ -30,10 +30,6 @@ pub record ClaimsAsked (s : Bytes) (from : ℕ) : Type 0 where
   pub claims : List Claim
   pub are : claims_from s from ≡ just claims
 
--- a fault, beside no identities
-abbrev pub fault_only : ℕ → Identities
-fault_only n = record { fault = n; list = no_identities; count = 0 }
-
 -- the actors of the first identities, standing in a line
 abbrev pub actor_names : Bytes → List IdentityData → ℕ → List Bytes
 actor_names s list n = listed (λ j. name_at s (get_or list j no_identity).actor) n
@@ -51,8 +47,9 @@ pub record ClaimsStored (b : Book) (nodes : ℕ) (s : Bytes) (from : ℕ) (xs : 
   pub counted : r.count ≡ length xs
   pub whole : r.list ≡ slots (placed_by (words_at s from) (map (numbered b) xs))
 
--- the lowest fault of a line whose category has the number k and whose identities stand from a place on; and without a fault the identities
-pub record ClaimsTold (book : Bytes) (words : List ℕ) (counts : BookCounts) (rules : Bytes) (table : List ℕ) (sizes : RulesCounts) (k : ℕ) (s : Bytes)
-    (from : ℕ) (r : Identities) : Type 0 where
-  pub told : FaultTold book words counts rules table sizes k s from r.fault
-  pub stored : r.fault ≡ 0 → (xs : List Claim) → claims_from s from ≡ just xs → ClaimsStored (book_at book words counts) counts.nodes s from xs r
+-- the lowest fault of a line whose category has the number k and whose identities stand from a place on; or, without a fault, the identities
+abbrev pub ClaimsTold : Bytes → List ℕ → BookCounts → Bytes → List ℕ → RulesCounts → ℕ → Bytes → ℕ → Result Identities ℕ → Type 0
+ClaimsTold book words counts rules table sizes k s from (Err n) = FaultTold book words counts rules table sizes k s from (just n)
+ClaimsTold book words counts rules table sizes k s from (Ok r) =
+    FaultTold book words counts rules table sizes k s from nothing
+    × ((xs : List Claim) → claims_from s from ≡ just xs → ClaimsStored (book_at book words counts) counts.nodes s from xs r)

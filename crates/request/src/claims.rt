@@ -2,22 +2,22 @@
 ghost use Rattle.std.specs.Prelude.{◌≡◌};
 ghost use Rattle.request.specs.Claims.{claims_from, are_read, claim_at, NextClaim};
 
-use crate::ClaimAt;
-use item_forms::{ClaimRead, LINE_CLOSES, LIST_DEPTH};
+use item_forms::{ClaimParts, LINE_CLOSES, LIST_DEPTH};
+use items::Next;
 
 // The identity that was read, if one was.
-fn claim_at(read: ClaimRead) -> ClaimAt
+fn claim_at(read: Option<Next<ClaimParts>>) -> Option<ClaimParts>
     ensures { result ≡ claim_at read }
 {
     match read {
-        ClaimRead::Claim { actor, node, next } => ClaimAt::At { actor, node, next },
-        ClaimRead::Close(_) => ClaimAt::None,
-        ClaimRead::None => ClaimAt::None,
+        Some(Next::Item(found)) => Some(found),
+        Some(Next::Close(_)) => None,
+        None => None,
     }
 }
 
-// The identity that follows.
-pub fn next_claim(s: &[u8], from: usize) -> ClaimAt
+// The identity that follows, if one does.
+pub fn next_claim(s: &[u8], from: usize) -> Option<ClaimParts>
     ensures { NextClaim s.now from result }
 {
     claim_at(item_forms::claim(s, from, LIST_DEPTH))
@@ -30,17 +30,13 @@ pub fn are_claims(s: &[u8], from: usize) -> bool
     let mut i = from;
     while i < s.len() {
         match item_forms::claim(s, i, LIST_DEPTH) {
-            ClaimRead::Claim {
-                actor: _,
-                node: _,
-                next,
-            } => {
-                i = next;
+            Some(Next::Item(found)) => {
+                i = found.next;
             }
-            ClaimRead::Close(e) => {
+            Some(Next::Close(e)) => {
                 return item_forms::form_ends(s, e, LINE_CLOSES);
             }
-            ClaimRead::None => {
+            None => {
                 return false;
             }
         }

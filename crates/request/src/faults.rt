@@ -11,7 +11,7 @@ ghost use Rattle.rules_tables.specs.View.{actors_at};
 ghost use Rattle.rules_tables.specs.Fits.{Fits as RulesFit};
 ghost use Rattle.request.specs.Claims.{claims_from, is_unknown};
 
-use crate::{ClaimAt, claims};
+use crate::claims;
 use book_tables::BookCounts;
 use rules_tables::{ACTORS, CATEGORIES, CATEGORY_WORDS, RulesCounts};
 use text::parts;
@@ -53,16 +53,16 @@ pub fn has_unknown(
 {
     let mut i = from;
     while i < s.len() {
-        let ClaimAt::At { actor, node, next } = claims::next_claim(s, i) else {
+        let Some(claim) = claims::next_claim(s, i) else {
             return false;
         };
-        if !is_actor(rules, table, sizes, k, parts::part_of(s, actor)) {
+        if !is_actor(rules, table, sizes, k, parts::part_of(s, claim.actor)) {
             return true;
         }
-        if !is_node(book, words, counts, parts::part_of(s, node)) {
+        if !is_node(book, words, counts, parts::part_of(s, claim.node)) {
             return true;
         }
-        i = next;
+        i = claim.next;
     }
     false
 }

@@ -10,19 +10,18 @@ ghost use Rattle.request.specs.RequestReads.{refused_read, Reads, LineReads, Req
 
 use crate::{forms, stores};
 use book_tables::BookCounts;
-use item_forms::ItemAt;
 use model::limits::{MAX_IDENTITIES, MAX_REQUEST_BYTES};
 use model::refusal_numbers::{BROKEN, NOT_ALLOWED, NOT_DECLARED, REQUEST, TOO_LONG};
-use model::{Refusal, RequestRead, Verdict};
+use model::{Refusal, RequestRead};
 use rules_tables::{CATEGORY_NAMES, RulesCounts};
-use text::{BytesRead, parts};
+use text::{BytesFault, parts};
 
 // A refusal of the request, beside no category and no identities.
 fn refused(number: u32, line: u32) -> RequestRead
     ensures { result ≡ refused_read number line }
 {
     RequestRead {
-        verdict: Verdict::Refused(Refusal {
+        verdict: Err(Refusal {
             number,
             text: REQUEST,
             line,
@@ -46,7 +45,7 @@ fn read_line(
     requires { Fits book.now words.now counts × RulesFit rules.now table.now sizes }
     ensures { LineReads book.now words.now counts rules.now table.now sizes s.now result }
 {
-    let ItemAt::At(name) = forms::request_form(s) else {
+    let Some(name) = forms::request_form(s) else {
         return refused(BROKEN, 1);
     };
     let category = parts::part_of(s, name);
@@ -55,17 +54,17 @@ fn read_line(
         return refused(NOT_DECLARED, 1);
     }
     let end = name.start + name.length;
-    let given = stores::identities(book, words, counts, rules, table, sizes, k, s, end);
-    let fault = given.fault;
-    if fault != 0 {
-        return refused(fault, 1);
-    }
-    let list = given.list;
-    RequestRead {
-        verdict: Verdict::Accepted,
-        category: k,
-        identities: list,
-        count: given.count,
+    match stores::identities(book, words, counts, rules, table, sizes, k, s, end) {
+        Ok(given) => {
+            let list = given.list;
+            RequestRead {
+                verdict: Ok(()),
+                category: k,
+                identities: list,
+                count: given.count,
+            }
+        }
+        Err(fault) => refused(fault, 1),
     }
 }
 
@@ -91,8 +90,8 @@ fn read_one(
     let first = read_line(book, words, counts, rules, table, sizes, &text[0..to]);
     let verdict = first.verdict;
     match verdict {
-        Verdict::Refused(_) => first,
-        Verdict::Accepted => {
+        Err(_) => first,
+        Ok(()) => {
             if to + 1 < text.len() {
                 return refused(BROKEN, 2);
             }
@@ -115,8 +114,8 @@ pub fn read(
     ensures { RequestReads book.now words.now counts rules.now table.now sizes text.now result }
 {
     match text::lines::bytes_read(text, MAX_REQUEST_BYTES) {
-        BytesRead::TooLong => refused(TOO_LONG, 0),
-        BytesRead::BadLine(line) => refused(NOT_ALLOWED, line as u32),
-        BytesRead::Allowed => read_one(book, words, counts, rules, table, sizes, text),
+        Err(BytesFault::TooLong) => refused(TOO_LONG, 0),
+        Err(BytesFault::BadLine(line)) => refused(NOT_ALLOWED, line as u32),
+        Ok(()) => read_one(book, words, counts, rules, table, sizes, text),
     }
 }

@@ -3,9 +3,9 @@ ghost use Rattle.std.specs.Prelude.{◌≡◌, ◌≤◌, ◌<◌};
 ghost use Rattle.model.specs.Names.{mem};
 ghost use Rattle.book_tables.specs.Fits.{Fits};
 ghost use Rattle.rules_tables.specs.Fits.{Fits as RulesFit};
-ghost use Rattle.request.specs.Stored.{ClaimsAsked, fault_only, actor_names, InsideAll, ClaimsTold};
+ghost use Rattle.request.specs.Stored.{ClaimsAsked, actor_names, InsideAll, ClaimsTold};
 
-use crate::{ClaimAt, Identities, claims, faults};
+use crate::{Identities, claims, faults};
 use book_tables::BookCounts;
 use model::limits::MAX_IDENTITIES;
 use model::refusal_numbers::{NO_REQUESTOR, NOT_DECLARED, SECOND_TIME};
@@ -22,31 +22,17 @@ pub const NONE: Identity = Identity {
     node: 0,
 };
 
-// A fault, beside no identities.
-fn fault_only(fault: u32) -> Identities
-    ensures { result ≡ fault_only fault }
-{
-    let list = [NONE; MAX_IDENTITIES];
-    Identities {
-        fault,
-        list,
-        count: 0,
-    }
-}
-
 // Whether one of the first identities is given to an actor.
 fn is_given(s: &[u8], list: [Identity; MAX_IDENTITIES], count: usize, name: &[u8]) -> bool
     requires { (count ≤ 8) × InsideAll s.now list count }
     ensures { result ≡ mem name.now (actor_names s.now list count) }
 {
-    let mut i = 0;
-    while i < count {
+    for i in 0..count {
         let given = list[i];
         let actor = given.actor;
         if compare::same_bytes(name, parts::part_of(s, actor)) {
             return true;
         }
-        i += 1;
     }
     false
 }
@@ -63,7 +49,7 @@ pub fn identities(
     k: usize,
     s: &[u8],
     from: usize,
-) -> Identities
+) -> Result<Identities, u32>
     requires { Fits book.now words.now counts × RulesFit rules.now table.now sizes × (k < sizes.categories) × ClaimsAsked s.now from }
     ensures { ClaimsTold book.now words.now counts rules.now table.now sizes k s.now from result }
 {
@@ -71,36 +57,37 @@ pub fn identities(
     let mut count = 0;
     let mut i = from;
     while i < s.len() {
-        let ClaimAt::At { actor, node, next } = claims::next_claim(s, i) else {
+        let Some(claim) = claims::next_claim(s, i) else {
             if is_given(s, list, count, b"requestor") {
-                return Identities {
-                    fault: 0,
-                    list,
-                    count,
-                };
+                return Ok(Identities { list, count });
             }
-            return fault_only(NO_REQUESTOR);
+            return Err(NO_REQUESTOR);
         };
-        let name = parts::part_of(s, actor);
+        let name = parts::part_of(s, claim.actor);
         if !faults::is_actor(rules, table, sizes, k, name) {
-            return fault_only(NOT_DECLARED);
+            return Err(NOT_DECLARED);
         }
-        let number = book_tables::names::find_node(book, words, counts, parts::part_of(s, node));
+        let number = book_tables::names::find_node(
+            book,
+            words,
+            counts,
+            parts::part_of(s, claim.node),
+        );
         if counts.nodes <= number {
-            return fault_only(NOT_DECLARED);
+            return Err(NOT_DECLARED);
         }
         if is_given(s, list, count, name) {
-            if faults::has_unknown(book, words, counts, rules, table, sizes, k, s, next) {
-                return fault_only(NOT_DECLARED);
+            if faults::has_unknown(book, words, counts, rules, table, sizes, k, s, claim.next) {
+                return Err(NOT_DECLARED);
             }
-            return fault_only(SECOND_TIME);
+            return Err(SECOND_TIME);
         }
         list[count] = Identity {
-            actor,
+            actor: claim.actor,
             node: number,
         };
         count += 1;
-        i = next;
+        i = claim.next;
     }
-    fault_only(NO_REQUESTOR)
+    Err(NO_REQUESTOR)
 }

@@ -21,7 +21,6 @@ use Rattle.model.proofs.Members.{◌∈◌, is_false, all_e, mem_e}
 use Rattle.model.proofs.Decides.{not_e, or_l, or_r}
 use Rattle.model.proofs.Outcomes.{no_fault}
 use Rattle.model.proofs.Places.{at_place, place_at, get_or_in}
-use Rattle.book_tables.specs.Listed.{listed}
 use Rattle.book_tables.specs.View.{word_at, name_in, name_of, names_at}
 use Rattle.book_tables.specs.Fits.{Inside, NamesFit}
 use Rattle.book_tables.specs.Agree.{At}

@@ -5,23 +5,18 @@ use mathlib.Core.List.{List}
 use mathlib.Core.Bool.{Bool, true, false}
 use native.Mathlib.Omega.{arith}
 use lib.ListN.{length}
+use Rattle.std.specs.Prelude.{Option, None, Some}
 use Rattle.model.specs.Bytes.{Bytes, bytes_of, same}
 use Rattle.model.specs.Choice.{pick, Maybe, nothing, just, and_then}
 use Rattle.model.specs.Items.{Item, line_items}
-use Rattle.model.specs.Forms.{first, at_end}
+use Rattle.model.specs.Forms.{at_end}
 use Rattle.model.specs.Grammar.{query_text}
 use Rattle.model.specs.QueryText.{QueryText}
 use Rattle.model.specs.ReadRules.{RulesLine, category, policy, category_line, policy_line, rules_line}
 use Rattle.model.specs.Answers.{name_at}
 use Rattle.model.specs.declared.Part.{Part}
-use Rattle.text.specs.declared.End.{End}
-use Rattle.text.specs.declared.End.TheVariants as end
-use Rattle.item_forms.specs.declared.ItemAt.{ItemAt}
-use Rattle.item_forms.specs.declared.ItemAt.TheVariants as piece
-use Rattle.item_forms.specs.declared.NameItem.{NameItem}
-use Rattle.item_forms.specs.declared.NameItem.TheVariants as name
 use Rattle.item_forms.specs.Ends.{form_at, line_form, line_at, ends_after}
-use Rattle.item_forms.specs.Pieces.{behind, name_places, word_next, name_next, quoted_next, on_piece, on_place}
+use Rattle.item_forms.specs.Pieces.{behind, item_place, word_next, name_next, quoted_next, on_piece, on_place}
 use Rattle.item_forms.specs.Forms.{form_opens, form_closes}
 use Rattle.item_forms.proofs.FormLaws.{line_form_law, form_word, form_quoted, form_end}
 use Rattle.items.proofs.RestLaws.{rest_same, rest_nothing}
@@ -30,37 +25,35 @@ use Rattle.name_lists.specs.Names.{NamesRead, names_behind, names_end, headed_at
 use Rattle.name_lists.proofs.Behind.{headed_names}
 use Rattle.name_lists.proofs.Forms.{form_on, no_name, a_name_law}
 use Rattle.rules.specs.Forms.{after_list, ListRead, NamesList, CategoryRead, PolicyRead, FormRead}
-use Rattle.rules.specs.declared.NamesAt.{NamesAt}
-use Rattle.rules.specs.declared.NamesAt.TheVariants as list
 use Rattle.rules.specs.declared.RulesForm.{RulesForm}
 
 -- a list of names
 module _ (head s : Bytes) (i : ℕ) where
-  pub list_none : end.None ≡ headed_at head s i → (free : Bool) (k : List Bytes → List Item → Maybe RulesLine) → after_list head s free i k ≡ nothing
+  pub list_none : None ≡ headed_at head s i → (free : Bool) (k : List Bytes → List Item → Maybe RulesLine) → after_list head s free i k ≡ nothing
   unfolding on_place
   list_none e free k = headed_names head s k free i
-      ∙ ap (λ (o : End). on_place o (λ a. and_then (names_behind s a) (λ x. line_at true x.end s (k x.names)))) (sym e)
+      ∙ ap (λ (o : Option ℕ). on_place o (λ a. and_then (names_behind s a) (λ x. line_at true x.end s (k x.names)))) (sym e)
 
-  module _ {a : ℕ} (h : end.At a ≡ headed_at head s i) where
+  module _ {a : ℕ} (h : Some a ≡ headed_at head s i) where
     list_names : (free : Bool) (k : List Bytes → List Item → Maybe RulesLine)
         → after_list head s free i k ≡ and_then (names_behind s a) (λ x. line_at true x.end s (k x.names))
     unfolding on_place
     list_names free k = headed_names head s k free i
-        ∙ ap (λ (o : End). on_place o (λ a. and_then (names_behind s a) (λ x. line_at true x.end s (k x.names)))) (sym h)
+        ∙ ap (λ (o : Option ℕ). on_place o (λ a. and_then (names_behind s a) (λ x. line_at true x.end s (k x.names)))) (sym h)
 
-    pub list_broken : end.None ≡ names_end (names_behind s a) → (free : Bool) (k : List Bytes → List Item → Maybe RulesLine) → after_list head s free i k ≡ nothing
+    pub list_broken : None ≡ names_end (names_behind s a) → (free : Bool) (k : List Bytes → List Item → Maybe RulesLine) → after_list head s free i k ≡ nothing
     unfolding names_end and_then
     list_broken n free k = list_names free k ∙ go (names_behind s a) n
       where
-        go : (o : Maybe NamesRead) → end.None ≡ names_end o → and_then o (λ x. line_at true x.end s (k x.names)) ≡ nothing
+        go : (o : Maybe NamesRead) → None ≡ names_end o → and_then o (λ x. line_at true x.end s (k x.names)) ≡ nothing
         go nothing e = refl
         go (just x) e = let z : ◌≡◌ {A = ℕ} 0 1 = cc in absurd (omega arith)
 
-    pub list_read : {e : ℕ} → end.At e ≡ names_end (names_behind s a) → ListRead head s i a e
+    pub list_read : {e : ℕ} → Some e ≡ names_end (names_behind s a) → ListRead head s i a e
     unfolding names_end and_then
     list_read {e} n = go (names_behind s a) refl n
       where
-        go : (o : Maybe NamesRead) → names_behind s a ≡ o → end.At e ≡ names_end o → ListRead head s i a e
+        go : (o : Maybe NamesRead) → names_behind s a ≡ o → Some e ≡ names_end o → ListRead head s i a e
         go nothing q n = let z : ◌≡◌ {A = ℕ} 0 1 = cc in absurd (omega arith)
         go (just x) q n =
             let f : x.end ≡ e = cc in
@@ -73,11 +66,11 @@ module _ (head s : Bytes) (i : ℕ) where
 
 -- a category's line
 module _ (s : Bytes) (i : ℕ) where
-  pub category_unnamed : piece.None ≡ name_places (name_next 3 false s i) → line_at false i s category_line ≡ nothing
+  pub category_unnamed : None ≡ item_place (name_next 3 false s i) → line_at false i s category_line ≡ nothing
   unfolding category_line
   category_unnamed e = no_name s i _ e
 
-  module _ {cat : Part} (n : piece.At cat ≡ name_places (name_next 3 false s i)) where
+  module _ {cat : Part} (n : Some cat ≡ item_place (name_next 3 false s i)) where
     pub category_no_actors : ((free : Bool) (k : List Bytes → List Item → Maybe RulesLine) → after_list (bytes_of "actors") s free (behind cat) k ≡ nothing)
         → line_at false i s category_line ≡ nothing
     unfolding category_line
@@ -111,29 +104,29 @@ module _ (s : Bytes) (i : ℕ) where
 
 -- a policy's line
 module _ (s : Bytes) (i : ℕ) where
-  pub policy_unnamed : piece.None ≡ name_places (name_next 3 false s i) → line_at false i s policy_line ≡ nothing
+  pub policy_unnamed : None ≡ item_place (name_next 3 false s i) → line_at false i s policy_line ≡ nothing
   unfolding policy_line
   policy_unnamed e = no_name s i _ e
 
-  module _ {cat : Part} (n : piece.At cat ≡ name_places (name_next 3 false s i)) where
+  module _ {cat : Part} (n : Some cat ≡ item_place (name_next 3 false s i)) where
     -- what the model makes of the text
     abbrev made : Bytes → Maybe RulesLine
     made t = and_then (query_text t) (λ (tree : QueryText). just (policy (name_at s cat) (length t) tree))
 
-    pub policy_no_text : piece.None ≡ quoted_next 3 false s (behind cat) → line_at false i s policy_line ≡ nothing
+    pub policy_no_text : None ≡ quoted_next 3 false s (behind cat) → line_at false i s policy_line ≡ nothing
     unfolding policy_line on_piece
     policy_no_text e =
         a_name_law s i _ cat n
         ∙ form_quoted line_form false (behind cat) s (λ t is. and_then (at_end is t) made)
-        ∙ ap (λ (r : ItemAt). on_piece r (λ w. line_at false (behind w + 1) s (λ is. and_then (at_end is (name_at s w)) made))) (sym e)
+        ∙ ap (λ (r : Option Part). on_piece r (λ w. line_at false (behind w + 1) s (λ is. and_then (at_end is (name_at s w)) made))) (sym e)
 
-    pub policy_line_law : {t : Part} → piece.At t ≡ quoted_next 3 false s (behind cat)
+    pub policy_line_law : {t : Part} → Some t ≡ quoted_next 3 false s (behind cat)
         → line_at false i s policy_line ≡ pick (form_closes 0 s (behind t + 1)) (made (name_at s t)) nothing
     unfolding policy_line on_piece and_then
     policy_line_law {t} e =
         a_name_law s i _ cat n
         ∙ form_quoted line_form false (behind cat) s (λ t is. and_then (at_end is t) made)
-        ∙ ap (λ (r : ItemAt). on_piece r (λ w. line_at false (behind w + 1) s (λ is. and_then (at_end is (name_at s w)) made))) (sym e)
+        ∙ ap (λ (r : Option Part). on_piece r (λ w. line_at false (behind w + 1) s (λ is. and_then (at_end is (name_at s w)) made))) (sym e)
         ∙ form_on false (behind t + 1) s (λ is. at_end is (name_at s t)) made
         ∙ ap (λ (o : Maybe Bytes). and_then o made) (form_end line_form false (behind t + 1) s (name_at s t))
         ∙ go (form_closes 0 s (behind t + 1))
@@ -142,7 +135,7 @@ module _ (s : Bytes) (i : ℕ) where
         go true = refl
         go false = refl
 
-    module _ {t : Part} (e : piece.At t ≡ quoted_next 3 false s (behind cat)) where
+    module _ {t : Part} (e : Some t ≡ quoted_next 3 false s (behind cat)) where
       pub policy_read : WordPlaces s i cat → behind t < length s → form_closes 0 s (behind t + 1) ≡ true → PolicyRead s (line_at false i s policy_line) cat t
       policy_read h k c = record {
         places = record { after = omega arith; some = h.some; inside = h.inside; short = h.short };
@@ -154,41 +147,41 @@ module _ (s : Bytes) (i : ℕ) where
       policy_open c = policy_line_law e ∙ ap (λ (b : Bool). pick b (made (name_at s t)) nothing) c
 
 -- what was read, by the answer
-pub list_at_law : (head s : Bytes) (i : ℕ) {a e : ℕ} (r : NamesAt) → r ≡ list.At a e → NamesList head s i r → ListRead head s i a e
+pub list_at_law : (head s : Bytes) (i : ℕ) {a e : ℕ} (r : Option (ℕ × ℕ)) → r ≡ Some (a, e) → NamesList head s i r → ListRead head s i a e
 list_at_law head s i r e h = subst (NamesList head s i) e h
 
-pub list_not : (head s : Bytes) (i : ℕ) (r : NamesAt) → r ≡ list.None → NamesList head s i r → (free : Bool) (k : List Bytes → List Item → Maybe RulesLine)
+pub list_not : (head s : Bytes) (i : ℕ) (r : Option (ℕ × ℕ)) → r ≡ None → NamesList head s i r → (free : Bool) (k : List Bytes → List Item → Maybe RulesLine)
     → after_list head s free i k ≡ nothing
 list_not head s i r e h = subst (NamesList head s i) e h
 
-pub quoted_at_law : (s : Bytes) {t : Part} (r : ItemAt) → r ≡ piece.At t → QuotedPlaced s r → behind t < length s
+pub quoted_at_law : (s : Bytes) {t : Part} (r : Option Part) → r ≡ Some t → QuotedPlaced s r → behind t < length s
 quoted_at_law s r e h = subst (QuotedPlaced s) e h
 
-pub form_moved : (s : Bytes) (m m' : Maybe RulesLine) (r : RulesForm) → m ≡ m' → FormRead s m' r → FormRead s m r
+pub form_moved : (s : Bytes) (m m' : Maybe RulesLine) (r : Option RulesForm) → m ≡ m' → FormRead s m' r → FormRead s m r
 form_moved s m m' r e h = subst (λ (x : Maybe RulesLine). FormRead s x r) (sym e) h
 
 -- the line by its first word
 module _ (s : Bytes) where
-  pub unopened : end.None ≡ form_opens s 0 → and_then (line_items s) rules_line ≡ nothing
+  pub unopened : None ≡ form_opens s 0 → and_then (line_items s) rules_line ≡ nothing
   unfolding on_place
-  unopened e = line_form_law rules_line s ∙ ap (λ (o : End). on_place o (λ i. line_at true i s rules_line)) (sym e)
+  unopened e = line_form_law rules_line s ∙ ap (λ (o : Option ℕ). on_place o (λ i. line_at true i s rules_line)) (sym e)
 
-  module _ {i : ℕ} (e : end.At i ≡ form_opens s 0) where
+  module _ {i : ℕ} (e : Some i ≡ form_opens s 0) where
     opened : and_then (line_items s) rules_line ≡ line_at true i s rules_line
     unfolding on_place
-    opened = line_form_law rules_line s ∙ ap (λ (o : End). on_place o (λ i. line_at true i s rules_line)) (sym e)
+    opened = line_form_law rules_line s ∙ ap (λ (o : Option ℕ). on_place o (λ i. line_at true i s rules_line)) (sym e)
 
     by_word : Bytes → List Item → Maybe RulesLine
     by_word w is = pick (same w (bytes_of "category")) (category_line is) (pick (same w (bytes_of "policy")) (policy_line is) nothing)
 
-    pub wordless : piece.None ≡ word_next 3 true s i → and_then (line_items s) rules_line ≡ nothing
+    pub wordless : None ≡ word_next 3 true s i → and_then (line_items s) rules_line ≡ nothing
     unfolding rules_line on_piece by_word
-    wordless w = opened ∙ form_word line_form true i s 3 by_word ∙ ap (λ (r : ItemAt). on_piece r (λ w. line_at false (behind w) s (by_word (name_at s w)))) (sym w)
+    wordless w = opened ∙ form_word line_form true i s 3 by_word ∙ ap (λ (r : Option Part). on_piece r (λ w. line_at false (behind w) s (by_word (name_at s w)))) (sym w)
 
-    module _ {word : Part} (w : piece.At word ≡ word_next 3 true s i) where
+    module _ {word : Part} (w : Some word ≡ word_next 3 true s i) where
       worded : and_then (line_items s) rules_line ≡ line_at false (behind word) s (by_word (name_at s word))
       unfolding rules_line on_piece by_word
-      worded = opened ∙ form_word line_form true i s 3 by_word ∙ ap (λ (r : ItemAt). on_piece r (λ w. line_at false (behind w) s (by_word (name_at s w)))) (sym w)
+      worded = opened ∙ form_word line_form true i s 3 by_word ∙ ap (λ (r : Option Part). on_piece r (λ w. line_at false (behind w) s (by_word (name_at s w)))) (sym w)
 
       pub of_category : same (name_at s word) (bytes_of "category") ≡ true → and_then (line_items s) rules_line ≡ line_at false (behind word) s category_line
       unfolding by_word

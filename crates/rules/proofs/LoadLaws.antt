@@ -8,6 +8,7 @@ use lib.ListN.{length, take, drop, length-drop}
 use lib.Seq.{length-take-le}
 use borrow.Author.Tests.{lt-ltb, le-ltb}
 use Rattle.rules_tables.specs.Layout.{all_rules_words}
+use Rattle.std.specs.Prelude.{Option, None, Some, Result, Ok, Err}
 use Rattle.model.specs.Bytes.{Bytes}
 use Rattle.model.specs.Choice.{Maybe, and_then}
 use Rattle.model.specs.Lines.{Step, fault, known, form_step, read_lines, lines_of}
@@ -29,9 +30,7 @@ use Rattle.rules_tables.specs.Fits.{Fits}
 use Rattle.rules_tables.specs.Enforced.{uncovered_in}
 use Rattle.rules_tables.proofs.PolicyLaws.{covered_by}
 use Rattle.rules.specs.declared.RulesForm.{RulesForm}
-use Rattle.rules.specs.declared.RulesForm.TheVariants.{Category, Policy, None}
-use Rattle.rules.specs.declared.RulesStep.{RulesStep}
-use Rattle.rules.specs.declared.RulesStep.TheVariants.{Fault, Known}
+use Rattle.rules.specs.declared.RulesForm.TheVariants.{Category, Policy}
 use Rattle.rules.specs.Forms.{FormRead, CategoryRead, PolicyRead}
 use Rattle.rules.specs.Steps.{step_of, Stepped}
 use Rattle.rules.specs.Loaded.{no_rules, FormAsked, LineAsked, Reading}
@@ -64,11 +63,11 @@ module _ (text : Bytes) (words : List ℕ) (c : RulesCounts) (none : c.categorie
   }
 
 -- what a form says, by its case
-module _ (s : Bytes) (line : Maybe RulesLine) (r : RulesForm) (h : FormRead s line r) where
-  pub of_category : (cat : Part) (a o : ℕ) → r ≡ Category cat a o → CategoryRead s line cat a o
+module _ (s : Bytes) (line : Maybe RulesLine) (r : Option RulesForm) (h : FormRead s line r) where
+  pub of_category : (cat : Part) (a o : ℕ) → r ≡ Some (Category cat a o) → CategoryRead s line cat a o
   of_category cat a o e = subst (FormRead s line) e h
 
-  pub of_policy_law : (cat t : Part) → r ≡ Policy cat t → PolicyRead s line cat t
+  pub of_policy_law : (cat t : Part) → r ≡ Some (Policy cat t) → PolicyRead s line cat t
   of_policy_law cat t e = subst (FormRead s line) e h
 
   -- a line without a form: 3
@@ -103,12 +102,12 @@ line_asked book words counts text rules c from to a =
     }
 
 -- what a line's step says, by its case
-pub step_refuses : (text : Bytes) (words : List ℕ) (s : Step Rules) (r : RulesStep) (n : ℕ) → r ≡ Fault n → Stepped text words r s → s ≡ fault n
-step_refuses text words s r n e h = subst (λ (x : RulesStep). Stepped text words x s) e h
+pub step_refuses : (text : Bytes) (words : List ℕ) (s : Step Rules) (r : Result RulesCounts ℕ) (n : ℕ) → r ≡ Err n → Stepped text words r s → s ≡ fault n
+step_refuses text words s r n e h = subst (λ (x : Result RulesCounts ℕ). Stepped text words x s) e h
 
-pub step_adds : (text : Bytes) (words : List ℕ) (s : Step Rules) (r : RulesStep) (c : RulesCounts) → r ≡ Known c → Stepped text words r s
+pub step_adds : (text : Bytes) (words : List ℕ) (s : Step Rules) (r : Result RulesCounts ℕ) (c : RulesCounts) → r ≡ Ok c → Stepped text words r s
     → (s ≡ known (rules_at text words c)) × Fits text words c
-step_adds text words s r c e h = subst (λ (x : RulesStep). Stepped text words x s) e h
+step_adds text words s r c e h = subst (λ (x : Result RulesCounts ℕ). Stepped text words x s) e h
 
 -- the lines so far
 module _ (b : Book) (text : Bytes) (before words : List ℕ) (at line : ℕ) (c : RulesCounts) (h : Reading b text before words at line c) where
@@ -121,14 +120,14 @@ module _ (b : Book) (text : Bytes) (before words : List ℕ) (at line : ℕ) (c 
   reading_done l = ap (λ (o : Outcome Rules). on_accept o covered) (sym h.is ∙ lines_over text at 2 (rules_step b) line (rules_at text words c) l)
 
   -- one line more
-  module _ (to : ℕ) (e : to ≡ past is_in_line text at) (l : at < length text) (words' : List ℕ) (s : RulesStep)
+  module _ (to : ℕ) (e : to ≡ past is_in_line text at) (l : at < length text) (words' : List ℕ) (s : Result RulesCounts ℕ)
       (d : Stepped text words' s (rules_step b (rules_at text words c) (line_at text at to))) where
-    pub reading_fault : (n : ℕ) → s ≡ Fault n → of_lines ≡ refusal n 2 line
+    pub reading_fault : (n : ℕ) → s ≡ Err n → of_lines ≡ refusal n 2 line
     unfolding on_accept refusal
     reading_fault n q = ap (λ (o : Outcome Rules). on_accept o covered)
         (sym h.is ∙ lines_fault text at to e l 2 (rules_step b) line (rules_at text words c) n (step_refuses text words' _ s n q d))
 
-    pub reading_on : (c' : RulesCounts) → s ≡ Known c' → length words' ≡ length words → Reading b text before words' (to + 1) (line + 1) c'
+    pub reading_on : (c' : RulesCounts) → s ≡ Ok c' → length words' ≡ length words → Reading b text before words' (to + 1) (line + 1) c'
     reading_on c' q z =
         let k = step_adds text words' _ s c' q d in
         record {

@@ -7,7 +7,7 @@ use mathlib.Core.Bool.{Bool, true, false, not, ◌||◌}
 use native.Mathlib.Omega.{arith}
 use lib.ListN.{length}
 use lib.Dec.{ltb}
-use borrow.Author.Tests.{eq-eqb, ne_eqb}
+use Rattle.std.specs.Prelude.{Option, None, Some}
 use Rattle.model.specs.Bytes.{Bytes}
 use Rattle.model.specs.Choice.{Maybe, nothing, just, and_then}
 use Rattle.model.specs.Lines.{fault, known, fault_or, form_step}
@@ -36,13 +36,13 @@ none false false false false true e = absurd (omega arith)
 none false false false false false e = refl
 
 module _ (b : Book) (r : Rules) where
-  pub step_fault : (l : RulesLine) (n : ℕ) → rules_fault b r l ≡ fault_of n → n ≢ 0 → step_of b r (just l) ≡ fault n
+  pub step_fault : (l : RulesLine) (o : Option ℕ) (n : ℕ) → rules_fault b r l ≡ fault_of o → o ≡ Some n → step_of b r (just l) ≡ fault n
   unfolding step_of form_step fault_or fault_of
-  step_fault l n e h = rw (e, ne_eqb n 0 h)
+  step_fault l o n e h = rw (e, h)
 
-  pub step_clear : (l : RulesLine) (n : ℕ) → rules_fault b r l ≡ fault_of n → n ≡ 0 → rules_fault b r l ≡ nothing
+  pub step_clear : (l : RulesLine) (o : Option ℕ) → rules_fault b r l ≡ fault_of o → o ≡ None → rules_fault b r l ≡ nothing
   unfolding fault_of
-  step_clear l n e h = e ∙ rw (eq-eqb n 0 h)
+  step_clear l o e h = e ∙ rw h
 
   pub step_known : (l : RulesLine) → rules_fault b r l ≡ nothing → step_of b r (just l) ≡ known (add_rule r l)
   unfolding step_of form_step fault_or

@@ -5,12 +5,12 @@ use mathlib.Core.List.{List, [], ◌∷◌, ◌++◌, append_assoc, append-nil}
 use native.Mathlib.Omega.{arith}
 use lib.ListN.{length, set, length-set, length-append}
 use lib.Seq.{get_or-set_same, get_or-set_other}
+use Rattle.std.specs.Prelude.{Some, None}
 use Rattle.logic.specs.Tests.{either, equal_or_not}
 use Rattle.model.specs.Bytes.{Bytes}
 use Rattle.model.specs.Answers.{part_of, name_at}
 use Rattle.model.specs.declared.Part.{Part}
-use Rattle.item_forms.specs.declared.ItemAt.TheVariants as piece
-use Rattle.item_forms.specs.Pieces.{behind, name_places, name_next}
+use Rattle.item_forms.specs.Pieces.{behind, item_place, name_next}
 use mathlib.Core.Bool.{false}
 use Rattle.text.proofs.PlaceLaws.{part_in_part}
 use Rattle.book_tables.specs.Listed.{listed}
@@ -88,7 +88,7 @@ module _ (words words' : List ℕ) (at : ℕ) (s : Bytes) (base : ℕ) where
       }
 
   module _ (i n : ℕ) (ns : List Bytes) (g : Storing words words' at s base i n ns) where
-    pub storing_next : {w : Part} → piece.At w ≡ name_places (name_next 2 false s i) → WordPlaces s i w → at + length ns ≤ length words
+    pub storing_next : {w : Part} → Some w ≡ item_place (name_next 2 false s i) → WordPlaces s i w → at + length ns ≤ length words
         → Storing words (set words' (at + n) ((base + w.start) * 32 + w.length)) at s base (behind w) (n + 1) ns
     storing_next {w} e h room =
         let z = name_step s i g.rest w e g.here in
@@ -105,12 +105,12 @@ module _ (words words' : List ℕ) (at : ℕ) (s : Bytes) (base : ℕ) where
               (stored_more g.done g.stored i w h (omega (arith, longer, some)));
         }
 
-    pub storing_done : piece.None ≡ name_places (name_next 2 false s i) → (n ≡ length ns) × NamesStored words words' at s base ns
+    pub storing_done : None ≡ item_place (name_next 2 false s i) → (n ≡ length ns) × NamesStored words words' at s base ns
     storing_done e =
         let d : ns ≡ g.done = g.split ∙ ap (λ (l : List Bytes). g.done ++ l) (names_done s i g.rest e g.here) ∙ append-nil g.done in
         (g.count ∙ ap length (sym d), subst (NamesStored words words' at s base) (sym d) g.stored)
 
-    pub storing_room : at + length ns ≤ length words → {w : Part} → piece.At w ≡ name_places (name_next 2 false s i) → at + n < length words
+    pub storing_room : at + length ns ≤ length words → {w : Part} → Some w ≡ item_place (name_next 2 false s i) → at + n < length words
     storing_room room {w} e =
         let z = name_step s i g.rest w e g.here in
         let longer : length ns ≡ length g.done + length g.rest.names = ap length g.split ∙ length-append g.done g.rest.names in

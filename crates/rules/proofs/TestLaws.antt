@@ -23,6 +23,7 @@ use Rattle.rules_tables.specs.Layout.{names}
 use Rattle.rules_tables.specs.View.{actors_at, category_of, rules_at}
 use Rattle.rules_tables.proofs.Lowers.{category_names_law}
 use Rattle.rules_tables.proofs.PolicyLaws.{any_alike}
+use Rattle.std.specs.Prelude.{None, Some}
 use Rattle.rules.specs.Faults.{fault_of}
 
 -- not all names pass a test
@@ -97,25 +98,25 @@ module _ (text : Bytes) (words : List ℕ) (c : RulesCounts) (b : Book) (n : Byt
   unfolding rules_fault
   fault_by_tests = rw (category_names_law text words c, count_categories text words c)
 
-  pub is_4 : unknown_test ≡ true → rules_fault b (rules_at text words c) (category n actors over) ≡ fault_of 4
+  pub is_4 : unknown_test ≡ true → rules_fault b (rules_at text words c) (category n actors over) ≡ fault_of (Some 4)
   unfolding lowest fault_of
   is_4 e = fault_by_tests ∙ rw e
 
   module _ (h4 : unknown_test ≡ false) where
-    pub is_5 : second_test ≡ true → rules_fault b (rules_at text words c) (category n actors over) ≡ fault_of 5
+    pub is_5 : second_test ≡ true → rules_fault b (rules_at text words c) (category n actors over) ≡ fault_of (Some 5)
     unfolding lowest fault_of
     is_5 e = fault_by_tests ∙ rw (h4, e)
 
     module _ (h5 : second_test ≡ false) where
-      pub is_7 : limit_test ≡ true → rules_fault b (rules_at text words c) (category n actors over) ≡ fault_of 7
+      pub is_7 : limit_test ≡ true → rules_fault b (rules_at text words c) (category n actors over) ≡ fault_of (Some 7)
       unfolding lowest fault_of
       is_7 e = fault_by_tests ∙ rw (h4, h5, e)
 
       module _ (h7 : limit_test ≡ false) where
-        pub is_9 : lack_test ≡ true → rules_fault b (rules_at text words c) (category n actors over) ≡ fault_of 9
+        pub is_9 : lack_test ≡ true → rules_fault b (rules_at text words c) (category n actors over) ≡ fault_of (Some 9)
         unfolding lowest fault_of
         is_9 e = fault_by_tests ∙ rw (h4, h5, h7, e)
 
-        pub is_none : lack_test ≡ false → rules_fault b (rules_at text words c) (category n actors over) ≡ fault_of 0
+        pub is_none : lack_test ≡ false → rules_fault b (rules_at text words c) (category n actors over) ≡ fault_of None
         unfolding lowest fault_of
         is_none e = fault_by_tests ∙ rw (h4, h5, h7, e)

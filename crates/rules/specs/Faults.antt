@@ -1,7 +1,8 @@
--- A fault as a number, 0 being none.
-use Rattle.std.specs.Prelude.{ℕ, eqb}
-use Rattle.model.specs.Choice.{pick, Maybe, nothing, just}
+-- A fault that was found, as the definitions have it.
+use Rattle.std.specs.Prelude.{ℕ, Option, None, Some}
+use Rattle.model.specs.Choice.{Maybe, nothing, just}
 
--- the fault that a number tells, or none
-unfoldable pub fault_of : ℕ → Maybe ℕ
-fault_of n = pick (eqb n 0) nothing (just n)
+-- the fault that was found, or none
+unfoldable pub fault_of : Option ℕ → Maybe ℕ
+fault_of None = nothing
+fault_of (Some n) = just n

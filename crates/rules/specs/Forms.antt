@@ -1,5 +1,5 @@
 -- What the form of a line says: the line that the model reads, by places.
-use Rattle.std.specs.Prelude.{ℕ, ◌≡◌, List, Bool, true, length}
+use Rattle.std.specs.Prelude.{ℕ, ◌≡◌, List, Bool, true, length, Option, None, Some}
 use Rattle.model.specs.Bytes.{Bytes}
 use Rattle.model.specs.Choice.{Maybe, nothing, just, and_then}
 use Rattle.model.specs.Items.{Item}
@@ -12,10 +12,8 @@ use Rattle.text.specs.Parts.{HasPart}
 use Rattle.item_forms.specs.Ends.{line_at}
 use Rattle.item_forms.specs.Places.{WordPlaces}
 use Rattle.name_lists.specs.Names.{NamesRead, names_behind}
-use Rattle.rules.specs.declared.NamesAt.{NamesAt}
-use Rattle.rules.specs.declared.NamesAt.TheVariants as list
 use Rattle.rules.specs.declared.RulesForm.{RulesForm}
-use Rattle.rules.specs.declared.RulesForm.TheVariants.{Category, Policy, None}
+use Rattle.rules.specs.declared.RulesForm.TheVariants.{Category, Policy}
 
 -- what the model makes of the form from the place i on, where a list of names with this head follows
 abbrev pub after_list : Bytes → Bytes → Bool → ℕ → (List Bytes → List Item → Maybe RulesLine) → Maybe RulesLine
@@ -28,9 +26,9 @@ pub record ListRead (head s : Bytes) (i a e : ℕ) : Type 0 where
   pub line : (free : Bool) (k : List Bytes → List Item → Maybe RulesLine) → after_list head s free i k ≡ line_at true e s (k read.names)
 
 -- such a list, or that there is none
-abbrev pub NamesList : Bytes → Bytes → ℕ → NamesAt → Type 0
-NamesList head s i (list.At a e) = ListRead head s i a e
-NamesList head s i list.None = (free : Bool) (k : List Bytes → List Item → Maybe RulesLine) → after_list head s free i k ≡ nothing
+abbrev pub NamesList : Bytes → Bytes → ℕ → Option (ℕ × ℕ) → Type 0
+NamesList head s i (Some (a, e)) = ListRead head s i a e
+NamesList head s i None = (free : Bool) (k : List Bytes → List Item → Maybe RulesLine) → after_list head s free i k ≡ nothing
 
 -- a category's line: its name, its actors' names from a on, the names of those it is over from o on
 pub record CategoryRead (s : Bytes) (line : Maybe RulesLine) (cat : Part) (a o : ℕ) : Type 0 where
@@ -48,7 +46,7 @@ pub record PolicyRead (s : Bytes) (line : Maybe RulesLine) (cat t : Part) : Type
   pub is : line ≡ and_then (query_text (name_at s t)) (λ tree. just (policy (name_at s cat) (length (name_at s t)) tree))
 
 -- what a form says of the line that the model reads
-abbrev pub FormRead : Bytes → Maybe RulesLine → RulesForm → Type 0
-FormRead s line (Category cat a o) = CategoryRead s line cat a o
-FormRead s line (Policy cat t) = PolicyRead s line cat t
+abbrev pub FormRead : Bytes → Maybe RulesLine → Option RulesForm → Type 0
+FormRead s line (Some (Category cat a o)) = CategoryRead s line cat a o
+FormRead s line (Some (Policy cat t)) = PolicyRead s line cat t
 FormRead s line None = line ≡ nothing

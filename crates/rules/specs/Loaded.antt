@@ -1,5 +1,5 @@
 -- The rules of a text, line by line: what a line asks, and what the words hold after all lines, accepted or refused.
-use Rattle.std.specs.Prelude.{ℕ, ◌+◌, ◌≤◌, ◌≡◌, List, [], length, drop}
+use Rattle.std.specs.Prelude.{ℕ, ◌+◌, ◌≤◌, ◌≡◌, List, [], length, drop, Result, Ok, Err}
 use Rattle.model.specs.Bytes.{Bytes}
 use Rattle.model.specs.Lines.{read_lines, lines_of}
 use Rattle.model.specs.Refusal.{Outcome, accepted, refused}
@@ -7,13 +7,12 @@ use Rattle.model.specs.Book.{Book}
 use Rattle.model.specs.Rules.{Rules}
 use Rattle.model.specs.ReadRules.{rules_step}
 use Rattle.model.specs.Answers.{refusal_of}
+use Rattle.model.specs.declared.Refusal.{Refusal as RefusalData}
 use Rattle.book_tables.specs.declared.BookCounts.{BookCounts}
 use Rattle.book_tables.specs.Fits.{Fits as BookFits}
 use Rattle.rules_tables.specs.declared.RulesCounts.{RulesCounts}
 use Rattle.rules_tables.specs.View.{rules_at}
 use Rattle.rules_tables.specs.Fits.{Fits}
-use Rattle.rules.specs.declared.RulesLoad.{RulesLoad}
-use Rattle.rules.specs.declared.RulesLoad.TheVariants as load
 use Rattle.rules.specs.Stored.{LineAt}
 
 -- the rules of no lines
@@ -37,9 +36,9 @@ pub record LineAsked (book : Bytes) (words : List ℕ) (counts : BookCounts) (te
   pub inside : to ≤ length text
 
 -- read against a book: accepted, the words hold the rules; refused, nothing is said of them
-abbrev pub Loaded : Book → Bytes → List ℕ → RulesLoad → Outcome Rules → Type 0
-Loaded b text words (load.Loaded c) o = (o ≡ accepted (rules_at text words c)) × Fits text words c × (length text ≤ 16384)
-Loaded b text words (load.Refused r) o = o ≡ refused (refusal_of r)
+abbrev pub Loaded : Book → Bytes → List ℕ → Result RulesCounts RefusalData → Outcome Rules → Type 0
+Loaded b text words (Ok c) o = (o ≡ accepted (rules_at text words c)) × Fits text words c × (length text ≤ 16384)
+Loaded b text words (Err r) o = o ≡ refused (refusal_of r)
 
 -- the lines before a place are read into the words, and the others follow from this line on
 pub record Reading (b : Book) (text : Bytes) (before words : List ℕ) (at line : ℕ) (c : RulesCounts) : Type 0 where

@@ -5,7 +5,7 @@ ghost use Rattle.name_lists.specs.Names.{NamesRead, names_behind};
 ghost use Rattle.rules.specs.Stored.{NamesRoom, NamesStored, CategoryClear, CategoryAdded};
 
 use book_tables::names::NAME_LENGTHS;
-use item_forms::{ItemAt, LIST_DEPTH, places};
+use item_forms::{LIST_DEPTH, places};
 use model::Part;
 use rules_tables::{ACTORS, CATEGORIES, CATEGORY_WORDS, OVER, RulesCounts, lower, stores};
 
@@ -18,7 +18,7 @@ fn store_names(words: &mut [u32], at: usize, s: &[u8], from: usize, base: usize)
     let mut n = 0;
     let mut i = from;
     while i < s.len() {
-        let ItemAt::At(name) = places::next_name(s, i, LIST_DEPTH) else {
+        let Some(name) = places::next_name(s, i, LIST_DEPTH) else {
             return n;
         };
         stores::store_name(words, at + n, base + name.start, name.length);

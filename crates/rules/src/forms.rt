@@ -6,69 +6,51 @@ ghost use Rattle.model.specs.ReadRules.{category_line, policy_line, rules_line};
 ghost use Rattle.item_forms.specs.Ends.{line_at};
 ghost use Rattle.rules.specs.Forms.{NamesList, FormRead};
 
-use crate::{NamesAt, RulesForm};
-use item_forms::{ItemAt, LINE_CLOSES, LINE_DEPTH, places};
+use crate::RulesForm;
+use item_forms::{LINE_CLOSES, LINE_DEPTH, places};
 use name_lists::scans;
-use text::{End, parts};
+use text::parts;
 
-// (HEAD NAME...): the place behind its head, and the place behind it.
-fn names_list(s: &[u8], from: usize, head: &[u8]) -> NamesAt
+// (HEAD NAME...), if it follows: the place behind its head, and the place behind it.
+fn names_list(s: &[u8], from: usize, head: &[u8]) -> Option<(usize, usize)>
     ensures { NamesList head.now s.now from result }
 {
-    let End::At(a) = name_lists::places::headed(s, from, head) else {
-        return NamesAt::None;
-    };
-    let End::At(e) = scans::names_end(s, a) else {
-        return NamesAt::None;
-    };
-    NamesAt::At(a, e)
+    let a = name_lists::places::headed(s, from, head)?;
+    let e = scans::names_end(s, a)?;
+    Some((a, e))
 }
 
 // NAME (actors WORD...) (over CATEGORY...), behind the line's first word.
-fn category_form(s: &[u8], from: usize) -> RulesForm
+fn category_form(s: &[u8], from: usize) -> Option<RulesForm>
     ensures { FormRead s.now (line_at false from s.now category_line) result }
 {
-    let ItemAt::At(name) = places::next_name(s, from, LINE_DEPTH) else {
-        return RulesForm::None;
-    };
-    let NamesAt::At(a, e) = names_list(s, name.start + name.length, b"actors") else {
-        return RulesForm::None;
-    };
-    let NamesAt::At(o, f) = names_list(s, e, b"over") else {
-        return RulesForm::None;
-    };
+    let name = places::next_name(s, from, LINE_DEPTH)?;
+    let (a, e) = names_list(s, name.start + name.length, b"actors")?;
+    let (o, f) = names_list(s, e, b"over")?;
     if item_forms::form_closes(s, f, LINE_CLOSES) {
-        return RulesForm::Category(name, a, o);
+        return Some(RulesForm::Category(name, a, o));
     }
-    RulesForm::None
+    None
 }
 
 // CATEGORY "QUERY", behind the line's first word.
-fn policy_form(s: &[u8], from: usize) -> RulesForm
+fn policy_form(s: &[u8], from: usize) -> Option<RulesForm>
     ensures { FormRead s.now (line_at false from s.now policy_line) result }
 {
-    let ItemAt::At(name) = places::next_name(s, from, LINE_DEPTH) else {
-        return RulesForm::None;
-    };
-    let ItemAt::At(query) = places::next_quoted(s, name.start + name.length, LINE_DEPTH) else {
-        return RulesForm::None;
-    };
+    let name = places::next_name(s, from, LINE_DEPTH)?;
+    let query = places::next_quoted(s, name.start + name.length, LINE_DEPTH)?;
     if item_forms::form_closes(s, query.start + query.length + 1, LINE_CLOSES) {
-        return RulesForm::Policy(name, query);
+        return Some(RulesForm::Policy(name, query));
     }
-    RulesForm::None
+    None
 }
 
 // The form of a line by its first word.
-pub fn rules_form(s: &[u8]) -> RulesForm
+pub fn rules_form(s: &[u8]) -> Option<RulesForm>
     ensures { FormRead s.now (and_then (line_items s.now) rules_line) result }
 {
-    let End::At(i) = item_forms::open_form(s, 0) else {
-        return RulesForm::None;
-    };
-    let ItemAt::At(word) = places::next_word(s, i, true, LINE_DEPTH) else {
-        return RulesForm::None;
-    };
+    let i = item_forms::open_form(s, 0)?;
+    let word = places::next_word(s, i, true, LINE_DEPTH)?;
     let first = parts::part_of(s, word);
     let end = word.start + word.length;
     if compare::same_bytes(first, b"category") {
@@ -77,5 +59,5 @@ pub fn rules_form(s: &[u8]) -> RulesForm
     if compare::same_bytes(first, b"policy") {
         return policy_form(s, end);
     }
-    RulesForm::None
+    None
 }

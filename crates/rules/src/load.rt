@@ -15,14 +15,14 @@ ghost use Rattle.rules_tables.specs.Fits.{Fits};
 ghost use Rattle.rules.specs.Steps.{step_of, Stepped};
 ghost use Rattle.rules.specs.Loaded.{no_rules, FormAsked, LineAsked, Loaded};
 
-use crate::{RulesForm, RulesLoad, RulesStep, forms, steps};
+use crate::{RulesForm, forms, steps};
 use book_tables::BookCounts;
 use model::Refusal;
 use model::limits::MAX_RULES_BYTES;
 use model::refusal_numbers::{BROKEN, NOT_ALLOWED, RULES, TOO_LONG, UNCOVERED};
 use query_faults::faulty;
 use rules_tables::{RulesCounts, no_counts};
-use text::{BytesRead, parts};
+use text::{BytesFault, parts};
 
 // Reads one line by its form, the line beginning at the place `base` of the rules' text.
 fn form_step(
@@ -34,21 +34,21 @@ fn form_step(
     base: usize,
     rules_words: &mut [u32],
     known: RulesCounts,
-) -> RulesStep
+) -> Result<RulesCounts, u32>
     requires { FormAsked book.now words.now counts text.now rules_words.old known s.now base }
     ensures { Stepped text.now rules_words.new result
         (step_of (book_at book.now words.now counts) (rules_at text.now rules_words.old known)
         (and_then (line_items s.now) rules_line)) }
 {
     match forms::rules_form(s) {
-        RulesForm::Category(name, a, o) => {
+        Some(RulesForm::Category(name, a, o)) => {
             steps::category_step(text, rules_words, known, s, base, name, a, o)
         }
-        RulesForm::Policy(name, query) => {
+        Some(RulesForm::Policy(name, query)) => {
             let fault = faulty::fault_of(book, words, counts, parts::part_of(s, query));
             steps::policy_step(text, rules_words, known, s, base, name, query, fault)
         }
-        RulesForm::None => RulesStep::Fault(BROKEN),
+        None => Err(BROKEN),
     }
 }
 
@@ -62,14 +62,14 @@ fn line_step(
     to: usize,
     rules_words: &mut [u32],
     known: RulesCounts,
-) -> RulesStep
+) -> Result<RulesCounts, u32>
     requires { LineAsked book.now words.now counts text.now rules_words.old known from to }
     ensures { Stepped text.now rules_words.new result
         (rules_step (book_at book.now words.now counts) (rules_at text.now rules_words.old known)
         (line_at text.now from to)) }
 {
     if text.len() <= to {
-        return RulesStep::Fault(BROKEN);
+        return Err(BROKEN);
     }
     form_step(
         book,
@@ -84,19 +84,23 @@ fn line_step(
 }
 
 // Refuses rules in which some category over nothing has no policy.
-fn covered_rules(text: &[u8], rules_words: &[u32], known: RulesCounts) -> RulesLoad
+fn covered_rules(
+    text: &[u8],
+    rules_words: &[u32],
+    known: RulesCounts,
+) -> Result<RulesCounts, Refusal>
     requires { Fits text.now rules_words.now known × (length text.now ≤ 16384) }
     ensures { (b : Book) → Loaded b text.now rules_words.now result
         (covered (rules_at text.now rules_words.now known)) }
 {
     if rules_tables::policies::is_uncovered(rules_words, known) {
-        return RulesLoad::Refused(Refusal {
+        return Err(Refusal {
             number: UNCOVERED,
             text: RULES,
             line: 0,
         });
     }
-    RulesLoad::Loaded(known)
+    Ok(known)
 }
 
 // Reads the lines of the rules into the tables.
@@ -106,7 +110,7 @@ fn load_lines(
     counts: BookCounts,
     text: &[u8],
     rules_words: &mut [u32],
-) -> RulesLoad
+) -> Result<RulesCounts, Refusal>
     requires { BookFits book.now words.now counts × (length text.now ≤ 16384) × (all_rules_words ≤ length rules_words.old) }
     ensures { Loaded (book_at book.now words.now counts) text.now rules_words.new result
         (on_accept (read_lines 2 (rules_step (book_at book.now words.now counts)) 1 no_rules (lines_of text.now)) covered) }
@@ -117,14 +121,14 @@ fn load_lines(
     while at < text.len() {
         let to = text::lines::line_end(text, at);
         match line_step(book, words, counts, text, at, to, rules_words, known) {
-            RulesStep::Fault(number) => {
-                return RulesLoad::Refused(Refusal {
+            Err(number) => {
+                return Err(Refusal {
                     number,
                     text: RULES,
                     line,
                 });
             }
-            RulesStep::Known(more) => {
+            Ok(more) => {
                 known = more;
             }
         }
@@ -141,27 +145,27 @@ pub fn load(
     counts: BookCounts,
     text: &[u8],
     rules_words: &mut [u32],
-) -> RulesLoad
+) -> Result<RulesCounts, Refusal>
     requires { BookFits book.now words.now counts × (all_rules_words ≤ length rules_words.old) }
     ensures { Loaded (book_at book.now words.now counts) text.now rules_words.new result
         (read_rules (book_at book.now words.now counts) text.now) }
 {
     match text::lines::bytes_read(text, MAX_RULES_BYTES) {
-        BytesRead::TooLong => {
-            return RulesLoad::Refused(Refusal {
+        Err(BytesFault::TooLong) => {
+            return Err(Refusal {
                 number: TOO_LONG,
                 text: RULES,
                 line: 0,
             });
         }
-        BytesRead::BadLine(line) => {
-            return RulesLoad::Refused(Refusal {
+        Err(BytesFault::BadLine(line)) => {
+            return Err(Refusal {
                 number: NOT_ALLOWED,
                 text: RULES,
                 line: line as u32,
             });
         }
-        BytesRead::Allowed => {
+        Ok(()) => {
             return load_lines(book, words, counts, text, rules_words);
         }
     }

@@ -16,7 +16,8 @@ use model::refusal_numbers::{BROKEN, LIMIT_PASSED, NOT_DECLARED, OTHER_TYPE, SEC
 use rules_tables::{CATEGORY_NAMES, RulesCounts, policies, stores};
 use text::parts;
 
-// The lowest fault of a policy's line, by its own faults and that of its text.
+// The lowest fault of a policy's line, by its own faults and that of its text. A fault is a number, 0 being none: over the number that `query_faults`
+// tells of the text, comparisons one after another are plainer than over an Option.
 fn lowest_of(unknown: bool, second: bool, long: bool, fault: u32) -> u32
     ensures { result ≡ combined unknown second long fault }
 {

@@ -1,7 +1,7 @@
 // One line more, after its form was read: its lowest fault, or the rules with it.
 ghost use Rattle.rules.specs.Steps.{CategoryGiven, CategoryStepped, PolicyGiven, PolicyStepped};
 
-use crate::{RulesStep, categories, policies, tests};
+use crate::{categories, policies, tests};
 use model::Part;
 use rules_tables::RulesCounts;
 
@@ -15,15 +15,14 @@ pub fn category_step(
     name: Part,
     a: usize,
     o: usize,
-) -> RulesStep
+) -> Result<RulesCounts, u32>
     requires { CategoryGiven text.now words.old counts s.now base name a o }
     ensures { CategoryStepped text.now words.old words.new counts s.now name a o result }
 {
-    let fault = tests::category_fault(text, words, counts, s, name, a, o);
-    if fault != 0 {
-        return RulesStep::Fault(fault);
+    if let Some(fault) = tests::category_fault(text, words, counts, s, name, a, o) {
+        return Err(fault);
     }
-    RulesStep::Known(categories::add_category(text, words, counts, s, base, name, a, o))
+    Ok(categories::add_category(text, words, counts, s, base, name, a, o))
 }
 
 // A policy's line, by the fault of its text as a query.
@@ -36,13 +35,13 @@ pub fn policy_step(
     name: Part,
     query: Part,
     fault: u32,
-) -> RulesStep
+) -> Result<RulesCounts, u32>
     requires { PolicyGiven text.now words.old counts s.now base name query fault }
     ensures { PolicyStepped text.now words.old words.new counts s.now name query fault result }
 {
     let own = policies::policy_fault(text, words, counts, s, name, query, fault);
     if own != 0 {
-        return RulesStep::Fault(own);
+        return Err(own);
     }
-    RulesStep::Known(policies::add_policy(text, words, counts, s, base, name, query))
+    Ok(policies::add_policy(text, words, counts, s, base, name, query))
 }

@@ -16,7 +16,7 @@ ghost use Rattle.item_forms.specs.Places.{WordPlaces};
 ghost use Rattle.name_lists.specs.Names.{NamesRead, names_behind};
 ghost use Rattle.rules.specs.Faults.{fault_of};
 
-use item_forms::{ItemAt, LIST_DEPTH, places};
+use item_forms::{LIST_DEPTH, places};
 use model::Part;
 use model::limits::{MAX_ACTORS, MAX_CATEGORIES};
 use model::refusal_numbers::{ACTOR_LACKING, LIMIT_PASSED, NOT_DECLARED, SECOND_TIME};
@@ -32,7 +32,7 @@ fn is_unknown(text: &[u8], words: &[u32], count: usize, s: &[u8], from: usize) -
 {
     let mut i = from;
     while i < s.len() {
-        let ItemAt::At(name) = places::next_name(s, i, LIST_DEPTH) else {
+        let Some(name) = places::next_name(s, i, LIST_DEPTH) else {
             return false;
         };
         let name_bytes = parts::part_of(s, name);
@@ -85,8 +85,7 @@ fn lacks_one_of(text: &[u8], words: &[u32], k: usize, s: &[u8], a: usize) -> boo
         → result ≡ not (all (λ w. mem w x.names) (actors_at text.now words.now k)) }
 {
     let count = words[CATEGORIES + CATEGORY_WORDS * k] as usize;
-    let mut i = 0;
-    while i < count {
+    for i in 0..count {
         let actor = rules_tables::names::name_at(
             text,
             words,
@@ -95,7 +94,6 @@ fn lacks_one_of(text: &[u8], words: &[u32], k: usize, s: &[u8], a: usize) -> boo
         if !scans::has_name(s, a, actor) {
             return true;
         }
-        i += 1;
     }
     false
 }
@@ -131,12 +129,10 @@ fn lacks_lower(
         → result ≡ lacks_actor (rules_at text.now words.now counts) x.names y.names }
 {
     let count = counts.categories;
-    let mut k = 0;
-    while k < count {
+    for k in 0..count {
         if lacks_of_lower(text, words, k, s, a, o) {
             return true;
         }
-        k += 1;
     }
     false
 }
@@ -160,7 +156,7 @@ fn lacks_actor(
     true
 }
 
-// The lowest fault of a category's line, or 0.
+// The lowest fault of a category's line, if it has one.
 pub fn category_fault(
     text: &[u8],
     words: &[u32],
@@ -169,7 +165,7 @@ pub fn category_fault(
     name: Part,
     a: usize,
     o: usize,
-) -> u32
+) -> Option<u32>
     requires { Fits text.now words.now counts × WordPlaces s.now 0 name }
     ensures { (b : Book) (x y : NamesRead) → names_behind s.now a ≡ just x → names_behind s.now o ≡ just y
         → rules_fault b (rules_at text.now words.now counts) (category (name_at s.now name) x.names y.names)
@@ -177,16 +173,16 @@ pub fn category_fault(
 {
     let count = counts.categories;
     if is_unknown(text, words, count, s, o) {
-        return NOT_DECLARED;
+        return Some(NOT_DECLARED);
     }
     if is_second(text, words, count, s, name, a, o) {
-        return SECOND_TIME;
+        return Some(SECOND_TIME);
     }
     if is_past_limit(count, s, a) {
-        return LIMIT_PASSED;
+        return Some(LIMIT_PASSED);
     }
     if lacks_actor(text, words, counts, s, a, o) {
-        return ACTOR_LACKING;
+        return Some(ACTOR_LACKING);
     }
-    0
+    None
 }

@@ -14,12 +14,10 @@ pub fn lower_set(text: &[u8], words: &[u32], k: usize, over: usize) -> u32
         || below_some text.now words.now k m (names_at text.now words.now (over_from k) over)) }
 {
     let mut set = bits::with(0, k);
-    let mut i = 0;
-    while i < over {
+    for i in 0..over {
         let name = names::name_at(text, words, CATEGORIES + CATEGORY_WORDS * k + OVER + i);
         let j = book_tables::names::find_name(text, words, CATEGORY_NAMES, k, name);
         set = set | words[CATEGORIES + CATEGORY_WORDS * j + LOWER_SET];
-        i += 1;
     }
     set
 }

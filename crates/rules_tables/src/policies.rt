@@ -11,12 +11,10 @@ pub fn policy_place(words: &[u32], counts: RulesCounts, m: usize) -> usize
     ensures { result ≡ policy_place words.now counts m }
 {
     let count = counts.policies;
-    let mut i = 0;
-    while i < count {
+    for i in 0..count {
         if words[POLICIES + POLICY_WORDS * i] as usize == m {
             return i;
         }
-        i += 1;
     }
     count
 }
@@ -38,12 +36,10 @@ pub fn is_uncovered(words: &[u32], counts: RulesCounts) -> bool
     ensures { result ≡ uncovered_in words.now counts }
 {
     let count = counts.categories;
-    let mut k = 0;
-    while k < count {
+    for k in 0..count {
         if lacks_policy(words, counts, k) {
             return true;
         }
-        k += 1;
     }
     false
 }

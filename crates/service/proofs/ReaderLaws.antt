@@ -7,25 +7,21 @@ use native.Mathlib.Omega.{arith}
 use lib.ListN.{length}
 use lib.Dec.{ltb}
 use borrow.Author.Tests.{ltb-true}
+use Rattle.std.specs.Prelude.{Result, ⊤, Ok, Err}
 use Rattle.model.specs.Bytes.{Bytes}
 use Rattle.model.specs.Names.{place}
 use Rattle.model.specs.Refusal.{Outcome, accepted, on_accept}
 use Rattle.model.specs.ReadBook.{read_book}
 use Rattle.model.specs.Pattern.{Pattern, pattern_of}
 use Rattle.model.specs.Rules.{category_names}
-use Rattle.model.specs.Service.{RulesAnswer, RequestAnswer, book_service, rules_service, query_service, request_service}
-use Rattle.model.specs.Answers.{refusal_of, refusal_data, book_of, book_answer, rules_answer, verdict_of, query_answer, request_answer}
+use Rattle.model.specs.Service.{RulesAnswer, RequestAnswer, rules_service, query_service, request_service}
+use Rattle.model.specs.Answers.{refusal_of, refusal_data, book_of, rules_answer, verdict_of, query_answer, request_answer}
 use Rattle.model.specs.PlainData.{no_pattern}
 use Rattle.model.specs.RequestPlaces.{slots}
 use Rattle.model.specs.RequestAnswer.{told_request, request_read}
 use Rattle.model.specs.WholeAnswers.{query_outcome, query_read}
 use Rattle.model.specs.declared.Refusal.{Refusal as RefusalData}
-use Rattle.model.specs.declared.Verdict.{Verdict}
-use Rattle.model.specs.declared.Verdict.TheVariants.{Accepted, Refused}
 use Rattle.model.specs.declared.Pattern.{Pattern as PatternData}
-use Rattle.model.specs.declared.BookRead.{BookRead}
-use Rattle.model.specs.declared.RulesRead.{RulesRead}
-use Rattle.model.specs.declared.RulesRead.TheVariants as rules-answer
 use Rattle.model.specs.declared.QueryRead.{QueryRead}
 use Rattle.model.proofs.AcceptedQuery.{query_accepted}
 use Rattle.book_tables.specs.View.{name_of, names_at, book_at}
@@ -42,8 +38,6 @@ use Rattle.prepare.specs.declared.Needs.{Needs}
 use Rattle.prepare.specs.declared.Ready.{Ready}
 use Rattle.prepare.specs.Texts.{Texts, after_rules, after_book, through}
 use Rattle.prepare.specs.Ready.{AllReady, Prepared}
-use Rattle.prepare.proofs.BookLaws.{book_counted, book_refused}
-use Rattle.answers.specs.Answered.{book_answered, rules_answered}
 use Rattle.prepare.proofs.ThroughLaws.{all_ready, none_ready, refused_through, ready_through}
 
 -- the number of a category is the place of its name
@@ -73,16 +67,6 @@ module _ (work : ℕ) (book rules query request : Bytes) (words table : List ℕ
   abbrev Given : Needs → Type 0
   Given n = Prepared n book rules query request words table (through n work book rules query request accepted) r
 
-  -- the book reader
-  pub book_answered_law : Given book_alone → (a : BookRead) → a ≡ book_answered r.request.verdict r.book.nodes r.book.relationships r.book.entries
-      → book_answer a ≡ (book_service work book).answer
-  book_answered_law given a is = ap book_answer is ∙ go r.request.verdict refl
-    where
-      go : (v : Verdict) → r.request.verdict ≡ v
-          → book_answer (book_answered v r.book.nodes r.book.relationships r.book.entries) ≡ (book_service work book).answer
-      go Accepted e = book_counted work book rules query request words table r given e
-      go (Refused x) e = book_refused work book rules query request words table r given x e
-
   -- the rules reader
   module _ (given : Given the_rules) where
     abbrev of_rules : Texts → Outcome RulesAnswer
@@ -92,8 +76,8 @@ module _ (work : ℕ) (book rules query request : Bytes) (words table : List ℕ
     unfolding rules_service through after_book after_rules on_accept
     rules_is = refl
 
-    rules_counted : r.request.verdict ≡ Accepted
-        → rules_answer (rules-answer.Counts r.rules.categories r.rules.policies) ≡ (rules_service work book rules).answer
+    pub rules_counted : r.request.verdict ≡ Ok tt
+        → rules_answer (Ok (record { categories = r.rules.categories; policies = r.rules.policies })) ≡ (rules_service work book rules).answer
     unfolding rules_answer rules_at
     rules_counted e =
         let a = all_ready the_rules work book rules query request of_rules words table r given e in
@@ -102,18 +86,9 @@ module _ (work : ℕ) (book rules query request : Bytes) (words table : List ℕ
           policies = length_listed (policy_of rules table) r.rules.policies i;
         }))
 
-    rules_refused : (x : RefusalData) → r.request.verdict ≡ Refused x → rules_answer (rules-answer.Refused x) ≡ (rules_service work book rules).answer
+    pub rules_refused : (x : RefusalData) → r.request.verdict ≡ Err x → rules_answer (Err x) ≡ (rules_service work book rules).answer
     unfolding rules_answer
     rules_refused x e = sym (rules_is ∙ refused_through the_rules work book rules query request of_rules words table r given x e)
-
-    pub rules_answered_law : (a : RulesRead) → a ≡ rules_answered r.request.verdict r.rules.categories r.rules.policies
-        → rules_answer a ≡ (rules_service work book rules).answer
-    rules_answered_law a is = ap rules_answer is ∙ go r.request.verdict refl
-      where
-        go : (v : Verdict) → r.request.verdict ≡ v
-            → rules_answer (rules_answered v r.rules.categories r.rules.policies) ≡ (rules_service work book rules).answer
-        go Accepted e = rules_counted e
-        go (Refused x) e = rules_refused x e
 
   -- the query reader
   module _ (given : Given the_query) where
@@ -131,14 +106,14 @@ module _ (work : ℕ) (book rules query request : Bytes) (words table : List ℕ
     abbrev QuerySays : QueryRead → Type 0
     QuerySays q = (query_answer (book_of (read_book book)) query q ≡ answer) × (q ≡ query_read work book query)
 
-    pub query_refused : (x : RefusalData) → r.request.verdict ≡ Refused x → (p : PatternData) → p ≡ no_pattern
+    pub query_refused : (x : RefusalData) → r.request.verdict ≡ Err x → (p : PatternData) → p ≡ no_pattern
         → QuerySays (record { verdict = r.request.verdict; pattern = p })
     unfolding query_answer verdict_of query_read query_outcome refusal_data refusal_of
     query_refused x e p d =
         let is = query_is ∙ refused_through the_query work book rules query request of_query_law words table r given x e in
         (rw e (sym is), (λ i. record { verdict = e i; pattern = d i }) ∙ sym (ap (query_outcome (book_of (read_book book)) query) is))
 
-    module _ (e : r.request.verdict ≡ Accepted) where
+    module _ (e : r.request.verdict ≡ Ok tt) where
       all : AllReady the_query book rules query request words table (through the_query work book rules query request accepted) r
       all = all_ready the_query work book rules query request of_query_law words table r given e
 
@@ -172,9 +147,9 @@ module _ (work : ℕ) (book rules query request : Bytes) (words table : List ℕ
     unfolding request_answer verdict_of request_read told_request slots refusal_data refusal_of
     request_answered = go r.request.verdict refl
       where
-        go : (v : Verdict) → r.request.verdict ≡ v
+        go : (v : Result ⊤ RefusalData) → r.request.verdict ≡ v
             → (request_answer request r.request ≡ (request_service work book rules request).answer) × (r.request ≡ request_read work book rules request)
-        go Accepted e =
+        go (Ok u) e =
             let all = all_ready the_request work book rules query request of_request words table r given e in
             let a = all.request_ready in
             let is = request_is ∙ ready_through the_request work book rules query request of_request words table r given all in
@@ -184,6 +159,6 @@ module _ (work : ℕ) (book rules query request : Bytes) (words table : List ℕ
               rw (e, is) (ap accepted (λ i. record { category = category i; identities = sym a.identities i })),
               (λ i. record { verdict = e i; category = category i; identities = a.whole i; count = a.counted i }) ∙ sym (ap (told_request request) is),
             )
-        go (Refused x) e =
+        go (Err x) e =
             let is = request_is ∙ refused_through the_request work book rules query request of_request words table r given x e in
             (rw (e, is), (none_ready the_request work book rules query request of_request words table r given x e).none ∙ sym (ap (told_request request) is))

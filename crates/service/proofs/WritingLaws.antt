@@ -4,6 +4,7 @@ use mathlib.Core.Path.{◌≡◌, refl, sym, ap, ◌∙◌}
 use mathlib.Core.Bool.{Bool, true, false}
 use mathlib.Core.List.{List, ◌++◌}
 use lib.ListN.{length, drop}
+use Rattle.std.specs.Prelude.{Option, None, Some, Result, Ok, Err}
 use Rattle.model.specs.Bytes.{Bytes}
 use Rattle.model.specs.Choice.{pick}
 use Rattle.model.specs.Refusal.{Outcome, accepted, on_accept, refusal}
@@ -13,17 +14,11 @@ use Rattle.model.specs.Writing.{written_query}
 use Rattle.model.specs.Service.{onto, writer_text, writer_service}
 use Rattle.model.specs.Answers.{refusal_of, pattern_in, writer_answer}
 use Rattle.model.specs.declared.Refusal.{Refusal as RefusalData}
-use Rattle.model.specs.declared.Verdict.TheVariants.{Accepted, Refused}
 use Rattle.model.specs.declared.Pattern.{Pattern as PatternData}
-use Rattle.model.specs.declared.TextWritten.{TextWritten}
-use Rattle.model.specs.declared.TextWritten.TheVariants as answer
 use Rattle.model.proofs.AcceptedQuery.{query_accepted}
 use Rattle.book_tables.specs.View.{book_at}
 use Rattle.rules_tables.specs.View.{tree_of}
-use Rattle.putting.specs.declared.Written.{Written}
-use Rattle.putting.specs.declared.Written.TheVariants.{Length, TooLong}
 use Rattle.putting.specs.Whole.{too_long, Writes}
-use Rattle.answers.specs.Answered.{writer_answered}
 use Rattle.query_writer.specs.Writable.{Writable}
 use Rattle.query.specs.PatternRead.{PatternAsked, PatternRead}
 use Rattle.query.proofs.ReadLaws.{pattern_asked}
@@ -47,19 +42,19 @@ module _ (work : ℕ) (text book rules query request : Bytes) (words table : Lis
   of_texts t = fitting (written_query (pattern_of t.query))
 
   -- an answer and a buffer are the service's
-  abbrev WriterSays : Bytes → TextWritten → Type 0
+  abbrev WriterSays : Bytes → Result ℕ RefusalData → Type 0
   WriterSays text' w = (writer_answer w ≡ (writer_service work text book rules query).answer) × (text' ≡ (writer_service work text book rules query).text)
 
-  says : (o : Outcome Bytes) → through needed work book rules query request of_texts ≡ o → (text' : Bytes) (w : TextWritten)
+  says : (o : Outcome Bytes) → through needed work book rules query request of_texts ≡ o → (text' : Bytes) (w : Result ℕ RefusalData)
       → writer_answer w ≡ on_accept o (λ t. accepted (length t)) → text' ≡ onto o text → WriterSays text' w
   unfolding writer_service writer_text through after_book after_rules on_accept
   says o e text' w f g = (f ∙ ap (λ (z : Outcome Bytes). on_accept z (λ t. accepted (length t))) (sym e), g ∙ ap (λ (z : Outcome Bytes). onto z text) (sym e))
 
-  pub writer_refused : (x : RefusalData) → r.request.verdict ≡ Refused x → WriterSays text (answer.Refused x)
+  pub writer_refused : (x : RefusalData) → r.request.verdict ≡ Err x → WriterSays text (Err x)
   unfolding writer_answer on_accept onto
-  writer_refused x e = says _ (refused_through needed work book rules query request of_texts words table r given x e) text (answer.Refused x) refl refl
+  writer_refused x e = says _ (refused_through needed work book rules query request of_texts words table r given x e) text (Err x) refl refl
 
-  module _ (e : r.request.verdict ≡ Accepted) where
+  module _ (e : r.request.verdict ≡ Ok tt) where
     all : AllReady needed book rules query request words table (through needed work book rules query request accepted) r
     all = all_ready needed work book rules query request of_texts words table r given e
 
@@ -80,13 +75,22 @@ module _ (work : ℕ) (text book rules query request : Bytes) (words table : Lis
       fits_as = ready_through needed work book rules query request of_texts words table r given all
           ∙ ap (λ (t : Bytes). fitting t) (ap written_query (sym (read.is (tree_of query) (query_accepted b query (tree_of query) all.query_read).is_text)))
 
-      module _ (text' : Bytes) (w : Written) (writes : Writes 2048 written text text' w) where
-        pub wrote : (a : TextWritten) → a ≡ writer_answered w → WriterSays text' a
-        unfolding writer_answer on_accept onto refusal refusal_of
-        wrote a is = go (too_long 2048 (length text) (length written)) fits_as (is ∙ ap writer_answered writes.answer) writes.text
+      module _ (text' : Bytes) (w : Option ℕ) (writes : Writes 2048 written text text' w) where
+        pub wrote : (n : ℕ) → w ≡ Some n → WriterSays text' (Ok n)
+        unfolding writer_answer on_accept onto refusal
+        wrote n k = go (too_long 2048 (length text) (length written)) fits_as writes.answer writes.text
           where
             go : (t : Bool) → through needed work book rules query request of_texts ≡ pick t (refusal 14 3 1) (accepted written)
-                → a ≡ writer_answered (pick t TooLong (Length (length written)))
-                → text' ≡ pick t text (written ++ drop (length written) text) → WriterSays text' a
-            go true h d f = says _ h text' a (ap writer_answer d) f
-            go false h d f = says _ h text' a (ap writer_answer d) f
+                → w ≡ pick t None (Some (length written)) → text' ≡ pick t text (written ++ drop (length written) text) → WriterSays text' (Ok n)
+            go true h d f = absurd (cc)
+            go false h d f = let e : n ≡ length written = cc in says _ h text' (Ok n) (ap accepted e) f
+
+        pub no_room : w ≡ None → WriterSays text' (Err (record { number = 14; text = 3; line = 1 }))
+        unfolding writer_answer on_accept onto refusal refusal_of
+        no_room k = go (too_long 2048 (length text) (length written)) fits_as writes.answer writes.text
+          where
+            go : (t : Bool) → through needed work book rules query request of_texts ≡ pick t (refusal 14 3 1) (accepted written)
+                → w ≡ pick t None (Some (length written)) → text' ≡ pick t text (written ++ drop (length written) text)
+                → WriterSays text' (Err (record { number = 14; text = 3; line = 1 }))
+            go true h d f = says _ h text' (Err (record { number = 14; text = 3; line = 1 })) refl f
+            go false h d f = absurd (cc)

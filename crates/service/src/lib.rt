@@ -9,13 +9,14 @@ ghost use Rattle.model.specs.Answers.{book_of, book_answer, rules_answer, query_
 ghost use Rattle.model.specs.RequestAnswer.{request_read};
 ghost use Rattle.model.specs.WholeAnswers.{query_read};
 
-use model::{BookRead, QueryRead, RequestRead, RulesRead, TextWritten, Verdict};
+use model::refusal_numbers::{NO_ROOM, QUERY, QUERY_LINE};
+use model::{BookSize, QueryRead, Refusal, RequestRead, RulesSize};
 use prepare::{Needs, clear, prepare};
 use query::pattern;
 use rules_tables::RULES_WORDS;
 
 // Reads a book and answers its counts of nodes, relationships and attribute entries, or a refusal. The working memory ends all ones.
-pub fn read_book(book: &[u8], work: &mut [u32]) -> BookRead
+pub fn read_book(book: &[u8], work: &mut [u32]) -> Result<BookSize, Refusal>
     ensures answer { book_answer result ≡ (book_service (length work.old) book.now).answer }
     ensures cleared { work.new ≡ ones (length work.old) }
 {
@@ -27,14 +28,17 @@ pub fn read_book(book: &[u8], work: &mut [u32]) -> BookRead
     let mut table = [0u32; RULES_WORDS];
     let ready = prepare(needs, book, b"", b"", b"", work, &mut table);
     clear(work);
-    let request = ready.request;
-    let verdict = request.verdict;
+    ready.request.verdict?;
     let counts = ready.book;
-    answers::of_book(verdict, counts.nodes, counts.relationships, counts.entries)
+    Ok(BookSize {
+        nodes: counts.nodes,
+        relationships: counts.relationships,
+        entries: counts.entries,
+    })
 }
 
 // Reads rules and answers their counts of categories and policies, or a refusal. The working memory ends all ones.
-pub fn read_rules(book: &[u8], rules: &[u8], work: &mut [u32]) -> RulesRead
+pub fn read_rules(book: &[u8], rules: &[u8], work: &mut [u32]) -> Result<RulesSize, Refusal>
     ensures answer { rules_answer result ≡ (rules_service (length work.old) book.now rules.now).answer }
     ensures cleared { work.new ≡ ones (length work.old) }
 {
@@ -46,10 +50,12 @@ pub fn read_rules(book: &[u8], rules: &[u8], work: &mut [u32]) -> RulesRead
     let mut table = [0u32; RULES_WORDS];
     let ready = prepare(needs, book, rules, b"", b"", work, &mut table);
     clear(work);
-    let request = ready.request;
-    let verdict = request.verdict;
-    let sizes = ready.rules;
-    answers::of_rules(verdict, sizes.categories, sizes.policies)
+    ready.request.verdict?;
+    let counts = ready.rules;
+    Ok(RulesSize {
+        categories: counts.categories,
+        policies: counts.policies,
+    })
 }
 
 // Reads a query and answers its pattern, or a refusal beside an empty one. The working memory ends all ones.
@@ -66,9 +72,8 @@ pub fn read_query(book: &[u8], query: &[u8], work: &mut [u32]) -> QueryRead
     };
     let mut table = [0u32; RULES_WORDS];
     let ready = prepare(needs, book, b"", query, b"", work, &mut table);
-    let request = ready.request;
-    let verdict = request.verdict;
-    if let Verdict::Refused(_) = verdict {
+    let verdict = ready.request.verdict;
+    if let Err(_) = verdict {
         clear(work);
         let pattern = pattern::empty();
         return QueryRead { verdict, pattern };
@@ -105,7 +110,7 @@ pub fn write_query(
     query: &[u8],
     text: &mut [u8],
     work: &mut [u32],
-) -> TextWritten
+) -> Result<usize, Refusal>
     ensures answer { writer_answer result ≡ (writer_service (length work.old) text.old book.now rules.now
         query.now).answer }
     ensures text { text.new ≡ (writer_service (length work.old) text.old book.now rules.now
@@ -119,15 +124,20 @@ pub fn write_query(
     };
     let mut table = [0u32; RULES_WORDS];
     let ready = prepare(needs, book, rules, query, b"", work, &mut table);
-    let request = ready.request;
-    let verdict = request.verdict;
-    if let Verdict::Refused(refusal) = verdict {
+    if let Err(refusal) = ready.request.verdict {
         clear(work);
-        return TextWritten::Refused(refusal);
+        return Err(refusal);
     }
     let counts = ready.book;
     let pattern = pattern::pattern_of(book, work, counts, query);
     let written = query_writer::write_query(book, work, counts, query, pattern, text);
     clear(work);
-    answers::of_written(written)
+    match written {
+        Some(length) => Ok(length),
+        None => Err(Refusal {
+            number: NO_ROOM,
+            text: QUERY,
+            line: QUERY_LINE,
+        }),
+    }
 }

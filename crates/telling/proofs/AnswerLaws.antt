@@ -1,102 +1,76 @@
--- Each answer told, by its case and what is told of the verdict.
+-- Each answer told, by what it gives and what is told of its verdict.
 use Prim.Native.Nat.{ℕ}
-use mathlib.Core.Path.{◌≡◌, sym, ap}
-use mathlib.Core.Bool.{Bool, cond}
+use mathlib.Core.Path.{◌≡◌, refl, sym, subst, ◌∙◌}
+use mathlib.Core.Bool.{Bool, false, cond}
+use Rattle.std.specs.Prelude.{Result, Ok, Err, MatchResult}
+use Rattle.std.specs.Result.{result_unwrap_or}
 use Rattle.model.specs.Answers.{book_answer, rules_answer, writer_answer, list_answer, lamp_answer}
 use Rattle.model.specs.declared.Refusal.{Refusal as RefusalData}
-use Rattle.model.specs.declared.BookRead.{BookRead}
-use Rattle.model.specs.declared.BookRead.TheVariants as book
-use Rattle.model.specs.declared.RulesRead.{RulesRead}
-use Rattle.model.specs.declared.RulesRead.TheVariants as rules
-use Rattle.model.specs.declared.Verdict.TheVariants as verdict
-use Rattle.model.specs.declared.TextWritten.{TextWritten}
-use Rattle.model.specs.declared.TextWritten.TheVariants as written
-use Rattle.model.specs.declared.RowsListed.{RowsListed}
-use Rattle.model.specs.declared.RowsListed.TheVariants as listed
-use Rattle.model.specs.declared.LampShown.{LampShown}
-use Rattle.model.specs.declared.LampShown.TheVariants as lamp
+use Rattle.model.specs.declared.BookSize.{BookSize}
+use Rattle.model.specs.declared.RulesSize.{RulesSize}
+use Rattle.model.specs.declared.RowsSize.{RowsSize}
 use Rattle.telling.specs.Told.{VerdictTold, BookTold, NamesTold, RulesTold, CountTold, RowsTold, LampTold}
 use Rattle.telling.proofs.ToldLaws.{accepted_told, accepted_value, refused_told, refused_value}
 
 module _ {b : Bool} {x t l : ℕ} where
   -- a book, and the names of its nodes
-  module _ (r : BookRead) where
-    pub book_accepted : {n m k : ℕ} → r ≡ book.Counts n m k → VerdictTold verdict.Accepted b x t l → BookTold (book_answer r) b n m k x t l
-    unfolding book_answer
-    book_accepted h w =
-        let e = sym (ap book_answer h) in
-        record {
-          told_as = accepted_told e w;
-          nodes = accepted_value e (λ a. a.nodes);
-          relationships = accepted_value e (λ a. a.rels);
-          entries = accepted_value e (λ a. a.entries);
-        }
+  pub book_told : (r : Result BookSize RefusalData) (s : BookSize) → s ≡ result_unwrap_or r (record { nodes = 0; relationships = 0; entries = 0 })
+      → VerdictTold r b x t l → BookTold (book_answer r) b s.nodes s.relationships s.entries x t l
+  unfolding book_answer
+  book_told (Ok a) s e w = subst (λ (z : BookSize). BookTold (book_answer (Ok a)) b z.nodes z.relationships z.entries x t l) (sym e) (record {
+    told_as = accepted_told refl w;
+    nodes = accepted_value refl (λ a. a.nodes);
+    relationships = accepted_value refl (λ a. a.rels);
+    entries = accepted_value refl (λ a. a.entries);
+  })
+  book_told (Err q) s e w = subst (λ (z : BookSize). BookTold (book_answer (Err q)) b z.nodes z.relationships z.entries x t l) (sym e) (record {
+    told_as = refused_told q refl w;
+    nodes = refused_value q refl (λ a. a.nodes);
+    relationships = refused_value q refl (λ a. a.rels);
+    entries = refused_value q refl (λ a. a.entries);
+  })
 
-    pub book_refused : {q : RefusalData} → r ≡ book.Refused q → VerdictTold (verdict.Refused q) b x t l → BookTold (book_answer r) b 0 0 0 x t l
-    unfolding book_answer
-    book_refused {q} h w =
-        let e = sym (ap book_answer h) in
-        record {
-          told_as = refused_told q e w;
-          nodes = refused_value q e (λ a. a.nodes);
-          relationships = refused_value q e (λ a. a.rels);
-          entries = refused_value q e (λ a. a.entries);
-        }
-
-    pub names_accepted : {n m k : ℕ} → r ≡ book.Counts n m k → VerdictTold verdict.Accepted b x t l → NamesTold (book_answer r) b n x t l
-    names_accepted h w = let told = book_accepted h w in record { told_as = told.told_as; count = told.nodes }
-
-    pub names_refused : {q : RefusalData} → r ≡ book.Refused q → VerdictTold (verdict.Refused q) b x t l → NamesTold (book_answer r) b 0 x t l
-    names_refused h w = let told = book_refused h w in record { told_as = told.told_as; count = told.nodes }
+  pub names_told : (r : Result BookSize RefusalData) (n : ℕ) → MatchResult r (λ s. n ≡ s.nodes) (λ q. n ≡ 0)
+      → VerdictTold r b x t l → NamesTold (book_answer r) b n x t l
+  names_told (Ok a) n e w = let told = book_told (Ok a) a refl w in record { told_as = told.told_as; count = e ∙ told.nodes }
+  names_told (Err q) n e w = let told = book_told (Err q) _ refl w in record { told_as = told.told_as; count = e ∙ told.nodes }
 
   -- rules
-  module _ (r : RulesRead) where
-    pub rules_accepted : {n m : ℕ} → r ≡ rules.Counts n m → VerdictTold verdict.Accepted b x t l → RulesTold (rules_answer r) b n m x t l
-    unfolding rules_answer
-    rules_accepted h w =
-        let e = sym (ap rules_answer h) in
-        record { told_as = accepted_told e w; categories = accepted_value e (λ a. a.categories); policies = accepted_value e (λ a. a.policies) }
-
-    pub rules_refused : {q : RefusalData} → r ≡ rules.Refused q → VerdictTold (verdict.Refused q) b x t l → RulesTold (rules_answer r) b 0 0 x t l
-    unfolding rules_answer
-    rules_refused {q} h w =
-        let e = sym (ap rules_answer h) in
-        record { told_as = refused_told q e w; categories = refused_value q e (λ a. a.categories); policies = refused_value q e (λ a. a.policies) }
+  pub rules_told : (r : Result RulesSize RefusalData) (s : RulesSize) → s ≡ result_unwrap_or r (record { categories = 0; policies = 0 })
+      → VerdictTold r b x t l → RulesTold (rules_answer r) b s.categories s.policies x t l
+  unfolding rules_answer
+  rules_told (Ok a) s e w = subst (λ (z : RulesSize). RulesTold (rules_answer (Ok a)) b z.categories z.policies x t l) (sym e) (record {
+    told_as = accepted_told refl w;
+    categories = accepted_value refl (λ a. a.categories);
+    policies = accepted_value refl (λ a. a.policies);
+  })
+  rules_told (Err q) s e w = subst (λ (z : RulesSize). RulesTold (rules_answer (Err q)) b z.categories z.policies x t l) (sym e) (record {
+    told_as = refused_told q refl w;
+    categories = refused_value q refl (λ a. a.categories);
+    policies = refused_value q refl (λ a. a.policies);
+  })
 
   -- a written query
-  module _ (r : TextWritten) where
-    pub written_accepted : {n : ℕ} → r ≡ written.Length n → VerdictTold verdict.Accepted b x t l → CountTold (writer_answer r) b n x t l
-    unfolding writer_answer
-    written_accepted h w = let e = sym (ap writer_answer h) in record { told_as = accepted_told e w; count = accepted_value e (λ a. a) }
-
-    pub written_refused : {q : RefusalData} → r ≡ written.Refused q → VerdictTold (verdict.Refused q) b x t l → CountTold (writer_answer r) b 0 x t l
-    unfolding writer_answer
-    written_refused {q} h w = let e = sym (ap writer_answer h) in record { told_as = refused_told q e w; count = refused_value q e (λ a. a) }
+  pub length_told : (r : Result ℕ RefusalData) (n : ℕ) → n ≡ result_unwrap_or r 0 → VerdictTold r b x t l → CountTold (writer_answer r) b n x t l
+  unfolding writer_answer
+  length_told (Ok a) n e w = subst (λ (z : ℕ). CountTold (writer_answer (Ok a)) b z x t l) (sym e)
+      (record { told_as = accepted_told refl w; count = accepted_value refl (λ a. a) })
+  length_told (Err q) n e w = subst (λ (z : ℕ). CountTold (writer_answer (Err q)) b z x t l) (sym e)
+      (record { told_as = refused_told q refl w; count = refused_value q refl (λ a. a) })
 
   -- a list
-  module _ (r : RowsListed) where
-    pub listed_accepted : {n w : ℕ} → r ≡ listed.Count n w → VerdictTold verdict.Accepted b x t l → RowsTold (list_answer r) b n w x t l
-    unfolding list_answer
-    listed_accepted h w =
-        let e = sym (ap list_answer h) in
-        record { told_as = accepted_told e w; count = accepted_value e (λ a. a.rows); width = accepted_value e (λ a. a.width) }
-
-    pub listed_refused : {q : RefusalData} → r ≡ listed.Refused q → VerdictTold (verdict.Refused q) b x t l → RowsTold (list_answer r) b 0 0 x t l
-    unfolding list_answer
-    listed_refused {q} h w =
-        let e = sym (ap list_answer h) in
-        record { told_as = refused_told q e w; count = refused_value q e (λ a. a.rows); width = refused_value q e (λ a. a.width) }
+  pub rows_told : (r : Result RowsSize RefusalData) (s : RowsSize) → s ≡ result_unwrap_or r (record { rows = 0; width = 0 })
+      → VerdictTold r b x t l → RowsTold (list_answer r) b s.rows s.width x t l
+  unfolding list_answer
+  rows_told (Ok a) s e w = subst (λ (z : RowsSize). RowsTold (list_answer (Ok a)) b z.rows z.width x t l) (sym e)
+      (record { told_as = accepted_told refl w; count = accepted_value refl (λ a. a.rows); width = accepted_value refl (λ a. a.width) })
+  rows_told (Err q) s e w = subst (λ (z : RowsSize). RowsTold (list_answer (Err q)) b z.rows z.width x t l) (sym e)
+      (record { told_as = refused_told q refl w; count = refused_value q refl (λ a. a.rows); width = refused_value q refl (λ a. a.width) })
 
   -- the lamp
-  module _ (r : LampShown) where
-    pub lamp_yes : r ≡ lamp.Yes → VerdictTold verdict.Accepted b x t l → LampTold (lamp_answer r) b 1 x t l
-    unfolding lamp_answer
-    lamp_yes h w = let e = sym (ap lamp_answer h) in record { told_as = accepted_told e w; yes = accepted_value e (λ a. cond a 1 0) }
-
-    pub lamp_no : r ≡ lamp.No → VerdictTold verdict.Accepted b x t l → LampTold (lamp_answer r) b 0 x t l
-    unfolding lamp_answer
-    lamp_no h w = let e = sym (ap lamp_answer h) in record { told_as = accepted_told e w; yes = accepted_value e (λ a. cond a 1 0) }
-
-    pub lamp_refused : {q : RefusalData} → r ≡ lamp.Refused q → VerdictTold (verdict.Refused q) b x t l → LampTold (lamp_answer r) b 0 x t l
-    unfolding lamp_answer
-    lamp_refused {q} h w = let e = sym (ap lamp_answer h) in record { told_as = refused_told q e w; yes = refused_value q e (λ a. cond a 1 0) }
+  pub lamp_told : (r : Result Bool RefusalData) (y : ℕ) → y ≡ cond (result_unwrap_or r false) 1 0 → VerdictTold r b x t l → LampTold (lamp_answer r) b y x t l
+  unfolding lamp_answer
+  lamp_told (Ok a) y e w = subst (λ (z : ℕ). LampTold (lamp_answer (Ok a)) b z x t l) (sym e)
+      (record { told_as = accepted_told refl w; yes = accepted_value refl (λ a. cond a 1 0) })
+  lamp_told (Err q) y e w = subst (λ (z : ℕ). LampTold (lamp_answer (Err q)) b z x t l) (sym e)
+      (record { told_as = refused_told q refl w; yes = refused_value q refl (λ a. cond a 1 0) })

@@ -2,15 +2,14 @@
 use Prim.Native.Nat.{ℕ}
 use mathlib.Core.Path.{◌≡◌, sym, ap, ◌∙◌}
 use mathlib.Core.Bool.{Bool}
+use Rattle.std.specs.Prelude.{Result, Ok, Err}
 use Rattle.model.specs.Refusal.{Outcome, accepted, refused}
 use Rattle.model.specs.Answers.{refusal_of}
 use Rattle.model.specs.declared.Refusal.{Refusal as RefusalData}
-use Rattle.model.specs.declared.Verdict.{Verdict}
-use Rattle.model.specs.declared.Verdict.TheVariants as verdict
 use Rattle.telling.specs.Told.{accepts, told, refused_by, accepting, of_refusal, VerdictTold, Told}
 
--- a verdict that is known
-pub tells : (v u : Verdict) → v ≡ u → VerdictTold v (accepting u) (of_refusal (λ x. x.number) u) (of_refusal (λ x. x.text) u) (of_refusal (λ x. x.line) u)
+-- the verdict of an answer that is known
+pub tells : {A : Type 0} (v u : Result A RefusalData) → v ≡ u → VerdictTold v (accepting u) (of_refusal (λ x. x.number) u) (of_refusal (λ x. x.text) u) (of_refusal (λ x. x.line) u)
 tells v u e = record {
   verdict = sym (ap accepting e);
   number = sym (ap (of_refusal (λ x. x.number)) e);
@@ -21,7 +20,7 @@ tells v u e = record {
 module _ {A : Type 0} {o : Outcome A} where
   module _ {a : A} (e : accepted a ≡ o) where
     -- accepted: what is told of that verdict, and a number of what is given
-    pub accepted_told : {r : Bool} {n t l : ℕ} → VerdictTold verdict.Accepted r n t l → Told o r n t l
+    pub accepted_told : {B : Type 0} {x : B} {r : Bool} {n t l : ℕ} → VerdictTold (Ok x) r n t l → Told o r n t l
     unfolding accepting of_refusal accepts refused_by
     accepted_told w = record {
       verdict = w.verdict ∙ ap accepts e;
@@ -36,7 +35,7 @@ module _ {A : Type 0} {o : Outcome A} where
 
   module _ (q : RefusalData) (e : refused (refusal_of q) ≡ o) where
     -- refused: what is told of that verdict, and that nothing is given
-    pub refused_told : {r : Bool} {n t l : ℕ} → VerdictTold (verdict.Refused q) r n t l → Told o r n t l
+    pub refused_told : {B : Type 0} {r : Bool} {n t l : ℕ} → VerdictTold {A = B} (Err q) r n t l → Told o r n t l
     unfolding accepting of_refusal accepts refused_by refusal_of
     refused_told w = record {
       verdict = w.verdict ∙ ap accepts e;

@@ -1,10 +1,8 @@
 -- An outcome told in numbers: whether it is accepted, what it gives, and the three numbers of a refusal; what does not apply is 0.
-use Rattle.std.specs.Prelude.{ℕ, ◌≡◌, Bool, true, false, cond}
+use Rattle.std.specs.Prelude.{ℕ, ◌≡◌, Bool, true, false, cond, Result, Ok, Err}
 use Rattle.model.specs.Refusal.{Refusal, Outcome, accepted, refused}
 use Rattle.model.specs.Service.{BookAnswer, RulesAnswer, ListAnswer}
 use Rattle.model.specs.declared.Refusal.{Refusal as RefusalData}
-use Rattle.model.specs.declared.Verdict.{Verdict}
-use Rattle.model.specs.declared.Verdict.TheVariants as verdict
 
 -- whether an outcome is accepted
 unfoldable pub accepts : {A : Type 0} → Outcome A → Bool
@@ -21,18 +19,18 @@ unfoldable pub refused_by : {A : Type 0} → (Refusal → ℕ) → Outcome A →
 refused_by f (accepted a) = 0
 refused_by f (refused r) = f r
 
--- whether a verdict accepts
-unfoldable pub accepting : Verdict → Bool
-accepting verdict.Accepted = true
-accepting (verdict.Refused r) = false
+-- whether an answer accepts
+unfoldable pub accepting : {A : Type 0} → Result A RefusalData → Bool
+accepting (Ok a) = true
+accepting (Err r) = false
 
--- a number of a verdict's refusal, or 0
-unfoldable pub of_refusal : (RefusalData → ℕ) → Verdict → ℕ
-of_refusal f verdict.Accepted = 0
-of_refusal f (verdict.Refused r) = f r
+-- a number of an answer's refusal, or 0
+unfoldable pub of_refusal : {A : Type 0} → (RefusalData → ℕ) → Result A RefusalData → ℕ
+of_refusal f (Ok a) = 0
+of_refusal f (Err r) = f r
 
--- a verdict told by itself and the three numbers of a refusal
-pub record VerdictTold (v : Verdict) (r : Bool) (n t l : ℕ) : Type 0 where
+-- the verdict of an answer told by itself and the three numbers of a refusal
+pub record VerdictTold {A : Type 0} (v : Result A RefusalData) (r : Bool) (n t l : ℕ) : Type 0 where
   pub verdict : r ≡ accepting v
   pub number : n ≡ of_refusal (λ x. x.number) v
   pub text : t ≡ of_refusal (λ x. x.text) v

@@ -3,11 +3,11 @@ ghost use Rattle.model.specs.Answers.{book_answer, rules_answer, writer_answer, 
 ghost use Rattle.telling.specs.Told.{BookTold, NamesTold, RulesTold, CountTold, RowsTold};
 
 use crate::tell;
-use model::{BookRead, RowsListed, RulesRead, TextWritten, Verdict};
+use model::{BookSize, Refusal, RowsSize, RulesSize};
 
 // Tells what reading a book answers.
 pub fn tell_book(
-    read: BookRead,
+    read: Result<BookSize, Refusal>,
     nodes: &mut usize,
     relationships: &mut usize,
     entries: &mut usize,
@@ -18,25 +18,20 @@ pub fn tell_book(
     ensures { BookTold (book_answer read) result nodes.new relationships.new entries.new
         number.new text.new line.new }
 {
-    match read {
-        BookRead::Counts(n, r, e) => {
-            *nodes = n;
-            *relationships = r;
-            *entries = e;
-            return tell(Verdict::Accepted, number, text, line);
-        }
-        BookRead::Refused(refusal) => {
-            *nodes = 0;
-            *relationships = 0;
-            *entries = 0;
-            return tell(Verdict::Refused(refusal), number, text, line);
-        }
-    }
+    let size = read.unwrap_or(BookSize {
+        nodes: 0,
+        relationships: 0,
+        entries: 0,
+    });
+    *nodes = size.nodes;
+    *relationships = size.relationships;
+    *entries = size.entries;
+    tell(&read, number, text, line)
 }
 
 // Tells how many nodes a book has whose names are given.
 pub fn tell_names(
-    read: BookRead,
+    read: Result<BookSize, Refusal>,
     count: &mut usize,
     number: &mut u32,
     text: &mut u32,
@@ -44,21 +39,13 @@ pub fn tell_names(
 ) -> bool
     ensures { NamesTold (book_answer read) result count.new number.new text.new line.new }
 {
-    match read {
-        BookRead::Counts(nodes, _, _) => {
-            *count = nodes;
-            return tell(Verdict::Accepted, number, text, line);
-        }
-        BookRead::Refused(refusal) => {
-            *count = 0;
-            return tell(Verdict::Refused(refusal), number, text, line);
-        }
-    }
+    *count = read.map_or(0, |size| size.nodes);
+    tell(&read, number, text, line)
 }
 
 // Tells what reading rules answers.
 pub fn tell_rules(
-    read: RulesRead,
+    read: Result<RulesSize, Refusal>,
     categories: &mut usize,
     policies: &mut usize,
     number: &mut u32,
@@ -68,23 +55,18 @@ pub fn tell_rules(
     ensures { RulesTold (rules_answer read) result categories.new policies.new
         number.new text.new line.new }
 {
-    match read {
-        RulesRead::Counts(c, p) => {
-            *categories = c;
-            *policies = p;
-            return tell(Verdict::Accepted, number, text, line);
-        }
-        RulesRead::Refused(refusal) => {
-            *categories = 0;
-            *policies = 0;
-            return tell(Verdict::Refused(refusal), number, text, line);
-        }
-    }
+    let size = read.unwrap_or(RulesSize {
+        categories: 0,
+        policies: 0,
+    });
+    *categories = size.categories;
+    *policies = size.policies;
+    tell(&read, number, text, line)
 }
 
 // Tells how long a written query is.
 pub fn tell_length(
-    written: TextWritten,
+    written: Result<usize, Refusal>,
     size: &mut usize,
     number: &mut u32,
     text: &mut u32,
@@ -92,21 +74,13 @@ pub fn tell_length(
 ) -> bool
     ensures { CountTold (writer_answer written) result size.new number.new text.new line.new }
 {
-    match written {
-        TextWritten::Length(n) => {
-            *size = n;
-            return tell(Verdict::Accepted, number, text, line);
-        }
-        TextWritten::Refused(refusal) => {
-            *size = 0;
-            return tell(Verdict::Refused(refusal), number, text, line);
-        }
-    }
+    *size = written.unwrap_or(0);
+    tell(&written, number, text, line)
 }
 
 // Tells how many rows a list has, and how many Return names each answers.
 pub fn tell_rows(
-    listed: RowsListed,
+    listed: Result<RowsSize, Refusal>,
     rows: &mut usize,
     width: &mut usize,
     number: &mut u32,
@@ -115,16 +89,8 @@ pub fn tell_rows(
 ) -> bool
     ensures { RowsTold (list_answer listed) result rows.new width.new number.new text.new line.new }
 {
-    match listed {
-        RowsListed::Count(n, w) => {
-            *rows = n;
-            *width = w;
-            return tell(Verdict::Accepted, number, text, line);
-        }
-        RowsListed::Refused(refusal) => {
-            *rows = 0;
-            *width = 0;
-            return tell(Verdict::Refused(refusal), number, text, line);
-        }
-    }
+    let size = listed.unwrap_or(RowsSize { rows: 0, width: 0 });
+    *rows = size.rows;
+    *width = size.width;
+    tell(&listed, number, text, line)
 }

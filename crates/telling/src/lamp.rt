@@ -3,11 +3,11 @@ ghost use Rattle.model.specs.Answers.{lamp_answer};
 ghost use Rattle.telling.specs.Told.{LampTold};
 
 use crate::tell;
-use model::{LampShown, Verdict};
+use model::Refusal;
 
 // Tells whether the list has a row.
 pub fn tell_lamp(
-    shown: LampShown,
+    shown: Result<bool, Refusal>,
     yes: &mut u32,
     number: &mut u32,
     text: &mut u32,
@@ -15,18 +15,6 @@ pub fn tell_lamp(
 ) -> bool
     ensures { LampTold (lamp_answer shown) result yes.new number.new text.new line.new }
 {
-    match shown {
-        LampShown::Yes => {
-            *yes = 1;
-            return tell(Verdict::Accepted, number, text, line);
-        }
-        LampShown::No => {
-            *yes = 0;
-            return tell(Verdict::Accepted, number, text, line);
-        }
-        LampShown::Refused(refusal) => {
-            *yes = 0;
-            return tell(Verdict::Refused(refusal), number, text, line);
-        }
-    }
+    *yes = u32::from(shown.unwrap_or(false));
+    tell(&shown, number, text, line)
 }

@@ -39,8 +39,7 @@ pub fn tell_query(
     *edge_words = patterns::edge_words(pattern);
     *condition_words = conditions::condition_words(pattern);
     *return_words = patterns::return_words(pattern);
-    let verdict = read.verdict;
-    tell(verdict, number, text, line)
+    tell(&read.verdict, number, text, line)
 }
 
 // Tells what reading a request answers.
@@ -59,6 +58,5 @@ pub fn tell_request(
     *category = read.category;
     *count = read.count;
     *identities = identity_words(read);
-    let verdict = read.verdict;
-    tell(verdict, number, text, line)
+    tell(&read.verdict, number, text, line)
 }

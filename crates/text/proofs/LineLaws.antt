@@ -16,7 +16,8 @@ use Rattle.model.specs.Words.{run}
 use Rattle.model.specs.Answers.{part_of}
 use Rattle.model.specs.Refusal.{Outcome, refusal}
 use Rattle.model.specs.Lines.{is_allowed, bad_line, Line, add_byte, lines_of, refused_at, bytes_first}
-use Rattle.text.specs.declared.BytesRead.TheVariants.{TooLong}
+use Rattle.std.specs.Prelude.{Err}
+use Rattle.text.specs.declared.BytesFault.TheVariants.{TooLong}
 use Rattle.text.specs.Places.{peek_at, past, is_other}
 use Rattle.text.specs.Lines.{is_bad, is_in_line, feed_count, on_line, bytes_of, on_bytes}
 use Rattle.text.proofs.PlaceLaws.{below_or_not, drop_at, drop_end, peek_drop, get_or_any, past_part, past_within, past_stops}
@@ -89,7 +90,7 @@ pub bytes_first_law : {A : Type 0} (t limit : ℕ) (line : ℕ → ℕ) (s : Byt
 unfolding bytes_first bytes_of on_bytes refused_at on_line
 bytes_first_law t limit line s o = go (ltb limit (length s)) (bad_line 1 s)
   where
-    go : (x : Bool) (m : Maybe ℕ) → pick x (refusal 1 t 0) (refused_at m t line o) ≡ on_bytes (pick x TooLong (on_line m)) t line o
+    go : (x : Bool) (m : Maybe ℕ) → pick x (refusal 1 t 0) (refused_at m t line o) ≡ on_bytes (pick x (Err TooLong) (on_line m)) t line o
     go true m = refl
     go false nothing = refl
     go false (just l) = refl

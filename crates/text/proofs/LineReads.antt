@@ -12,8 +12,9 @@ use Rattle.model.specs.Bytes.{Bytes}
 use Rattle.model.specs.Choice.{pick, Maybe, nothing, just}
 use Rattle.model.specs.Refusal.{Outcome, accepted, refusal}
 use Rattle.model.specs.Lines.{Line, Step, fault, known, step_then, bad_line, read_lines, lines_of, bytes_first}
-use Rattle.text.specs.declared.BytesRead.{BytesRead}
-use Rattle.text.specs.declared.BytesRead.TheVariants.{Allowed, TooLong, BadLine}
+use Rattle.std.specs.Prelude.{Result, Ok, Err}
+use Rattle.text.specs.declared.BytesFault.{BytesFault}
+use Rattle.text.specs.declared.BytesFault.TheVariants.{TooLong, BadLine}
 use Rattle.text.specs.Places.{past}
 use Rattle.text.specs.Lines.{is_in_line, on_line, bytes_of, on_bytes, line_at}
 use Rattle.text.proofs.PlaceLaws.{below_or_not, past_on, past_within}
@@ -50,38 +51,38 @@ pub lines_over : {S : Type 0} (text : Bytes) (at t : ℕ) (step : S → Line →
 unfolding read_lines
 lines_over text at t step n x h = rw (lines_none text at h)
 
-module _ (limit : ℕ) (text : Bytes) (r : BytesRead) (e : r ≡ bytes_of limit text) where
+module _ (limit : ℕ) (text : Bytes) (r : Result (Unit {0}) BytesFault) (e : r ≡ bytes_of limit text) where
   module _ {A : Type 0} (t : ℕ) (line : ℕ → ℕ) (o : Outcome A) where
     -- refusals 1 and 2 go by what the bytes gave
     by_bytes : bytes_first t limit line text o ≡ on_bytes r t line o
-    by_bytes = bytes_first_law t limit line text o ∙ ap (λ (x : BytesRead). on_bytes x t line o) (sym e)
+    by_bytes = bytes_first_law t limit line text o ∙ ap (λ (x : Result (Unit {0}) BytesFault). on_bytes x t line o) (sym e)
 
-    pub text_too_long : r ≡ TooLong → bytes_first t limit line text o ≡ refusal 1 t 0
+    pub text_too_long : r ≡ Err TooLong → bytes_first t limit line text o ≡ refusal 1 t 0
     unfolding on_bytes
     text_too_long h = by_bytes ∙ rw h
 
-    pub text_bad_line : (l : ℕ) → r ≡ BadLine l → bytes_first t limit line text o ≡ refusal 2 t (line l)
+    pub text_bad_line : (l : ℕ) → r ≡ Err (BadLine l) → bytes_first t limit line text o ≡ refusal 2 t (line l)
     unfolding on_bytes
     text_bad_line l h = by_bytes ∙ rw h
 
-    pub text_allowed : r ≡ Allowed → bytes_first t limit line text o ≡ o
+    pub text_allowed : r ≡ Ok tt → bytes_first t limit line text o ≡ o
     unfolding on_bytes
     text_allowed h = by_bytes ∙ rw h
 
   -- what is not too long
-  pub text_short : r ≡ Allowed → length text ≤ limit
+  pub text_short : r ≡ Ok tt → length text ≤ limit
   unfolding bytes_of
   text_short h = go (ltb limit (length text)) refl (sym h ∙ e)
     where
-      go : (t : Bool) → ltb limit (length text) ≡ t → Allowed ≡ pick t TooLong (on_line (bad_line 1 text)) → length text ≤ limit
+      go : (t : Bool) → ltb limit (length text) ≡ t → Ok tt ≡ pick t (Err TooLong) (on_line (bad_line 1 text)) → length text ≤ limit
       go true q p = let z : ◌≡◌ {A = ℕ} 0 1 = cc in omega arith
       go false q p = ltb-false limit (length text) q
 
-  pub bad_small : (l : ℕ) → r ≡ BadLine l → l ≤ limit
+  pub bad_small : (l : ℕ) → r ≡ Err (BadLine l) → l ≤ limit
   unfolding bytes_of on_line
   bad_small l h = go (ltb limit (length text)) refl (bad_line 1 text) refl (sym h ∙ e)
     where
-      go : (t : Bool) → ltb limit (length text) ≡ t → (m : Maybe ℕ) → bad_line 1 text ≡ m → BadLine l ≡ pick t TooLong (on_line m) → l ≤ limit
+      go : (t : Bool) → ltb limit (length text) ≡ t → (m : Maybe ℕ) → bad_line 1 text ≡ m → Err (BadLine l) ≡ pick t (Err TooLong) (on_line m) → l ≤ limit
       go true q m b p = let z : ◌≡◌ {A = ℕ} 0 1 = cc in omega arith
       go false q nothing b p = let z : ◌≡◌ {A = ℕ} 0 1 = cc in omega arith
       go false q (just k) b p =

@@ -1,6 +1,6 @@
 -- Laws of whole numbers.
 use Prim.Native.Nat.{ℕ, ◌+◌, ◌-◌, ◌*◌, ◌^◌, ◌≤◌, ◌<◌}
-use mathlib.Core.Path.{◌≡◌, refl}
+use mathlib.Core.Path.{◌≡◌, refl, ap}
 use mathlib.Core.Logic.{⊎_elim}
 use mathlib.Core.List.{[], ◌∷◌}
 use mathlib.Core.Bool.{Bool, true, false, ◌&&◌}
@@ -8,12 +8,11 @@ use native.Mathlib.Omega.{arith}
 use lib.ListN.{length, get_or, drop}
 use lib.Dec.{leb}
 use borrow.Author.Tests.{le-leb, lt-leb, leb-true, leb-false, ne_eqb}
+use Rattle.std.specs.Prelude.{Option, Some, None}
 use Rattle.model.specs.Bytes.{Bytes}
 use Rattle.model.specs.Choice.{pick, Maybe, nothing, just}
 use Rattle.model.specs.Lists.{is_nil}
 use Rattle.model.specs.Words.{Got, run, is_digit, between, biased, decimal, plain_digits, is_whole, digits_at, whole_at}
-use Rattle.text.specs.declared.NumberRead.TheVariants.{Number, None}
-use Rattle.text.specs.declared.numbers.Magnitude.TheVariants.{Value, TooLarge}
 use Rattle.text.specs.Places.{peek_at, past, number_of, digits_of, whole_to}
 use Rattle.text.proofs.PlaceLaws.{below_or_not, drop_peek, drop_end, peek_end, get_or_any, test_in, past_step}
 
@@ -61,11 +60,11 @@ decimal_least v [] = omega arith
 decimal_least v (d ∷ ds) = omega (arith, decimal_least (v * 10 + (d - 48)) ds)
 
 module _ (s : Bytes) (from : ℕ) where
-  pub digits_large : 2 ^ 63 < decimal 0 (run is_digit (drop from s)) → TooLarge ≡ digits_of s from
+  pub digits_large : 2 ^ 63 < decimal 0 (run is_digit (drop from s)) → None ≡ digits_of s from
   unfolding digits_of
   digits_large h = rw (lt-leb (decimal 0 (run is_digit (drop from s))) (2 ^ 63) h)
 
-  pub digits_value : (v q : ℕ) → v ≡ decimal 0 (run is_digit (drop from s)) → q ≡ past is_digit s from → v ≤ 2 ^ 63 → Value v q ≡ digits_of s from
+  pub digits_value : (v q : ℕ) → v ≡ decimal 0 (run is_digit (drop from s)) → q ≡ past is_digit s from → v ≤ 2 ^ 63 → Some (v, q) ≡ digits_of s from
   unfolding digits_of past
   digits_value v q e w h = rw (← e, ← w, le-leb v (2 ^ 63) h)
 
@@ -76,23 +75,28 @@ pub record Told (s : Bytes) (from v q : ℕ) : Type 0 where
   pub small : v ≤ 2 ^ 63
 
 module _ (s : Bytes) (from : ℕ) where
-  pub told : (v q : ℕ) → Value v q ≡ digits_of s from → Told s from v q
+  pub told : (v q : ℕ) → digits_of s from ≡ Some (v, q) → Told s from v q
   unfolding digits_of
   told v q e = go (leb (decimal 0 (run is_digit (drop from s))) (2 ^ 63)) refl e
     where
       go : (x : Bool) → leb (decimal 0 (run is_digit (drop from s))) (2 ^ 63) ≡ x
-          → Value v q ≡ pick x (Value (decimal 0 (run is_digit (drop from s))) (from + length (run is_digit (drop from s)))) TooLarge → Told s from v q
+          → pick {A = Option (ℕ × ℕ)} x (Some (decimal 0 (run is_digit (drop from s)), from + length (run is_digit (drop from s)))) None ≡ Some (v, q) → Told s from v q
       go true h e =
-          let a : v ≡ decimal 0 (run is_digit (drop from s)) = cc in
-          record { value = a; end = cc; small = omega (arith, leb-true (decimal 0 (run is_digit (drop from s))) (2 ^ 63) h) }
+          let p : ◌≡◌ {A = ℕ × ℕ} (v, q) (decimal 0 (run is_digit (drop from s)), from + length (run is_digit (drop from s))) = cc in
+          let a : v ≡ decimal 0 (run is_digit (drop from s)) = ap (λ (z : ℕ × ℕ). z.0) p in
+          record {
+            value = a;
+            end = ap (λ (z : ℕ × ℕ). z.1) p;
+            small = omega (arith, leb-true (decimal 0 (run is_digit (drop from s))) (2 ^ 63) h);
+          }
       go false h e = let z : ◌≡◌ {A = ℕ} 0 1 = cc in absurd (omega arith)
 
-  pub untold : TooLarge ≡ digits_of s from → 2 ^ 63 < decimal 0 (run is_digit (drop from s))
+  pub untold : digits_of s from ≡ None → 2 ^ 63 < decimal 0 (run is_digit (drop from s))
   unfolding digits_of
   untold e = go (leb (decimal 0 (run is_digit (drop from s))) (2 ^ 63)) refl e
     where
       go : (x : Bool) → leb (decimal 0 (run is_digit (drop from s))) (2 ^ 63) ≡ x
-          → TooLarge ≡ pick x (Value (decimal 0 (run is_digit (drop from s))) (from + length (run is_digit (drop from s)))) TooLarge
+          → pick {A = Option (ℕ × ℕ)} x (Some (decimal 0 (run is_digit (drop from s)), from + length (run is_digit (drop from s)))) None ≡ None
           → 2 ^ 63 < decimal 0 (run is_digit (drop from s))
       go true h e = let z : ◌≡◌ {A = ℕ} 0 1 = cc in absurd (omega arith)
       go false h e = leb-false (decimal 0 (run is_digit (drop from s))) (2 ^ 63) h
@@ -154,7 +158,7 @@ module _ (m : Bool) (s : Bytes) (at from : ℕ) where
   not_number h = rw h
 
   pub is_number : (n q : ℕ) → is_whole m (run is_digit (drop from s)) ≡ true → n ≡ biased m (decimal 0 (run is_digit (drop from s)))
-      → q ≡ at + (length (run is_digit (drop from s)) + pick m 1 0) → Number n q ≡ number_of at (digits_at m (drop from s))
+      → q ≡ at + (length (run is_digit (drop from s)) + pick m 1 0) → Some (n, q) ≡ number_of at (digits_at m (drop from s))
   unfolding number_of digits_at
   is_number n q h e w = rw h (rw (e, w))
 

@@ -7,12 +7,12 @@ use native.Mathlib.Omega.{arith}
 use lib.ListN.{length, get_or, drop}
 use lib.Dec.{leb, eqb}
 use borrow.Author.Tests.{le-leb, lt-leb, eq-eqb, ne_eqb}
+use Rattle.std.specs.Prelude.{Some, None}
 use Rattle.model.specs.Bytes.{Bytes}
 use Rattle.model.specs.Choice.{pick, Maybe, nothing, just, and_then}
 use Rattle.model.specs.Lists.{any}
 use Rattle.model.specs.Words.{Got, run, before, is_text, text_at, quoted_at}
 use Rattle.model.specs.Answers.{part_of}
-use Rattle.text.specs.declared.End.TheVariants.{At, None}
 use Rattle.text.specs.Places.{peek_at, past, is_other, is_in_text, is_in_quoted, end_of, text_to}
 use Rattle.text.proofs.PlaceLaws.{peek_drop, drop_end, past_part, past_on, part_length}
 
@@ -142,11 +142,11 @@ module _ (s : Bytes) (at q : ℕ) where
     unfolding end_of
     text_open n = rw (text_at_law s (at + 1), ← e, ne_eqb (peek_at s q) 39 n)
 
-    pub text_fits : peek_at s q ≡ 39 → q - (at + 1) ≤ 40 → At (q + 1) ≡ end_of at (text_at (drop (at + 1) s))
+    pub text_fits : peek_at s q ≡ 39 → q - (at + 1) ≤ 40 → Some (q + 1) ≡ end_of at (text_at (drop (at + 1) s))
     unfolding end_of
     text_fits h l =
         let k : q + 1 ≡ at + (q - (at + 1) + 2) = omega (arith, past_on is_in_text s (at + 1)) in
-        rw (text_at_law s (at + 1), ← e, eq-eqb (peek_at s q) 39 h, le-leb (q - (at + 1)) 40 l) (ap At k)
+        rw (text_at_law s (at + 1), ← e, eq-eqb (peek_at s q) 39 h, le-leb (q - (at + 1)) 40 l) (ap Some k)
 
     pub text_long : peek_at s q ≡ 39 → 40 < q - (at + 1) → None ≡ end_of at (text_at (drop (at + 1) s))
     unfolding end_of
@@ -157,11 +157,11 @@ module _ (s : Bytes) (at q : ℕ) where
     unfolding end_of
     quoted_open n = rw (quoted_at_law s (at + 1), ← e, ne_eqb (peek_at s q) 34 n)
 
-    pub quoted_shut : peek_at s q ≡ 34 → At (q + 1) ≡ end_of at (quoted_at (drop (at + 1) s))
+    pub quoted_shut : peek_at s q ≡ 34 → Some (q + 1) ≡ end_of at (quoted_at (drop (at + 1) s))
     unfolding end_of
     quoted_shut h =
         let k : q + 1 ≡ at + (q - (at + 1) + 2) = omega (arith, past_on is_in_quoted s (at + 1)) in
-        rw (quoted_at_law s (at + 1), ← e, eq-eqb (peek_at s q) 34 h) (ap At k)
+        rw (quoted_at_law s (at + 1), ← e, eq-eqb (peek_at s q) 34 h) (ap Some k)
 
 -- past the end of the text there is neither
 pub text_past : (s : Bytes) (at : ℕ) → length s ≤ at → None ≡ end_of at (text_at (drop (at + 1) s))

@@ -6,18 +6,18 @@ use native.Mathlib.Omega.{arith}
 use lib.ListN.{length, drop}
 use lib.Dec.{leb}
 use borrow.Author.Tests.{le-leb, lt-leb}
+use Rattle.std.specs.Prelude.{Some, None}
 use Rattle.model.specs.Bytes.{Bytes}
 use Rattle.model.specs.Choice.{pick, Maybe, nothing, just}
 use Rattle.model.specs.Words.{Got, run, is_word_byte, word_at}
 use Rattle.model.specs.Answers.{part_of}
-use Rattle.text.specs.declared.End.TheVariants.{At, None}
 use Rattle.text.specs.Places.{end_of, past, word_to}
 use Rattle.text.proofs.PlaceLaws.{run_take}
 
 module _ (s : Bytes) (at q : ℕ) (e : q ≡ past is_word_byte s at) where
-  pub word_fits : q - at ≤ 24 → At q ≡ end_of at (word_at (drop at s))
+  pub word_fits : q - at ≤ 24 → Some q ≡ end_of at (word_at (drop at s))
   unfolding end_of word_at past
-  word_fits h = rw (le-leb (length (run is_word_byte (drop at s))) 24 (omega arith)) (ap At e)
+  word_fits h = rw (le-leb (length (run is_word_byte (drop at s))) 24 (omega arith)) (ap Some e)
 
   pub word_long : 24 < q - at → None ≡ end_of at (word_at (drop at s))
   unfolding end_of word_at past

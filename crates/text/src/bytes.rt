@@ -82,6 +82,7 @@ pub fn find(s: &[u8], from: usize, byte: u8) -> usize
         return from;
     }
     let mut i = from;
+    // By eights, counted by hand, since line ends and quotes are looked for in every text: for speed.
     while 8 <= s.len() - i {
         if in_eight(s, i, byte) {
             return find_near(s, i, byte);
@@ -110,12 +111,10 @@ fn in_eight(s: &[u8], i: usize, byte: u8) -> bool
 fn find_near(s: &[u8], from: usize, byte: u8) -> usize
     ensures { result ≡ past (is_other byte) s.now from }
 {
-    let mut i = from;
-    while i < s.len() {
+    for i in from..s.len() {
         if s[i] == byte {
             return i;
         }
-        i += 1;
     }
-    i
+    from.max(s.len())
 }

@@ -8,24 +8,9 @@ pub mod parts;
 pub mod quotes;
 pub mod words;
 
-// Where what was read ends, or that it cannot be read there.
-#[derive(Clone, Copy)]
-pub enum End {
-    At(usize),
-    None,
-}
-
-// A whole number z as z + 2^63, and where it ends; or that none can be read there.
-#[derive(Clone, Copy)]
-pub enum NumberRead {
-    Number(u64, usize),
-    None,
-}
-
 // What the bytes of a text are refused for, before it is read: its length, or the line of the first byte not allowed.
 #[derive(Clone, Copy)]
-pub enum BytesRead {
-    Allowed,
+pub enum BytesFault {
     TooLong,
     BadLine(usize),
 }

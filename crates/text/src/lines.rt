@@ -5,7 +5,7 @@ ghost use Rattle.model.specs.Lines.{bad_line};
 ghost use Rattle.text.specs.Places.{past};
 ghost use Rattle.text.specs.Lines.{is_bad, is_in_line, feed_count, on_line, bytes_of};
 
-use crate::{BytesRead, bytes};
+use crate::{BytesFault, bytes};
 
 // A byte that is neither 0x20 to 0x7E nor line feed.
 pub fn is_bad(b: u8) -> bool
@@ -22,10 +22,8 @@ pub fn some_bad(s: &[u8]) -> bool
     ensures { result ≡ any is_bad s.now }
 {
     let mut bad = false;
-    let mut i = 0;
-    while i < s.len() {
-        bad = bad | is_bad(s[i]);
-        i += 1;
+    for b in s {
+        bad = bad | is_bad(*b);
     }
     bad
 }
@@ -37,34 +35,31 @@ pub fn feed_count(b: u8) -> usize
     if b == b'\n' { 1 } else { 0 }
 }
 
-// The line of the first byte not allowed.
-pub fn bad_line(s: &[u8]) -> BytesRead
+// The refusal 2 of a text: the line of the first byte not allowed.
+pub fn bad_line(s: &[u8]) -> Result<(), BytesFault>
     ensures { result ≡ on_line (bad_line 1 s.now) }
 {
     let mut line = 1;
-    let mut i = 0;
-    while i < s.len() {
-        let b = s[i];
-        if is_bad(b) {
-            return BytesRead::BadLine(line);
+    for b in s {
+        if is_bad(*b) {
+            return Err(BytesFault::BadLine(line));
         }
-        line = line + feed_count(b);
-        i += 1;
+        line = line + feed_count(*b);
     }
-    BytesRead::Allowed
+    Ok(())
 }
 
 // The refusals 1 and 2 of a text: too long, or a byte not allowed.
-pub fn bytes_read(s: &[u8], limit: usize) -> BytesRead
+pub fn bytes_read(s: &[u8], limit: usize) -> Result<(), BytesFault>
     ensures { result ≡ bytes_of limit s.now }
 {
     if limit < s.len() {
-        return BytesRead::TooLong;
+        return Err(BytesFault::TooLong);
     }
     if some_bad(s) {
         return bad_line(s);
     }
-    BytesRead::Allowed
+    Ok(())
 }
 
 // The place of the first line feed from a place on, or behind the last byte.

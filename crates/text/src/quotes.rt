@@ -3,7 +3,7 @@ ghost use Rattle.std.specs.Prelude.{◌≡◌, ◌+◌, drop};
 ghost use Rattle.model.specs.Words.{text_at, quoted_at};
 ghost use Rattle.text.specs.Places.{end_of, past, is_in_text};
 
-use crate::{End, bytes};
+use crate::bytes;
 use model::limits::MAX_TEXT_BYTES;
 
 // A byte that a text value may have.
@@ -23,44 +23,42 @@ pub fn in_text(b: u8) -> bool
 pub fn text_end(s: &[u8], from: usize) -> usize
     ensures { result ≡ past is_in_text s.now from }
 {
-    let mut i = from;
-    while i < s.len() {
+    for i in from..s.len() {
         if !in_text(s[i]) {
             return i;
         }
-        i += 1;
     }
-    i
+    from.max(s.len())
 }
 
 // The end of the text value whose first apostrophe stands at a place.
-pub fn text_value(s: &[u8], at: usize) -> End
+pub fn text_value(s: &[u8], at: usize) -> Option<usize>
     ensures { result ≡ end_of at (text_at (drop (at + 1) s.now)) }
 {
     if s.len() <= at {
-        return End::None;
+        return None;
     }
     let from = at + 1;
     let q = text_end(s, from);
     if bytes::peek(s, q) != bytes::APOSTROPHE {
-        return End::None;
+        return None;
     }
     if q - from <= MAX_TEXT_BYTES {
-        return End::At(q + 1);
+        return Some(q + 1);
     }
-    End::None
+    None
 }
 
 // The end of the policy text whose first double quote stands at a place.
-pub fn quoted(s: &[u8], at: usize) -> End
+pub fn quoted(s: &[u8], at: usize) -> Option<usize>
     ensures { result ≡ end_of at (quoted_at (drop (at + 1) s.now)) }
 {
     if s.len() <= at {
-        return End::None;
+        return None;
     }
     let q = bytes::find(s, at + 1, b'"');
     if bytes::peek(s, q) != bytes::DOUBLE_QUOTE {
-        return End::None;
+        return None;
     }
-    End::At(q + 1)
+    Some(q + 1)
 }

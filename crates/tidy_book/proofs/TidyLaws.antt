@@ -7,6 +7,7 @@ use native.Mathlib.Omega.{arith}
 use lib.ListN.{length}
 use lib.Dec.{ltb}
 use borrow.Author.Tests.{lt-ltb, le-ltb, ltb-true, ltb-false}
+use Rattle.std.specs.Prelude.{Result, Ok, Err}
 use Rattle.logic.specs.Flags.{or_false, neither}
 use Rattle.logic.specs.Tests.{either, below_or_not}
 use Rattle.model.specs.Bytes.{Bytes}
@@ -18,12 +19,9 @@ use Rattle.model.specs.Tidy.{tidy_text, tidy_book}
 use Rattle.model.specs.Service.{with_work, tidy_service}
 use Rattle.model.specs.Answers.{refusal_of, writer_answer}
 use Rattle.model.specs.declared.Refusal.{Refusal as RefusalData}
-use Rattle.model.specs.declared.TextWritten.TheVariants.{Length, Refused}
 use Rattle.model.proofs.TidyRefusals.{tidy_gives}
 use Rattle.renaming.proofs.AcceptedBook.{book_bytes}
 use Rattle.book_tables.specs.declared.BookCounts.{BookCounts}
-use Rattle.book.specs.declared.BookLoad.{BookLoad}
-use Rattle.book.specs.declared.BookLoad.TheVariants as load
 use Rattle.book.specs.Loaded.{Loaded}
 use Rattle.putting.specs.Putting.{Puts}
 use Rattle.putting.specs.Whole.{too_long}
@@ -32,14 +30,14 @@ use Rattle.written_book.proofs.LeavesLaws.{told, loaded, first_refused, texts_re
 use Rattle.tidy_book.specs.Asked.{BookRead}
 
 -- a book that was loaded
-pub book_loaded : (work : ℕ) (text : Bytes) (words : List ℕ) (r : BookLoad) (c : BookCounts) → r ≡ load.Loaded c
+pub book_loaded : (work : ℕ) (text : Bytes) (words : List ℕ) (r : Result BookCounts RefusalData) (c : BookCounts) → r ≡ Ok c
     → Loaded text words r (with_work work (read_book_by same_but_case text)) → BookRead text words c
 unfolding read_book
 book_loaded work text words r c e l = let h = loaded work text words r (read_book_by same_but_case text) c e l in record { fits = h.2; is = h.1 }
 
 -- the first refusal, of the memory or of the book, is the tidy book's
 pub refused_first : (work : ℕ) (book out : Bytes) (x : RefusalData) → with_work work (read_book_by same_but_case book) ≡ refused (refusal_of x)
-    → (writer_answer (Refused x) ≡ (tidy_service work out book).answer) × (out ≡ (tidy_service work out book).text)
+    → (writer_answer (Err x) ≡ (tidy_service work out book).answer) × (out ≡ (tidy_service work out book).text)
 unfolding tidy_service tidy_book read_book
 refused_first work book out x e = first_refused work out (read_book_by same_but_case book) _ x e
 
@@ -55,14 +53,14 @@ module _ (book out : Bytes) (b : Book) (read : read_book book ≡ accepted b) (s
   too_long_for_a_book h = rw (read, lt-ltb 65536 (length (tidy_text b)) (omega (arith, h, is)))
 
   -- 14, whichever limit is passed
-  pub refused_too_long : too_long 65536 (length out) size ≡ true → Leaves (tidy_book book) out out (Refused (told 14 1 0))
+  pub refused_too_long : too_long 65536 (length out) size ≡ true → Leaves (tidy_book book) out out (Err (told 14 1 0))
   refused_too_long long = either (below_or_not 65536 size) (λ l. texts_refused _ out _ (too_long_for_a_book l))
       (λ l. no_room _ out _ (tidy_gives book b read (omega (arith, l, is))) size is (ltb-true (length out) size (sym (or_false (ltb (length out) size))
       ∙ ap (λ (few : Bool). ltb (length out) size || few) (sym (le-ltb 65536 size l)) ∙ long)))
 
   -- the tidy book
   pub tidy_written : (out' : Bytes) (n : ℕ) → too_long 65536 (length out) size ≡ false → Puts out 0 (tidy_text b) out' n
-      → Leaves (tidy_book book) out out' (Length size)
+      → Leaves (tidy_book book) out out' (Ok size)
   tidy_written out' n short put =
       let (room, few) = neither (ltb (length out) size) (ltb 65536 size) short in
       let small : size ≤ 65536 = ltb-false 65536 size few in

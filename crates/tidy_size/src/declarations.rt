@@ -31,10 +31,8 @@ pub fn attrs_size(words: &[u32], offset: usize, count: usize) -> usize
         (λ text. attr_line owner text words.now offset) count result }
 {
     let mut size: usize = 0;
-    let mut i: usize = 0;
-    while i < count {
+    for i in 0..count {
         size += attr_size(words, offset, i);
-        i += 1;
     }
     size
 }
@@ -63,10 +61,8 @@ pub fn labels_size(words: &[u32], count: usize) -> usize
     ensures { LinesSize (λ text. NamesFit text words.now label_names count) (λ text. label_line text words.now) count result }
 {
     let mut size: usize = 0;
-    let mut i: usize = 0;
-    while i < count {
+    for i in 0..count {
         size += LABEL_LINE + name_size(words, LABEL_NAMES + i);
-        i += 1;
     }
     size
 }

@@ -25,13 +25,11 @@ pub fn entries_size(words: &[u32], offset: usize, declared: usize, owner: u32) -
     }
     let slots = entry_slots(words, owner);
     let mut size: usize = 0;
-    let mut attribute: usize = 0;
-    while attribute < declared {
+    for attribute in 0..declared {
         let slot = slots[attribute] as usize;
         if 0 < slot {
             size += entry_size(words, offset + attribute, slot - 1);
         }
-        attribute += 1;
     }
     size
 }

@@ -18,17 +18,15 @@ const NODE_LINE: usize = 8;
 
 const REL_LINE: usize = 9;
 
-// The size of the lines of all nodes.
+// The size of the lines of all nodes. Tried as one function over a closure, with `rels_size`: its clause would range over what words say, which no clause can.
 pub fn nodes_size(words: &[u32], counts: BookCounts) -> usize
     requires { SomeText words.now counts }
     ensures { LinesSize (λ text. Fits text words.now counts) (λ text. node_line counts text words.now) counts.nodes result }
 {
     let nodes = counts.nodes;
     let mut size: usize = 0;
-    let mut i: usize = 0;
-    while i < nodes {
+    for i in 0..nodes {
         size += node_size(words, counts, i);
-        i += 1;
     }
     size
 }
@@ -49,10 +47,8 @@ pub fn rels_size(words: &[u32], counts: BookCounts) -> usize
 {
     let relationships = counts.relationships;
     let mut size: usize = 0;
-    let mut i: usize = 0;
-    while i < relationships {
+    for i in 0..relationships {
         size += rel_size(words, counts, i);
-        i += 1;
     }
     size
 }

@@ -87,6 +87,7 @@ fn digits_from(n: u64, least: usize, above: u64) -> usize
     requires { (n ≤ 2 ^ 63) × Counting n least above }
     ensures { (result ≡ length (digits 20 n)) × (result ≤ 19) }
 {
+    // No `for`: where the powers pass the number is what is asked.
     let mut size = least;
     let mut power = above;
     while power <= n {

@@ -23,10 +23,8 @@ pub fn put_attrs(
     ensures { Puts out.old at (attrs_text book.now words.now front.now offset count) out.new result }
 {
     let mut next = at;
-    let mut i = 0;
-    while i < count {
+    for i in 0..count {
         next = put_attr(book, words, front, offset, i, out, next);
-        i += 1;
     }
     next
 }
@@ -69,10 +67,8 @@ pub fn put_labels(book: &[u8], words: &[u32], count: usize, out: &mut [u8], at: 
     ensures { Puts out.old at (labels_text book.now words.now count) out.new result }
 {
     let mut next = at;
-    let mut i = 0;
-    while i < count {
+    for i in 0..count {
         next = put_label(book, words, i, out, next);
-        i += 1;
     }
     next
 }

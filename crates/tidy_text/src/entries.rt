@@ -29,11 +29,8 @@ pub fn put_entries(
     }
     let slots = entry_order::entry_slots(words, owner);
     let mut next = at;
-    let mut left = declared;
-    while 0 < left {
-        let attribute = declared - left;
+    for attribute in 0..declared {
         next = put_entry(book, words, offset, attribute, slots[attribute], out, next);
-        left -= 1;
     }
     next
 }

@@ -26,10 +26,8 @@ pub fn put_owners(
     let tables = owners::tables(counts, owner);
     let count = tables.count;
     let mut next = at;
-    let mut i = 0;
-    while i < count {
+    for i in 0..count {
         next = put_owner(book, words, owner, tables, i, out, next);
-        i += 1;
     }
     next
 }

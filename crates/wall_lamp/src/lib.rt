@@ -4,18 +4,21 @@
 
 ghost use Rattle.model.specs.Demands.{LampCalled};
 
-use asking::{RowsAsked, ask};
-use model::LampShown;
+use asking::ask;
+use model::Refusal;
 
 // Answers whether a row may be had, or the refusal that the list gives. The working memory ends all ones.
-pub fn lamp(book: &[u8], rules: &[u8], query: &[u8], request: &[u8], work: &mut [u32]) -> LampShown
+pub fn lamp(
+    book: &[u8],
+    rules: &[u8],
+    query: &[u8],
+    request: &[u8],
+    work: &mut [u32],
+) -> Result<bool, Refusal>
     ensures { LampCalled book.now rules.now query.now request.now work.old
         work.new result }
 {
     let mut rows = [0u32; 0];
-    match ask(book, rules, query, request, &mut rows, work) {
-        RowsAsked::Found(_, _) => LampShown::No,
-        RowsAsked::Full => LampShown::Yes,
-        RowsAsked::Refused(refusal) => LampShown::Refused(refusal),
-    }
+    let found = ask(book, rules, query, request, &mut rows, work)?;
+    Ok(found.is_none())
 }

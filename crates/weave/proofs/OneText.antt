@@ -8,6 +8,7 @@ use native.Mathlib.Omega.{arith}
 use lib.ListN.{length, get_or, take, drop, length-append}
 use lib.Seq.{length-take-le}
 use lib.Dec.{T, eqb}
+use Rattle.std.specs.Prelude.{Some}
 use Rattle.model.specs.Bytes.{Bytes}
 use Rattle.model.specs.Choice.{pick}
 use Rattle.model.specs.Lists.{keep}
@@ -25,7 +26,6 @@ use Rattle.model.proofs.Places.{get_or_in, length_map}
 use Rattle.book_tables.proofs.ListedLaws.{length_listed}
 use Rattle.woven_tables.specs.declared.WovenCounts.{WovenCounts}
 use Rattle.woven_tables.specs.declared.vertices.Numbers.{Numbers}
-use Rattle.weave.specs.declared.PatternAdded.TheVariants.{Woven}
 use Rattle.woven_tables.specs.Tables.{text_of, NameInside, vertices_at, edges_at, clauses_at, woven_at, woven_words}
 use Rattle.weave.specs.OneMore.{under_names, more_vertices, one_more, ClauseWithin}
 use Rattle.model.specs.PlainData.{no_edge, no_clause, ConditionFits, PatternFits, PartsWithin}
@@ -275,7 +275,7 @@ module _ (q r : Bytes) (actors : List Bytes) (k base : ℕ) (p : PatternData) (o
     pub text_woven : (size : ℕ) → base + size ≤ length (text_of q r k) → PartsWithin size p → woven_words ≤ length new
         → c.edges + p.counts.edges ≤ 48 → c.exclusions + n ≤ 48 → c.requirements + (p.counts.clauses - n) ≤ 48
         → TextAdded q r actors k base p old new c
-        (Woven (record {
+        (Some (record {
           vertices = numbered.count;
           edges = c.edges + p.counts.edges;
           exclusions = c.exclusions

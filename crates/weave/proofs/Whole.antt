@@ -8,6 +8,7 @@ use mathlib.Core.Bool.{Bool, true, false}
 use native.Mathlib.Omega.{arith}
 use lib.ListN.{length, drop}
 use lib.Dec.{T}
+use Rattle.std.specs.Prelude.{None, Some}
 use Rattle.logic.specs.Tests.{passes→true}
 use Rattle.model.specs.Bytes.{Bytes}
 use Rattle.model.specs.Choice.{pick, Maybe, nothing, just}
@@ -25,7 +26,6 @@ use Rattle.model.proofs.Members.{◌∈◌, map_i}
 use Rattle.model.proofs.Places.{twice_i, twice_tail}
 use Rattle.book_tables.specs.Listed.{listed}
 use Rattle.woven_tables.specs.declared.WovenCounts.{WovenCounts}
-use Rattle.weave.specs.declared.PatternAdded.TheVariants.{Woven, Passed}
 use Rattle.woven_tables.specs.Tables.{text_of, vertices_at, edges_at, clauses_at, returns_at, woven_at, woven_words}
 use Rattle.weave.specs.OneMore.{one_more, Ranged}
 use Rattle.weave.specs.Adding.{no_counts, Kept, TextAdded}
@@ -64,11 +64,11 @@ module _ (b : Book) (q r : Bytes) (asked : List Asked) (a : Asked) (base : ℕ) 
   one_more_is = ap₂ (one_more (length asked) a.actors) pattern held ∙ sym (weave_one_more asked a sound)
 
   -- the words hold the woven pattern with it
-  pub text_held : (n : WovenCounts) → TextAdded q r a.actors (length asked) base p old new c (Woven n) → woven_at b q r new n ≡ weave (asked ++ (a ∷ []))
+  pub text_held : (n : WovenCounts) → TextAdded q r a.actors (length asked) base p old new c (Some n) → woven_at b q r new n ≡ weave (asked ++ (a ∷ []))
   text_held n added = added.1 b ∙ one_more_is
 
   -- a limit is passed, whatever texts follow: 12
-  pub text_passed : TextAdded q r a.actors (length asked) base p old new c Passed → (more : List Asked) → Each Sound (asked ++ (a ∷ more))
+  pub text_passed : TextAdded q r a.actors (length asked) base p old new c None → (more : List Asked) → Each Sound (asked ++ (a ∷ more))
       → (ids : List Identity) → woven_fault (weave (asked ++ (a ∷ more))) ids ≡ just 12
   unfolding woven_fault lowest
   text_passed added more All-sound ids =

@@ -1,5 +1,5 @@
 -- Weaving one text into the words: what is asked, and what stands there then.
-use Rattle.std.specs.Prelude.{ℕ, ◌+◌, ◌<◌, ◌≤◌, ◌≡◌, List, ◌++◌, map, length, get_or, take, drop, T, eqb}
+use Rattle.std.specs.Prelude.{ℕ, ◌+◌, ◌<◌, ◌≤◌, ◌≡◌, List, ◌++◌, map, length, get_or, take, drop, T, eqb, Option, None, Some}
 use Rattle.model.specs.Bytes.{Bytes}
 use Rattle.model.specs.Choice.{pick}
 use Rattle.model.specs.Lists.{keep}
@@ -8,8 +8,6 @@ use Rattle.model.specs.Weave.{is_excluded, woven_too_many}
 use Rattle.model.specs.Answers.{edge_in, pattern_in}
 use Rattle.model.specs.declared.Pattern.{Pattern}
 use Rattle.woven_tables.specs.declared.WovenCounts.{WovenCounts}
-use Rattle.weave.specs.declared.PatternAdded.{PatternAdded}
-use Rattle.weave.specs.declared.PatternAdded.TheVariants.{Woven, Passed}
 use Rattle.woven_tables.specs.Tables.{text_of, ActorsInside, VerticesInside, edges_at, clauses_at, returns_at, woven_at, woven_words}
 use Rattle.weave.specs.OneMore.{one_more}
 use Rattle.model.specs.PlainData.{PatternFits, PartsWithin}
@@ -46,11 +44,11 @@ pub record TextReady (query rules : Bytes) (words : List ℕ) (c : WovenCounts) 
   pub parts : PartsWithin size p
 
 -- the words hold the woven pattern with the text, or a limit is passed; b is whatever book the labels and attributes are numbered in
-abbrev pub TextAdded : Bytes → Bytes → List Bytes → ℕ → ℕ → Pattern → List ℕ → List ℕ → WovenCounts → PatternAdded → Type 0
-TextAdded query rules actors k base p old new c (Woven n) =
+abbrev pub TextAdded : Bytes → Bytes → List Bytes → ℕ → ℕ → Pattern → List ℕ → List ℕ → WovenCounts → Option WovenCounts → Type 0
+TextAdded query rules actors k base p old new c (Some n) =
     Kept query rules new n × ((b : Book) → woven_at b query rules new n
     ≡ one_more k actors (pattern_in b (drop base (text_of query rules k)) p) (woven_at b query rules old c))
-TextAdded query rules actors k base p old new c Passed =
+TextAdded query rules actors k base p old new c None =
     (b : Book) → T (woven_too_many (one_more k actors (pattern_in b (drop base (text_of query rules k)) p) (woven_at b query rules old c)))
 
 -- what is asked of a text whose vertices are woven: there is room for its edges and clauses

@@ -24,15 +24,13 @@ fn find_identity(
         (vertex_of_word query.now rules.now word) }
 {
     if word % VERTEX_KINDS == 1 {
-        let mut i = 0;
-        while i < count {
+        for i in 0..count {
             let identity = identities[i];
             let actor = identity.actor;
             let name = part_of(request, actor);
             if names::says(query, rules, word / VERTEX_KINDS, name) {
                 return identity.node as u32;
             }
-            i += 1;
         }
         return NO_NODE;
     }
@@ -55,12 +53,10 @@ pub fn give_identities(
         words.new n result }
 {
     let mut mask: u32 = 0;
-    let mut v = 0;
-    while v < n {
+    for v in 0..n {
         let node = find_identity(query, rules, request, identities, count, words[v]);
         words[IDENTITIES + v] = node;
         mask = marks::mark_if(mask, v, node != NO_NODE);
-        v += 1;
     }
     mask
 }

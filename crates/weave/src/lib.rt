@@ -17,14 +17,8 @@ mod identities;
 mod marks;
 mod ties;
 
-// What weaving one text more gives: the counts of the woven pattern, or that it passes a limit (12).
-#[derive(Clone, Copy)]
-pub enum PatternAdded {
-    Woven(WovenCounts),
-    Passed,
-}
-
-// Weaves the pattern of the kth text into the words. Text 0 is the query, the others are policies in the order of their categories;
+// Weaves the pattern of the kth text into the words, and answers the counts of the woven pattern, or none where it passes a limit
+// (12). Text 0 is the query, the others are policies in the order of their categories;
 // the names of a pattern stand in its text from a base on; actors are those of the text's own category, names in the rules.
 pub fn add_pattern(
     query: &[u8],
@@ -36,7 +30,7 @@ pub fn add_pattern(
     pattern: Pattern,
     words: &mut [u32],
     counts: WovenCounts,
-) -> PatternAdded
+) -> Option<WovenCounts>
     requires { TextReady query.now rules.now words.old counts actors.now actor_count k base pattern }
     ensures { TextAdded query.now rules.now (actors_at rules.now actors.now actor_count) k base pattern
         words.old words.new counts result }
@@ -56,7 +50,7 @@ pub fn add_pattern(
         counts.vertices,
     );
     if MAX_WOVEN_VERTICES < numbered.count {
-        return PatternAdded::Passed;
+        return None;
     }
     let clauses = pattern.clauses;
     let exclusions = woven_tables::clauses::count_exclusions(clauses, own.clauses);
@@ -64,17 +58,17 @@ pub fn add_pattern(
     let exclusion_sum = counts.exclusions + exclusions;
     let requirement_sum = counts.requirements + (own.clauses - exclusions);
     if MAX_WOVEN_EDGES < edge_sum {
-        return PatternAdded::Passed;
+        return None;
     }
     if MAX_WOVEN_EXCLUSIONS < exclusion_sum {
-        return PatternAdded::Passed;
+        return None;
     }
     if MAX_WOVEN_REQUIREMENTS < requirement_sum {
-        return PatternAdded::Passed;
+        return None;
     }
     let numbers = numbered.numbers;
     let returns = add_rest(k, base, pattern, numbers, words, counts);
-    PatternAdded::Woven(WovenCounts {
+    Some(WovenCounts {
         vertices: numbered.count,
         edges: edge_sum,
         exclusions: exclusion_sum,

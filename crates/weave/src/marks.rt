@@ -20,11 +20,8 @@ pub fn all_marked(marks: u32, n: usize) -> bool
     requires { n ≤ 24 }
     ensures { result ≡ all (bit marks) (below n) }
 {
-    let mut v = 0;
-    while v < n {
-        if bits::has(marks, v) {
-            v += 1;
-        } else {
+    for v in 0..n {
+        if !bits::has(marks, v) {
             return false;
         }
     }

@@ -13,14 +13,12 @@ fn step(words: &[u32], edges: usize, mask: u32) -> u32
     ensures { Stepped words.now edges mask result }
 {
     let mut next = mask;
-    let mut i = 0;
-    while i < edges {
+    for i in 0..edges {
         let word = words[EDGES + i] as usize;
         let from = word / FROM_UNIT % FROM_UNIT;
         let to = word % FROM_UNIT;
         next = marks::mark_if(next, from, bits::has(mask, to));
         next = marks::mark_if(next, to, bits::has(mask, from));
-        i += 1;
     }
     next
 }
@@ -31,14 +29,12 @@ pub fn tied(words: &[u32], vertices: usize, edges: usize, mask: u32) -> u32
     ensures { TiedBy words.now vertices edges mask result }
 {
     let mut marked = mask;
-    let mut round = 0;
-    while round < vertices {
+    for round in 0..vertices {
         let next = step(words, edges, marked);
         if next == marked {
             return marked;
         }
         marked = next;
-        round += 1;
     }
     marked
 }

@@ -1,10 +1,11 @@
 -- Laws of the clause table: the words of a relation, a value and a clause say it. Assumes nothing.
 use Prim.Native.Nat.{ℕ, ◌+◌, ◌*◌, ◌/◌, ◌%◌, ◌<◌}
-use mathlib.Core.Path.{◌≡◌, sym, ap, subst, ◌∙◌}
+use mathlib.Core.Path.{◌≡◌, refl, sym, ap, subst, ◌∙◌}
 use mathlib.Core.List.{List, []}
 use mathlib.Core.Bool.{Bool, true, false}
 use native.Mathlib.Omega.{arith}
 use lib.ListN.{get_or, drop}
+use Rattle.std.specs.Int.{from_bool}
 use Rattle.model.specs.Bytes.{Bytes}
 use Rattle.model.specs.Values.{int, str, bool}
 use lib.Dec.{eqb}
@@ -17,6 +18,9 @@ use Rattle.model.specs.declared.Requirement.{Requirement}
 use Rattle.model.specs.declared.Condition.{Condition}
 use Rattle.model.specs.declared.Condition.TheVariants.{Excluded, OfVertex, OfEdge}
 use Rattle.model.specs.declared.Value.{Value}
+use denote.Enum.Declared.{tag_of}
+use Rattle.model.specs.contracts.Relation.{the_type}
+use Rattle.model.specs.declared.Relation.TheVariants.{Equal, Differs, Less, AtMost, Greater, AtLeast}
 use Rattle.model.specs.declared.Value.TheVariants.{Number, Text, Truth}
 use Rattle.model.specs.PlainData.{ValueWithin, ConditionWithin}
 use Rattle.woven_tables.specs.Tables.{text_of, relation_at, value_at, clause_at}
@@ -25,9 +29,15 @@ use Rattle.woven_tables.specs.declared.clauses.ClauseWords.{ClauseWords}
 use Rattle.woven_tables.specs.ClauseSteps.{ValueSaid, RequirementSaid, renumbered_clause, ClauseSaid}
 use Rattle.woven_tables.proofs.NameLaws.{part_of_rest}
 
--- the words of a relation, by its number
-pub relation_said : (relation x : Relation) (n : ℕ) → relation ≡ x → relation_at n ≡ relation_of x → relation_at n ≡ relation_of relation
-relation_said relation x n e h = h ∙ ap relation_of (sym e)
+-- a relation's number, its place among the relations, tells it
+pub relation_numbered : (x : Relation) → (tag_of the_type x < 6) × (relation_at (tag_of the_type x) ≡ relation_of x)
+unfolding relation_at relation_of
+relation_numbered Equal = (omega arith, refl)
+relation_numbered Differs = (omega arith, refl)
+relation_numbered Less = (omega arith, refl)
+relation_numbered AtMost = (omega arith, refl)
+relation_numbered Greater = (omega arith, refl)
+relation_numbered AtLeast = (omega arith, refl)
 
 -- the words of a value, by its kind
 module _ (base : ℕ) (value : Value) where
@@ -46,13 +56,17 @@ module _ (base : ℕ) (value : Value) where
     inside = λ n w z. let f = subst (ValueWithin n) e w in omega arith;
   }
 
-  pub true_said : (t : Bool) → value ≡ Truth t → t ≡ true → ValueSaid base value (record { kind = 2; high = 0; low = 1 })
+  pub truth_said : (t : Bool) (n : ℕ) → value ≡ Truth t → n ≡ from_bool t → ValueSaid base value (record { kind = 2; high = 0; low = n })
   unfolding value_at value_of
-  true_said t e f = record { kind = omega arith; said = λ text. ap bool (sym f) ∙ ap (value_of (drop base text)) (sym e); inside = λ n w z. omega arith }
-
-  pub false_said : (t : Bool) → value ≡ Truth t → t ≡ false → ValueSaid base value (record { kind = 2; high = 0; low = 0 })
-  unfolding value_at value_of
-  false_said t e f = record { kind = omega arith; said = λ text. ap bool (sym f) ∙ ap (value_of (drop base text)) (sym e); inside = λ n w z. omega arith }
+  truth_said t n e f = record {
+    kind = omega arith;
+    said = λ text. ap bool (bool_word t n f) ∙ ap (value_of (drop base text)) (sym e);
+    inside = λ n w z. omega arith;
+  }
+    where
+      bool_word : (t : Bool) (n : ℕ) → n ≡ from_bool t → eqb n 1 ≡ t
+      bool_word true n f = rw f
+      bool_word false n f = rw f
 
 -- the attribute and the owner in a clause's first word
 attribute_digit : (top a low what : ℕ) → a < 32 → low < 128 → what ≡ top * 4096 + a * 128 + low → what / 128 % 32 ≡ a

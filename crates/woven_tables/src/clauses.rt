@@ -1,7 +1,6 @@
 // Weaving the exclusions and requirements of one text: each is kept, in the text's order, with woven numbers.
 ghost use Rattle.std.specs.Prelude.{◌≡◌, ◌+◌, ◌*◌, ◌<◌, ◌≤◌, length};
-ghost use Rattle.model.specs.Answers.{relation_of};
-ghost use Rattle.woven_tables.specs.Tables.{relation_at, woven_words};
+ghost use Rattle.woven_tables.specs.Tables.{woven_words};
 ghost use Rattle.model.specs.PlainData.{ValueFits, RequirementFits};
 ghost use Rattle.woven_tables.specs.ClauseSteps.{ValueSaid, RequirementSaid, ConditionReady, ClauseSaid, ClausesReady, ClausesAdded};
 ghost use Rattle.woven_tables.specs.ClauseSteps.{one_if_excluded, ExclusionsCounted};
@@ -9,7 +8,7 @@ ghost use Rattle.woven_tables.specs.ClauseSteps.{one_if_excluded, ExclusionsCoun
 use crate::{CLAUSE_WORDS, CLAUSES};
 use book_tables::values::HALF;
 use model::limits::{MAX_CONDITIONS, MAX_VERTICES};
-use model::{Clause, Condition, Relation, Requirement, Value};
+use model::{Clause, Condition, Requirement, Value};
 
 // The first word of a clause: kind, value's kind, relation, attribute, owner and text's number, each times its unit.
 pub const VALUE_UNIT: usize = 4;
@@ -45,21 +44,7 @@ struct ClauseWords {
     low: u32,
 }
 
-// The number of a relation.
-fn relation_number(relation: Relation) -> usize
-    ensures { (result < 6) × (relation_at result ≡ relation_of relation) }
-{
-    match relation {
-        Relation::Equal => 0,
-        Relation::Differs => 1,
-        Relation::Less => 2,
-        Relation::AtMost => 3,
-        Relation::Greater => 4,
-        Relation::AtLeast => 5,
-    }
-}
-
-// The words of a value; its text stands from a base on.
+// The words of a value; its text stands from a base on. No `From`: it takes the base, and asks that the value fits.
 fn value_words(base: usize, value: Value) -> ClauseValue
     requires { ValueFits base value }
     ensures { ValueSaid base value result }
@@ -78,12 +63,12 @@ fn value_words(base: usize, value: Value) -> ClauseValue
         Value::Truth(t) => ClauseValue {
             kind: 2,
             high: 0,
-            low: if t { 1 } else { 0 },
+            low: u32::from(t),
         },
     }
 }
 
-// The words of a requirement of the kth text, of a vertex or an edge by its woven number.
+// The words of a requirement of the kth text, of a vertex or an edge by its woven number; its relation is told by its place in the enum.
 fn requirement_words(
     k: usize,
     base: usize,
@@ -100,7 +85,7 @@ fn requirement_words(
     let what = k * TEXT_UNIT
         + owner * OWNER_UNIT
         + requirement.attribute * ATTRIBUTE_UNIT
-        + relation_number(relation) * RELATION_UNIT
+        + relation as usize * RELATION_UNIT
         + words.kind * VALUE_UNIT
         + kind;
     ClauseWords {
@@ -150,8 +135,7 @@ pub fn add_clauses(
     requires { ClausesReady base k clauses count numbers before woven × (woven_words ≤ length words.old) }
     ensures { ClausesAdded base k clauses count numbers before words.old words.new woven }
 {
-    let mut i = 0;
-    while i < count {
+    for i in 0..count {
         let c = clauses[i];
         let condition = c.condition;
         let said = clause_words(k, base, condition, numbers, before);
@@ -159,7 +143,6 @@ pub fn add_clauses(
         words[at] = said.what;
         words[at + 1] = said.high;
         words[at + 2] = said.low;
-        i += 1;
     }
 }
 
@@ -169,12 +152,10 @@ pub fn count_exclusions(clauses: [Clause; MAX_CONDITIONS], count: usize) -> usiz
     ensures { ExclusionsCounted clauses count result }
 {
     let mut n = 0;
-    let mut i = 0;
-    while i < count {
+    for i in 0..count {
         let c = clauses[i];
         let condition = c.condition;
         n += one_if_excluded(condition);
-        i += 1;
     }
     n
 }

@@ -33,8 +33,7 @@ pub fn add_edges(
     requires { EdgesReady base k edges count numbers woven × (woven_words ≤ length words.old) }
     ensures { EdgesAdded base k edges count numbers words.old words.new woven }
 {
-    let mut i = 0;
-    while i < count {
+    for i in 0..count {
         let e = edges[i];
         let name = e.name;
         let from = e.from;
@@ -42,6 +41,5 @@ pub fn add_edges(
         let at = woven + i;
         words[EDGES + at] = edge_word(e.label, numbers[from], numbers[to]);
         words[EDGE_NAMES + at] = names::name_word(k, base + name.start, name.length);
-        i += 1;
     }
 }

@@ -103,8 +103,7 @@ fn is_actor(query: &[u8], rules: &[u8], actors: &[u32], count: usize, word: u32)
     requires { (count ≤ length actors.now) × ActorsInside rules.now actors.now count × NameInside query.now rules.now word }
     ensures { result ≡ mem (name_of query.now rules.now word) (actors_at rules.now actors.now count) }
 {
-    let mut i = 0;
-    while i < count {
+    for i in 0..count {
         let w = actors[i] as usize;
         let actor = Part {
             start: w / NAME_LENGTHS,
@@ -113,7 +112,6 @@ fn is_actor(query: &[u8], rules: &[u8], actors: &[u32], count: usize, word: u32)
         if says(query, rules, word, part_of(rules, actor)) {
             return true;
         }
-        i += 1;
     }
     false
 }
@@ -145,12 +143,10 @@ pub fn find_vertex(query: &[u8], rules: &[u8], words: &[u32], count: usize, word
     ensures { result ≡ place_vertex (vertex_of_word query.now rules.now word)
         (vertices_at query.now rules.now words.now count) }
 {
-    let mut i = 0;
-    while i < count {
+    for i in 0..count {
         if same_vertex(query, rules, word, words[i]) {
             return i;
         }
-        i += 1;
     }
     count
 }

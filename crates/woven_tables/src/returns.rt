@@ -16,10 +16,8 @@ pub fn add_returns(
     requires { ReturnsReady returns count numbers × (woven_words ≤ length words.old) }
     ensures { ReturnsAdded returns count numbers words.old words.new }
 {
-    let mut i = 0;
-    while i < count {
+    for i in 0..count {
         let v = returns[i];
         words[RETURNS + i] = numbers[v] as u32;
-        i += 1;
     }
 }

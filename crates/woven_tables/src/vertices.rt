@@ -60,8 +60,7 @@ pub fn add_vertices(
 {
     let mut numbers = [0usize; MAX_VERTICES];
     let mut n = woven;
-    let mut i = 0;
-    while i < count {
+    for i in 0..count {
         let p = parts[i];
         let word = names::vertex_of(
             query,
@@ -78,7 +77,6 @@ pub fn add_vertices(
             return Numbers { numbers, count: n };
         }
         numbers[i] = placed.at;
-        i += 1;
     }
     Numbers { numbers, count: n }
 }

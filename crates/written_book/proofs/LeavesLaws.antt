@@ -7,6 +7,7 @@ use native.Mathlib.Omega.{arith}
 use lib.ListN.{length, length-replicate}
 use lib.Dec.{ltb}
 use borrow.Author.Tests.{lt-ltb, le-ltb, ltb-false}
+use Rattle.std.specs.Prelude.{Result, Ok, Err}
 use Rattle.model.specs.Bytes.{Bytes}
 use Rattle.model.specs.Choice.{pick}
 use Rattle.model.specs.Limits.{no_node}
@@ -15,13 +16,9 @@ use Rattle.model.specs.Book.{Book}
 use Rattle.model.specs.Service.{ones, with_work, onto, book_written, book_writer}
 use Rattle.model.specs.Answers.{refusal_of, writer_answer}
 use Rattle.model.specs.declared.Refusal.{Refusal as RefusalData}
-use Rattle.model.specs.declared.TextWritten.{TextWritten}
-use Rattle.model.specs.declared.TextWritten.TheVariants.{Length, Refused}
 use Rattle.book_tables.specs.declared.BookCounts.{BookCounts}
 use Rattle.book_tables.specs.View.{book_at}
 use Rattle.book_tables.specs.Fits.{Fits}
-use Rattle.book.specs.declared.BookLoad.{BookLoad}
-use Rattle.book.specs.declared.BookLoad.TheVariants as load
 use Rattle.book.specs.Loaded.{Loaded}
 use Rattle.fill.specs.Filled.{filled}
 use Rattle.fill.specs.FilledLaws.{filled_whole}
@@ -67,16 +64,16 @@ still_refused {A} {B} {C} work o f g x e = go (ltb work 16384) e
     go false q = rw q
 
 -- a book that was loaded, or refused
-pub loaded : (work : ℕ) (text : Bytes) (words : List ℕ) (r : BookLoad) (o : Outcome Book) (c : BookCounts) → r ≡ load.Loaded c
+pub loaded : (work : ℕ) (text : Bytes) (words : List ℕ) (r : Result BookCounts RefusalData) (o : Outcome Book) (c : BookCounts) → r ≡ Ok c
     → Loaded text words r (with_work work o) → (16384 ≤ work) × (o ≡ accepted (book_at text words c)) × Fits text words c
 loaded work text words r o c e l =
-    let h = subst (λ (x : BookLoad). Loaded text words x (with_work work o)) e l in
+    let h = subst (λ (x : Result BookCounts RefusalData). Loaded text words x (with_work work o)) e l in
     let (whole, is) = was_whole work o _ h.0 in
     (whole, is, h.1)
 
-pub load_refused : (work : ℕ) (text : Bytes) (words : List ℕ) (r : BookLoad) (o : Outcome Book) (x : RefusalData) → r ≡ load.Refused x
+pub load_refused : (work : ℕ) (text : Bytes) (words : List ℕ) (r : Result BookCounts RefusalData) (o : Outcome Book) (x : RefusalData) → r ≡ Err x
     → Loaded text words r (with_work work o) → (with_work work o ≡ refused (refusal_of x)) × (words ≡ ones (length words))
-load_refused work text words r o x e l = subst (λ (y : BookLoad). Loaded text words y (with_work work o)) e l
+load_refused work text words r o x e l = subst (λ (y : Result BookCounts RefusalData). Loaded text words y (with_work work o)) e l
 
 written_refused : (work room : ℕ) (o : Outcome Book) (f : Book → Outcome Bytes) (x : Refusal) → with_work work o ≡ refused x
     → book_written work room (on_accept o f) ≡ refused x
@@ -85,7 +82,7 @@ written_refused work room o f x e = still_refused work o f (λ t. pick (ltb room
 
 -- the first refusal, of the memory or of the book, is the service's
 pub first_refused : (work : ℕ) (out : Bytes) (o : Outcome Book) (f : Book → Outcome Bytes) (x : RefusalData) → with_work work o ≡ refused (refusal_of x)
-    → (writer_answer (Refused x) ≡ (book_writer work out (on_accept o f)).answer) × (out ≡ (book_writer work out (on_accept o f)).text)
+    → (writer_answer (Err x) ≡ (book_writer work out (on_accept o f)).answer) × (out ≡ (book_writer work out (on_accept o f)).text)
 unfolding book_writer writer_answer onto on_accept
 first_refused work out o f x e = let r = written_refused work (length out) o f (refusal_of x) e in (rw r, rw r)
 
@@ -102,24 +99,24 @@ all_ones words words' e =
 
 module _ (o : Outcome Bytes) (out : Bytes) where
   -- with a whole memory its length does not matter
-  pub whole_memory_law : (work : ℕ) (out' : Bytes) (r : TextWritten) → 16384 ≤ work → Leaves o out out' r
+  pub whole_memory_law : (work : ℕ) (out' : Bytes) (r : Result ℕ RefusalData) → 16384 ≤ work → Leaves o out out' r
       → (writer_answer r ≡ (book_writer work out o).answer) × (out' ≡ (book_writer work out o).text)
   unfolding book_writer book_written with_work
   whole_memory_law work out' r h l = (rw (le-ltb work 16384 h) l.answer, rw (le-ltb work 16384 h) l.text)
 
   -- a refusal that the texts give
-  pub texts_refused : (x : RefusalData) → o ≡ refused (refusal_of x) → Leaves o out out (Refused x)
+  pub texts_refused : (x : RefusalData) → o ≡ refused (refusal_of x) → Leaves o out out (Err x)
   unfolding book_writer book_written with_work writer_answer on_accept onto
   texts_refused x e = record { answer = rw e; text = rw e }
 
   module _ (t : Bytes) (is : o ≡ accepted t) (size : ℕ) (counted : size ≡ length t) where
     -- 14
-    pub no_room : length out < size → Leaves o out out (Refused (told 14 1 0))
+    pub no_room : length out < size → Leaves o out out (Err (told 14 1 0))
     unfolding book_writer book_written with_work writer_answer refusal_of refusal on_accept onto
     no_room h = let l = lt-ltb (length out) (length t) (omega (arith, h, counted)) in record { answer = rw (is, l); text = rw (is, l) }
 
     -- the book
-    pub book_written_law : (out' : Bytes) (n : ℕ) → size ≤ last_place → size ≤ length out → Puts out 0 t out' n → Leaves o out out' (Length size)
+    pub book_written_law : (out' : Bytes) (n : ℕ) → size ≤ last_place → size ≤ length out → Puts out 0 t out' n → Leaves o out out' (Ok size)
     unfolding book_writer book_written with_work writer_answer on_accept onto
     book_written_law out' n small h p =
         let l = le-ltb (length out) (length t) (omega (arith, h, counted)) in

@@ -3,17 +3,17 @@ use mathlib.Core.Path.{sym, ◌∙◌}
 use Rattle.book_steps.proofs.OwnerLaws.{node_refused, node_fine, owner_room}
 use Rattle.book_steps.proofs.add_node.Goals as goal
 
-pub returns-then-fault-ne0 : goal.returns-then-fault-ne0
-returns-then-fault-ne0 c =
+pub returns-in-Some : goal.returns-in-Some
+returns-in-Some c =
     λ es after.
     let a = c.args in
     node_refused a.text.now a.words.now a.counts c.requires.1 a.read es a.rule a.name c.requires.0 after _
     (rw c.part_of.ensures at c.find_alike.ensures) _
-    (rw c.is_full-full.ensures at c.owner_fault-fault.ensures) c.if-fault-ne0.true
+    (sym c.in-Some.is ∙ rw c.is_full-full.ensures at c.owner_fault.ensures)
 
 pub store_owner-requires : goal.store_owner-requires
 store_owner-requires c =
-    let r = owner_room _ _ _ c.args.counts.nodes 256 _ (sym c.owner_fault-fault.ensures ∙ c.if-fault-ne0.false)
+    let r = owner_room _ _ _ c.args.counts.nodes 256 _ (sym c.owner_fault.ensures ∙ c.in_default.is)
     c.is_full-full.ensures in
     (c.requires.1.room, c.requires.1.within, omega (arith, r.0), c.slot_of-slot.ensures.1, r.1)
 
@@ -21,7 +21,7 @@ pub returns : goal.returns
 returns c =
     λ es after.
     let a = c.args in
-    let fault = rw c.is_full-full.ensures at c.owner_fault-fault.ensures in
+    let fault = rw c.is_full-full.ensures at c.owner_fault.ensures in
     rw (
       c.store_owner.ensures.stored,
       c.store_owner.ensures.counted,
@@ -29,4 +29,4 @@ returns c =
       c.name_word-word.ensures,
     )
     (node_fine a.text.now a.words.now a.counts c.requires.1 a.read es a.rule a.name c.requires.0 after _
-    (rw c.part_of.ensures at c.find_alike.ensures) (sym fault ∙ c.if-fault-ne0.false))
+    (rw c.part_of.ensures at c.find_alike.ensures) (sym fault ∙ c.in_default.is))

@@ -33,8 +33,8 @@ pub is_full-full-requires : goal.is_full-full-requires
 is_full-full-requires c =
     (c.requires.3.within.entries, c.requires.4)
 
-pub returns-then-fault-ne0 : goal.returns-then-fault-ne0
-returns-then-fault-ne0 c =
+pub returns-in-Some : goal.returns-in-Some
+returns-in-Some c =
     λ rule es after.
     let a = c.args in
     let l = rw c.part_of.ensures at c.find_label-l.ensures in
@@ -42,7 +42,7 @@ returns-then-fault-ne0 c =
     let y = rw c.part_of-3.ensures at c.find_node-y.ensures in
     rel_refused rule a.text.now a.words.now a.counts c.requires.3 a.read es _ _ _ _ _ _ l x y c.if-counts-l.false c.if-counts-x.false
     c.if-counts-y.false after _ c.is_related-there.ensures _
-    (rw c.is_full-full.ensures at c.owner_fault-fault.ensures) c.if-fault-ne0.true
+    (sym c.in-Some.is ∙ rw c.is_full-full.ensures at c.owner_fault.ensures)
 
 pub overflow_mul-word : goal.overflow_mul-word
 overflow_mul-word c =
@@ -66,7 +66,7 @@ overflow_cast-word c =
 
 pub store_owner-requires : goal.store_owner-requires
 store_owner-requires c =
-    let r = owner_room _ _ _ _ _ _ (sym c.owner_fault-fault.ensures ∙ c.if-fault-ne0.false) c.is_full-full.ensures in
+    let r = owner_room _ _ _ _ _ _ (sym c.owner_fault.ensures ∙ c.in_default.is) c.is_full-full.ensures in
     (c.requires.3.room, c.requires.3.within, r.0, omega (arith, c.if-counts-x.false, c.requires.3.within), r.1)
 
 pub returns : goal.returns
@@ -76,7 +76,7 @@ returns c =
     let l = rw c.part_of.ensures at c.find_label-l.ensures in
     let x = rw c.part_of-2.ensures at c.find_node-x.ensures in
     let y = rw c.part_of-3.ensures at c.find_node-y.ensures in
-    let fault = rw c.is_full-full.ensures at c.owner_fault-fault.ensures in
+    let fault = rw c.is_full-full.ensures at c.owner_fault.ensures in
     rw (c.store_owner.ensures.stored, c.store_owner.ensures.counted)
     (rel_fine rule a.text.now a.words.now a.counts c.requires.3 a.read es _ _ _ _ _ _ l x y c.if-counts-l.false c.if-counts-x.false
-    c.if-counts-y.false after _ c.is_related-there.ensures (sym fault ∙ c.if-fault-ne0.false))
+    c.if-counts-y.false after _ c.is_related-there.ensures (sym fault ∙ c.in_default.is))

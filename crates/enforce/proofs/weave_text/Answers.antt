@@ -5,7 +5,6 @@ use native.Mathlib.Omega.{arith}
 use lib.ListN.{length-take, length-drop}
 use Rattle.weave.specs.Adding.{TextAdded}
 use Rattle.enforce.proofs.HeldLaws.{own_actors, actors_inside}
-use borrow.Author.Rules.{rules}
 use Rattle.enforce.proofs.weave_text.Goals as goal
 
 pub overflow_cast-actor_count : goal.overflow_cast-actor_count

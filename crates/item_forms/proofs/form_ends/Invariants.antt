@@ -1,10 +1,8 @@
 -- `item_forms::form_ends` meets its contract. The loop's invariant: what is left to close ends the form as the whole does.
 use Rattle.item_forms.specs.Ends.{ends_after}
+use Prim.Native.Nat.{◌-◌}
 use mathlib.Core.Path.{◌≡◌}
 use Rattle.item_forms.proofs.form_ends.Given as goal
 
-abbrev pub invariant-loop-left : goal.invariant-loop-left
-invariant-loop-left l = ends_after l.left l.s l.at ≡ ends_after l.closes l.s l.from
-
-abbrev pub decreases-loop-left : goal.decreases-loop-left
-decreases-loop-left l = l.left
+abbrev pub invariant-loop : goal.invariant-loop
+invariant-loop l = ends_after (l.closes - l.counter) l.s l.at ≡ ends_after l.closes l.s l.from

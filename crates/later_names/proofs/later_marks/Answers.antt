@@ -1,5 +1,4 @@
 -- `later_names::later_marks` meets its contract. The loop's invariant: the marks of the nodes before it are set, and no others.
-use Prim.Native.Nat.{◌-◌}
 use native.Mathlib.Omega.{arith}
 use Rattle.later_names.proofs.MarkLaws.{marks_none, marks_more, marks_all, names_counted}
 use Rattle.later_names.proofs.later_marks.Goals as goal

@@ -1,6 +1,6 @@
 -- `later_names::new_names` meets its contract. The loop's invariant: the later names of the nodes before it have their new ones, and the size is the length
 -- of the text with them.
-use Prim.Native.Nat.{◌+◌, ◌-◌, ◌*◌}
+use Prim.Native.Nat.{◌+◌, ◌*◌}
 use mathlib.Core.Path.{ap}
 use native.Mathlib.Omega.{arith}
 use Rattle.later_names.proofs.EndLaws.{ends_small}

@@ -6,8 +6,5 @@ use Rattle.putting.specs.Putting.{Puts}
 use Rattle.list_lines.specs.Printing.{names_text}
 use Rattle.list_lines.proofs.put_names.Given as goal
 
-abbrev pub invariant-loop-i : goal.invariant-loop-i
-invariant-loop-i l = (l.i ≤ length l.row) × Puts l.initial.out l.at (names_text (node_names (book_at l.book l.words l.counts)) l.row l.i) l.out l.next
-
-abbrev pub decreases-loop-i : goal.decreases-loop-i
-decreases-loop-i l = length l.row - l.i
+abbrev pub invariant-loop-node : goal.invariant-loop-node
+invariant-loop-node l = (l.node-index ≤ length l.row) × Puts l.initial.out l.at (names_text (node_names (book_at l.book l.words l.counts)) l.row l.node-index) l.out l.next

@@ -32,9 +32,6 @@ slice_bounds-put_row-end c = let h : c.loop-i.i < c.args.count = omega arith in 
 pub put_row-next-requires : goal.put_row-next-requires
 put_row-next-requires c = c.requires.0
 
-pub loop-i-smaller : goal.loop-i-smaller
-loop-i-smaller c = omega arith
-
 pub loop-i-preserved : goal.loop-i-preserved
 loop-i-preserved c =
     let l = c.loop-i in

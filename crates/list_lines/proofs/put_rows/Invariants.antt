@@ -13,6 +13,3 @@ use Rattle.list_lines.proofs.put_rows.Given as goal
 abbrev pub invariant-loop-i : goal.invariant-loop-i
 invariant-loop-i l =
     (l.i ≤ l.count) × (l.from ≡ l.i * l.width) × Puts l.initial.out l.at (joined (row_text (node_names (book_at l.book l.words l.counts))) (take l.i (rows_in l.width l.count l.rows))) l.out l.next
-
-abbrev pub decreases-loop-i : goal.decreases-loop-i
-decreases-loop-i l = l.count - l.i

@@ -1,10 +1,11 @@
--- `names_met::is_listed` meets its contract. The loop's invariant: no name of the slot before the entry is this one. Assumes nothing.
-use Rattle.names_met.proofs.TableLaws.{names_first, names_inside, names_fall, names_next, name_found, names_over}
+-- `names_met::is_listed` meets its contract. The loop's invariant: no name that the walk has passed is this one. Assumes nothing.
+use Rattle.names_met.proofs.TableLaws.{names_first, names_fall, names_inside, names_next, name_found, names_over}
 use Rattle.chains.proofs.SlotLaws.{slot_small}
+use Rattle.chains.proofs.WalkLaws.{begins_falling, begins_on, still_falling, stands_behind, still_on}
 use Rattle.book_tables.specs.View.{word_at}
 use Rattle.book_tables.proofs.NameLaws.{name_slice}
 use Rattle.model.specs.Bytes.{same}
-use Prim.Native.Nat.{◌+◌, ◌-◌}
+use Prim.Native.Nat.{◌+◌}
 use mathlib.Core.Path.{ap, ◌∙◌}
 use native.Mathlib.Omega.{arith}
 use Rattle.names_met.proofs.is_listed.Goals as goal
@@ -12,75 +13,73 @@ use Rattle.names_met.proofs.is_listed.Goals as goal
 pub words_from-words-requires : goal.words_from-words-requires
 words_from-words-requires c = omega (arith, c.requires.room)
 
-pub first-entry-requires : goal.first-entry-requires
-first-entry-requires c = omega (arith, c.requires.room, c.slot.ensures, slot_small c.args.name.now)
+pub numbers-k-items-requires : goal.numbers-k-items-requires
+numbers-k-items-requires c =
+    let a = c.args in (
+      omega (arith, c.requires.room, c.slot.ensures, slot_small a.name.now),
+      names_fall a.s.now a.table.now a.n c.requires a.name.now _ c.slot.ensures,
+    )
 
-pub loop-entry-init : goal.loop-entry-init
-loop-entry-init c =
-    names_first c.args.s.now c.args.table.now c.args.n c.requires c.args.name.now _ _ c.slot.ensures c.first-entry.ensures
+pub loop-k-init : goal.loop-k-init
+loop-k-init c =
+    let a = c.args in
+    let o = c.numbers-k-items.ensures in
+    rw c.into_iter-k-iterator.ensures.into_iter_gives (
+      begins_falling _ _ _ _ o (names_fall a.s.now a.table.now a.n c.requires a.name.now _ c.slot.ensures),
+      tt,
+      begins_on _ _ _ _ o,
+      names_first a.s.now a.table.now a.n c.requires a.name.now _ _ c.slot.ensures o.stands,
+    )
 
 pub overflow_add-word : goal.overflow_add-word
 overflow_add-word c =
-    let l = c.loop-entry in
-    let i = names_inside c.args.s.now c.args.table.now c.args.n c.requires c.args.name.now l.entry c.loop-entry-test.true l.invariant in
+    let i = names_inside c.args.s.now c.args.table.now c.args.n c.requires c.args.name.now c.in-Some.k (rw c.in-Some.ensures.steps.0 at c.loop-k.invariant.3) in
     omega (arith, c.requires.room, c.words_from-words.ensures)
 
 pub offset_bounds-table-words : goal.offset_bounds-table-words
 offset_bounds-table-words c =
-    let l = c.loop-entry in
-    let i = names_inside c.args.s.now c.args.table.now c.args.n c.requires c.args.name.now l.entry c.loop-entry-test.true l.invariant in
+    let i = names_inside c.args.s.now c.args.table.now c.args.n c.requires c.args.name.now c.in-Some.k (rw c.in-Some.ensures.steps.0 at c.loop-k.invariant.3) in
     omega (arith, c.requires.room, c.words_from-words.ensures)
 
 pub bounds-table-words : goal.bounds-table-words
 bounds-table-words c =
-    let l = c.loop-entry in
-    let i = names_inside c.args.s.now c.args.table.now c.args.n c.requires c.args.name.now l.entry c.loop-entry-test.true l.invariant in
+    let i = names_inside c.args.s.now c.args.table.now c.args.n c.requires c.args.name.now c.in-Some.k (rw c.in-Some.ensures.steps.0 at c.loop-k.invariant.3) in
     omega (arith, c.requires.room, c.words_from-words.ensures)
 
 pub overflow_cast-word : goal.overflow_cast-word
-overflow_cast-word c =
-    omega (arith, c.type_inv.table (c.words_from-words.result + (c.loop-entry.entry - 1)))
+overflow_cast-word c = omega (arith, c.type_inv.table (c.words_from-words.result + c.in-Some.k))
 
 pub overflow_add-end : goal.overflow_add-end
-overflow_add-end c = omega (arith, c.type_inv.table (c.words_from-words.result + (c.loop-entry.entry - 1)))
+overflow_add-end c = omega (arith, c.type_inv.table (c.words_from-words.result + c.in-Some.k))
 
 pub slice_bounds-same_bytes-end : goal.slice_bounds-same_bytes-end
 slice_bounds-same_bytes-end c =
-    let l = c.loop-entry in
-    let i = names_inside c.args.s.now c.args.table.now c.args.n c.requires c.args.name.now l.entry c.loop-entry-test.true l.invariant in
-    omega (arith, c.requires.inside (l.entry - 1) i, ap (λ p. word_at c.args.table.now (p + (l.entry - 1))) c.words_from-words.ensures)
+    let i = names_inside c.args.s.now c.args.table.now c.args.n c.requires c.args.name.now c.in-Some.k (rw c.in-Some.ensures.steps.0 at c.loop-k.invariant.3) in
+    omega (arith, c.requires.inside c.in-Some.k i, ap (λ p. word_at c.args.table.now (p + c.in-Some.k)) c.words_from-words.ensures)
 
 pub returns-then-same_bytes : goal.returns-then-same_bytes
 returns-then-same_bytes c =
-    let l = c.loop-entry in
-    name_found c.args.s.now c.args.table.now c.args.n c.requires c.args.name.now l.entry c.loop-entry-test.true l.invariant _
+    let a = c.args in
+    name_found a.s.now a.table.now a.n c.requires a.name.now c.in-Some.k (rw c.in-Some.ensures.steps.0 at c.loop-k.invariant.3) _
     c.words_from-words.ensures _
-    (c.same_bytes.ensures ∙ ap (same c.args.name.now)
-    (name_slice c.args.s.now c.args.table.now c.words_from-words.result (l.entry - 1)))
+    (c.same_bytes.ensures ∙ ap (same a.name.now) (name_slice a.s.now a.table.now c.words_from-words.result c.in-Some.k))
     c.if-same_bytes.true
 
-pub next-entry-requires : goal.next-entry-requires
-next-entry-requires c =
-    let l = c.loop-entry in
-    let i = names_inside c.args.s.now c.args.table.now c.args.n c.requires c.args.name.now l.entry c.loop-entry-test.true
-    l.invariant in
-    omega (arith, c.requires.room)
-
-pub loop-entry-smaller : goal.loop-entry-smaller
-loop-entry-smaller c =
-    let l = c.loop-entry in
-    names_fall c.args.s.now c.args.table.now c.args.n c.requires c.args.name.now l.entry c.loop-entry-test.true l.invariant _
-    c.next-entry.ensures
-
-pub loop-entry-preserved : goal.loop-entry-preserved
-loop-entry-preserved c =
-    let l = c.loop-entry in
-    names_next c.args.s.now c.args.table.now c.args.n c.requires c.args.name.now l.entry c.loop-entry-test.true l.invariant _
-    c.words_from-words.ensures _
-    (c.same_bytes.ensures ∙ ap (same c.args.name.now)
-    (name_slice c.args.s.now c.args.table.now c.words_from-words.result (l.entry - 1)))
-    c.if-same_bytes.false _ c.next-entry.ensures
+pub loop-k-preserved : goal.loop-k-preserved
+loop-k-preserved c =
+    let a = c.args in
+    let s = c.in-Some.ensures.steps in
+    let l = c.loop-k in (
+      still_falling a.table.now 256 c.in-Some.k l.k-iterator c.next.new.self s l.invariant.0,
+      tt,
+      still_on a.table.now 256 c.in-Some.k l.k-iterator c.next.new.self s l.invariant.2,
+      names_next a.s.now a.table.now a.n c.requires a.name.now c.in-Some.k (rw s.0 at l.invariant.3) _
+          c.words_from-words.ensures _
+          (c.same_bytes.ensures ∙ ap (same a.name.now) (name_slice a.s.now a.table.now c.words_from-words.result c.in-Some.k))
+          c.if-same_bytes.false _ (stands_behind a.table.now 256 c.in-Some.k l.k-iterator c.next.new.self s l.invariant.2),
+    )
 
 pub returns : goal.returns
 returns c =
-    names_over c.args.s.now c.args.table.now c.args.n c.requires c.args.name.now c.loop-entry.entry (omega arith) c.loop-entry.invariant
+    names_over c.args.s.now c.args.table.now c.args.n c.requires c.args.name.now c.loop-k.k-iterator.entry
+    c.in-None.ensures.steps.0 c.loop-k.invariant.3

@@ -9,9 +9,6 @@ use Rattle.node_names.proofs.bytes_of.Goals as goal
 pub loop-k-init : goal.loop-k-init
 loop-k-init c = put_start _ _ _ (length-replicate {A = ℕ} 6400 0)
 
-pub loop-k-smaller : goal.loop-k-smaller
-loop-k-smaller c = omega arith
-
 pub loop-k-preserved : goal.loop-k-preserved
 loop-k-preserved c = put_step _ _ _ _ _ c.loop-k-test.true c.loop-k.invariant c.byte_of.ensures
 

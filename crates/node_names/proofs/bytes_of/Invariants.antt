@@ -8,6 +8,3 @@ use Rattle.node_names.proofs.bytes_of.Given as goal
 
 abbrev pub invariant-loop-k : goal.invariant-loop-k
 invariant-loop-k l = PutSoFar (name_byte (node_names (book_at l.book l.words l.counts))) 6400 l.bytes l.k
-
-abbrev pub decreases-loop-k : goal.decreases-loop-k
-decreases-loop-k l = 6400 - l.k

@@ -7,18 +7,18 @@ use Rattle.node_names.proofs.NameLaws.{left_loaded, left_refused}
 use borrow.Author.Rules.{rules}
 use Rattle.node_names.proofs.node_names.Goals as goal
 
+pub returns-in-Err : goal.returns-in-Err
+returns-in-Err c =
+    let a = c.args in
+    let p = c.prepare-ready.ensures in
+    let e = c.in-Err.is in record { answer = book_refused _ _ _ _ _ _ _ _ p _ e; names = c.no_bytes.ensures ∙ left_refused _ a.book.now _ (book_not_there _ _ _ _ _ _ _ _ p _ e); cleared = cleared_all a.work.now _ _ c.clear.ensures (search rules) }
+
 pub bytes_of-requires : goal.bytes_of-requires
 bytes_of-requires c =
-    book_fits _ _ _ _ _ _ _ _ c.prepare-ready.ensures c.in-Accepted.is
+    book_fits _ _ _ _ _ _ _ _ c.prepare-ready.ensures c.in_default.is
 
-pub returns-in-Accepted : goal.returns-in-Accepted
-returns-in-Accepted c =
+pub returns : goal.returns
+returns c =
     let a = c.args in
     let p = c.prepare-ready.ensures in
-    let e = c.in-Accepted.is in record { answer = book_counted _ _ _ _ _ _ _ _ p e; names = c.bytes_of.ensures ∙ left_loaded _ a.book.now _ (book_there _ _ _ _ _ _ _ _ p e); cleared = cleared_all a.work.now _ _ c.clear.ensures (omega (arith, c.work-1.given)) }
-
-pub returns-in-Refused : goal.returns-in-Refused
-returns-in-Refused c =
-    let a = c.args in
-    let p = c.prepare-ready.ensures in
-    let e = c.in-Refused.is in record { answer = book_refused _ _ _ _ _ _ _ _ p _ e; names = c.no_bytes.ensures ∙ left_refused _ a.book.now _ (book_not_there _ _ _ _ _ _ _ _ p _ e); cleared = cleared_all a.work.now _ _ c.clear-in-Refused.ensures (search rules) }
+    let e = c.in_default.is in record { answer = book_counted _ _ _ _ _ _ _ _ p e; names = c.bytes_of.ensures ∙ left_loaded _ a.book.now _ (book_there _ _ _ _ _ _ _ _ p e); cleared = cleared_all a.work.now _ _ c.clear-2.ensures (omega arith) }

@@ -2,12 +2,12 @@
 use Rattle.prepare.proofs.StepLaws.{query_refused, request_read_law}
 use Rattle.prepare.proofs.after_rules.Goals as goal
 
-pub returns-in-Refused : goal.returns-in-Refused
-returns-in-Refused c =
-    let q = c.query-verdict in
-    query_refused _ _ _ _ _ _ _ _ _ q.result q.ensures _ c.in-Refused.is _ c.refused.ensures
+pub returns-in-Err : goal.returns-in-Err
+returns-in-Err c =
+    let q = c.query in
+    query_refused _ _ _ _ _ _ _ _ _ q.result q.ensures _ c.in-Err.is _ c.refused.ensures
 
 pub returns : goal.returns
 returns c =
-    let q = c.query-verdict in
+    let q = c.query in
     request_read_law _ _ _ _ _ _ _ _ _ c.requires q.result q.ensures c.in_default.is _ c.request-request.ensures

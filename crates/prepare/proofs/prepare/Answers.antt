@@ -1,6 +1,5 @@
 -- 15, or the book is refused, or what the other texts give.
 use Rattle.prepare.proofs.StepLaws.{memory_short, book_ready, book_read, book_refused}
-use borrow.Author.Rules.{rules}
 use Rattle.prepare.proofs.prepare.Goals as goal
 
 pub returns-then-work-lt-WORK_WORDS : goal.returns-then-work-lt-WORK_WORDS
@@ -11,14 +10,14 @@ after_book-requires c =
     let a = c.args in
     let l = c.load in
     book_ready a.needs a.book.now a.rules.now a.query.now a.request.now _ a.table.now _
-    c.if-work-lt-WORK_WORDS.false l.result l.ensures _ c.in-Loaded.is
+    c.if-work-lt-WORK_WORDS.false l.result l.ensures _ c.in-Ok.is
 
-pub returns-in-Loaded : goal.returns-in-Loaded
-returns-in-Loaded c =
+pub returns-in-Ok : goal.returns-in-Ok
+returns-in-Ok c =
     let l = c.load in
-    book_read _ _ _ _ _ _ _ _ c.if-work-lt-WORK_WORDS.false l.result l.ensures _ c.in-Loaded.is _ c.after_book.ensures
+    book_read _ _ _ _ _ _ _ _ c.if-work-lt-WORK_WORDS.false l.result l.ensures _ c.in-Ok.is _ c.after_book.ensures
 
-pub returns-in-Refused : goal.returns-in-Refused
-returns-in-Refused c =
+pub returns-in-Err : goal.returns-in-Err
+returns-in-Err c =
     let l = c.load in
-    book_refused _ _ _ _ _ _ _ _ c.if-work-lt-WORK_WORDS.false l.result l.ensures _ c.in-Refused.is _ c.refused-in-Refused.ensures
+    book_refused _ _ _ _ _ _ _ _ c.if-work-lt-WORK_WORDS.false l.result l.ensures _ c.in-Err.is _ c.refused-in-Err.ensures

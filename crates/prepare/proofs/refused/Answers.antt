@@ -1,5 +1,4 @@
 -- A refusal beside no counts and no request.
-use borrow.Author.Rules.{rules}
 use Rattle.prepare.proofs.refused.Goals as goal
 
 pub returns : goal.returns

@@ -7,5 +7,5 @@ pub print_front-requires : goal.print_front-requires
 print_front-requires g c =
     let written = c.write_query in
     let long : length written.new.text ≡ 2048 = omega arith in
-    let short : c.in-Length.length ≤ 2048 = written_inside _ _ _ _ _ written.result _ c.in-Length.is written.ensures.answer in
+    let short : c.in-Ok.length ≤ 2048 = written_inside _ _ _ _ _ written.result _ c.in-Ok.is written.ensures.answer in
     omega arith

@@ -4,30 +4,29 @@ use native.Mathlib.Omega.{arith}
 use lib.ListN.{length}
 use Rattle.list_lines.proofs.AnswerLaws.{list_shown}
 use Rattle.printed.proofs.PrintsLaws.{list_refusal_printed, rows_printed}
-use borrow.Author.Rules.{rules}
 use Rattle.printed.proofs.from_book.Goals as goal
 
-pub returns-in-Refused : goal.returns-in-Refused
-returns-in-Refused c =
+pub returns-in-Err : goal.returns-in-Err
+returns-in-Err c =
     let a = c.args in
     let l = c.list in
-    list_refusal_printed a.book.now a.rules.now a.query.now a.request.now l.result _ c.in-Refused.is
+    list_refusal_printed a.book.now a.rules.now a.query.now a.request.now l.result _ c.in-Err.is
     l.ensures.answer c.put_refusal.ensures
 
 pub put_list-requires : goal.put_list-requires
 put_list-requires c =
     let a = c.args in
     let l = c.list in
-    let shown = list_shown a.book.now a.rules.now a.query.now a.request.now l.result _ _ c.in-Count.is
+    let shown = list_shown a.book.now a.rules.now a.query.now a.request.now l.result _ c.in-Ok.is
     l.ensures.answer _ l.ensures.rows_left _ c.requires.1 in
     let long : length l.new.rows ≡ 16384 = l.auto.rows in
     (c.requires.0, omega (arith, shown.fits))
 
-pub returns-in-Count : goal.returns-in-Count
-returns-in-Count c =
+pub returns-in-Ok : goal.returns-in-Ok
+returns-in-Ok c =
     let a = c.args in
     let l = c.list in
     rows_printed a.book.now a.rules.now a.query.now a.request.now a.words.now a.counts _ _ _ l.auto.rows
-    (list_shown a.book.now a.rules.now a.query.now a.request.now l.result _ _ c.in-Count.is l.ensures.answer _
+    (list_shown a.book.now a.rules.now a.query.now a.request.now l.result _ c.in-Ok.is l.ensures.answer _
     l.ensures.rows_left _ c.requires.1)
     c.put_list.ensures

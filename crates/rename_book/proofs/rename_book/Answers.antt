@@ -7,22 +7,22 @@ use Rattle.rename_book.proofs.RenameLaws.{loaded_exactly, refused_first}
 use borrow.Author.Rules.{rules}
 use Rattle.rename_book.proofs.rename_book.Goals as goal
 
-pub returns-in-Refused : goal.returns-in-Refused
-returns-in-Refused c =
+pub returns-in-Err : goal.returns-in-Err
+returns-in-Err c =
     let a = c.args in
-    let q = load_refused _ a.book.now _ c.load_whole.result _ _ c.in-Refused.is c.load_whole.ensures in
+    let q = load_refused _ a.book.now _ c.load_whole.result _ _ c.in-Err.is c.load_whole.ensures in
     let h = refused_first _ a.book.now a.text.now _ q.0 in
     record { answer = h.0; text = h.1; cleared = q.1 ∙ ap ones (search rules) }
 
 pub write_renamed-written-requires : goal.write_renamed-written-requires
 write_renamed-written-requires c =
     let a = c.args in
-    loaded_exactly _ a.book.now _ c.load_whole.result _ c.in-Loaded.is c.load_whole.ensures
+    loaded_exactly _ a.book.now _ c.load_whole.result _ c.in-Ok.is c.load_whole.ensures
 
-pub returns-in-Loaded : goal.returns-in-Loaded
+pub returns-in-Ok : goal.returns-in-Ok
 unfolding rename_service
-returns-in-Loaded c =
+returns-in-Ok c =
     let a = c.args in
-    let whole = (loaded _ a.book.now _ c.load_whole.result _ _ c.in-Loaded.is c.load_whole.ensures).0 in
+    let whole = (loaded _ a.book.now _ c.load_whole.result _ _ c.in-Ok.is c.load_whole.ensures).0 in
     let h = whole_memory_law _ a.text.now _ _ _ whole c.write_renamed-written.ensures in
     record { answer = h.0; text = h.1; cleared = cleared a.work.now _ _ c.fill.ensures (omega (arith, c.work-1.given)) }

@@ -4,10 +4,10 @@ use Rattle.service.proofs.ReaderLaws.{query_refused, query_asked_law, query_acce
 use borrow.Author.Rules.{rules}
 use Rattle.service.proofs.read_query.Goals as goal
 
-pub returns-in-Refused : goal.returns-in-Refused
-returns-in-Refused c =
+pub returns-in-Err : goal.returns-in-Err
+returns-in-Err c =
     let a = c.args in
-    let w = query_refused _ _ _ _ _ _ _ _ c.prepare-ready.ensures _ c.in-Refused.is _ c.empty-pattern.ensures in
+    let w = query_refused _ _ _ _ _ _ _ _ c.prepare-ready.ensures _ c.in-Err.is _ c.empty-pattern.ensures in
     record { answer = w.0; whole = w.1; cleared = cleared_all a.work.now _ _ c.clear.ensures (search rules) }
 
 pub pattern_of-pattern-requires : goal.pattern_of-pattern-requires

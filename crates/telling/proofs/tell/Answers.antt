@@ -3,10 +3,10 @@ use Rattle.telling.specs.Told.{accepting, of_refusal}
 use Rattle.telling.proofs.ToldLaws.{tells}
 use Rattle.telling.proofs.tell.Goals as goal
 
-pub returns-in-Accepted : goal.returns-in-Accepted
+pub returns-in-Ok : goal.returns-in-Ok
 unfolding accepting of_refusal
-returns-in-Accepted c = tells _ _ c.in-Accepted.is
+returns-in-Ok g c = tells _ _ c.in-Ok.is
 
-pub returns-in-Refused : goal.returns-in-Refused
+pub returns-in-Err : goal.returns-in-Err
 unfolding accepting of_refusal
-returns-in-Refused c = tells _ _ c.in-Refused.is
+returns-in-Err g c = tells _ _ c.in-Err.is

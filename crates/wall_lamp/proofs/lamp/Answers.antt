@@ -1,19 +1,18 @@
 -- `lamp` meets its contract, by what asking with no row word gives.
-use Rattle.asking.proofs.AnswerLaws.{told_found, told_full, told_refused}
-use Rattle.wall_lamp.proofs.LampLaws.{lamp_no, lamp_yes, lamp_refused}
+use mathlib.Core.Path.{◌≡◌}
+use borrow.Author.Rules.{rules}
+use Rattle.std.specs.Prelude.{Ok, Err}
+use Rattle.std.proofs.lemmas.Result.{err_from_is_err_and}
+use Rattle.wall_lamp.proofs.LampLaws.{lamp_shown, lamp_refused}
 use Rattle.wall_lamp.proofs.lamp.Goals as goal
 
-pub returns-in-Found : goal.returns-in-Found
-returns-in-Found c =
-    let asked = c.ask.ensures in
-    lamp_no _ _ _ _ _ _ asked.cleared _ _ _ (told_found c.in-Found.is asked.answer)
+pub returns-in_err-found : goal.returns-in_err-found
+returns-in_err-found c =
+    let e : c.ask.result ≡ Err c.in_err-found.field-0.0 = search rules in
+    let p = err_from_is_err_and c.from_residual.result c.from_residual.ensures.1 in
+    rw (p.1, p.2) (lamp_refused _ _ _ _ _ _ c.ask.ensures.cleared _ _ c.ask.ensures.answer _ e)
 
-pub returns-in-Full : goal.returns-in-Full
-returns-in-Full c =
-    let asked = c.ask.ensures in
-    lamp_yes _ _ _ _ _ _ asked.cleared (told_full c.in-Full.is asked.answer)
-
-pub returns-in-Refused : goal.returns-in-Refused
-returns-in-Refused c =
-    let asked = c.ask.ensures in
-    lamp_refused _ _ _ _ _ _ asked.cleared _ (told_refused c.in-Refused.is asked.answer)
+pub returns : goal.returns
+returns c =
+    let e : c.ask.result ≡ Ok c.in_ok-found.found = search rules in
+    lamp_shown _ _ _ _ _ _ c.ask.ensures.cleared _ _ c.ask.ensures.answer _ e _ (search rules)

@@ -1,5 +1,5 @@
 -- The words of a value, case by case.
-use Rattle.answer_words.proofs.RowLaws.{row_of_true, row_of_false}
+use Rattle.answer_words.proofs.RowLaws.{row_of_truth}
 use mathlib.Core.Path.{sym, ap}
 use Rattle.answer_words.specs.Words.{value_row}
 use Rattle.answer_words.proofs.conditions.value_row.Goals as goal
@@ -12,8 +12,5 @@ pub returns-in-Text : goal.returns-in-Text
 unfolding value_row
 returns-in-Text c = sym (ap value_row c.in-Text.is)
 
-pub returns-then-truth : goal.returns-then-truth
-returns-then-truth c = row_of_true _ _ c.in-Truth.is c.if-truth.true
-
 pub returns-in-Truth : goal.returns-in-Truth
-returns-in-Truth c = row_of_false _ _ c.in-Truth.is c.if-truth.false
+returns-in-Truth c = row_of_truth _ _ _ c.in-Truth.is c.from.ensures

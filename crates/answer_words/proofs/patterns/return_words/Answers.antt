@@ -1,20 +1,8 @@
--- The vertices of all Return names. The loop's invariant: what is put so far is each place's word. The measure is what is left of them.
-use Prim.Native.Nat.{◌-◌}
-use mathlib.Core.Path.{refl}
-use native.Mathlib.Omega.{arith}
-use Rattle.book_tables.proofs.PutLaws.{put_start, put_step, put_end}
-use Rattle.answer_words.specs.Words.{return_word, return_words}
+-- The words of the Return names are rows of one word.
+use Rattle.book_tables.specs.Listed.{listed}
+use Rattle.answer_words.specs.Words.{return_word, return_words, row_word}
 use Rattle.answer_words.proofs.patterns.return_words.Goals as goal
 
-pub loop-k-init : goal.loop-k-init
-loop-k-init c = put_start _ _ _ refl
-
-pub loop-k-smaller : goal.loop-k-smaller
-loop-k-smaller c = omega arith
-
-pub loop-k-preserved : goal.loop-k-preserved
-loop-k-preserved c = put_step _ _ _ _ _ c.loop-k-test.true c.loop-k.invariant c.return_word.ensures
-
 pub returns : goal.returns
-unfolding return_words
-returns c = put_end _ _ _ _ c.loop-k-test.false c.loop-k.invariant
+unfolding return_words return_word row_word listed
+returns c = c.words_of.ensures 0

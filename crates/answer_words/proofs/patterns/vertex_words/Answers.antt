@@ -1,21 +1,8 @@
--- All words of the vertices. The loop's invariant: what is put so far is each place's word. The measure is what is left of them.
-use Prim.Native.Nat.{◌-◌}
-use mathlib.Core.Path.{refl}
-use native.Mathlib.Omega.{arith}
-use Rattle.book_tables.proofs.PutLaws.{put_start, put_step, put_end}
-use Rattle.answer_words.specs.Words.{row_word, vertex_word, vertex_words}
+-- The words of the vertices are their rows.
+use Rattle.model.specs.PlainData.{no_part}
+use Rattle.answer_words.specs.Words.{vertex_word, vertex_words}
 use Rattle.answer_words.proofs.patterns.vertex_words.Goals as goal
 
-pub loop-k-init : goal.loop-k-init
-loop-k-init c = put_start _ _ _ refl
-
-pub loop-k-smaller : goal.loop-k-smaller
-loop-k-smaller c = omega arith
-
-pub loop-k-preserved : goal.loop-k-preserved
-unfolding vertex_word row_word
-loop-k-preserved c = put_step _ _ _ _ _ c.loop-k-test.true c.loop-k.invariant c.vertex_word.ensures
-
 pub returns : goal.returns
-unfolding vertex_words
-returns c = put_end _ _ _ _ c.loop-k-test.false c.loop-k.invariant
+unfolding vertex_words vertex_word
+returns c = c.words_of.ensures no_part

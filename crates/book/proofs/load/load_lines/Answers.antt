@@ -8,7 +8,6 @@ use Rattle.book_tables.specs.Alike.{alike}
 use Rattle.model.specs.Book.{Book}
 use Rattle.model.specs.Lines.{read_lines, lines_of}
 use mathlib.Core.Path.{refl, sym, ap, ◌∙◌}
-use Prim.Native.Nat.{◌-◌}
 use borrow.Author.Rules.{rules}
 use native.Mathlib.Omega.{arith}
 use Rattle.book.proofs.load.load_lines.Goals as goal
@@ -34,12 +33,12 @@ line_step-requires c =
           c.line_end-to.ensures c.loop-at-test.true;
     }
 
-pub returns-in-Fault : goal.returns-in-Fault
+pub returns-in-Err : goal.returns-in-Err
 unfolding refusal refusal_of
-returns-in-Fault c = (
+returns-in-Err c = (
   sym c.loop-at.invariant.4 ∙ lines_fault c.args.text.now c.loop-at.at _ c.line_end-to.ensures
       c.loop-at-test.true 1 (book_step (alike c.args.rule)) c.loop-at.line _ _
-      (step_refuses c.args.text.now _ _ _ _ c.in-Fault.is c.line_step.ensures),
+      (step_refuses c.args.text.now _ _ _ _ c.in-Err.is c.line_step.ensures),
   filled_ones _ _
       c.fill.ensures,
 )
@@ -67,7 +66,7 @@ loop-at-preserved c =
     let at = c.loop-at.at in
     let ends = c.line_end-to.ensures in
     let more = c.loop-at-test.true in
-    let s = step_adds text _ _ _ _ c.in-Known.is c.line_step.ensures in (
+    let s = step_adds text _ _ _ _ c.in-Ok.is c.line_step.ensures in (
       search rules,
       s.1,
       omega (arith, line_inside text at _ ends more),

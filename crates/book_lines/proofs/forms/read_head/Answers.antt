@@ -7,17 +7,17 @@ use Rattle.book_lines.proofs.forms.read_head.Goals as goal
 pub overflow_add-word : goal.overflow_add-word
 overflow_add-word c =
     let a = c.args in
-    omega (arith, c.well_formed, (placed_at a.line.now a.from _ c.in-At.is c.next_word.ensures.placed).inside)
+    omega (arith, c.well_formed, (placed_at a.line.now a.from _ c.in-Some.is c.next_word.ensures.placed).inside)
 
 pub part_of-requires : goal.part_of-requires
 part_of-requires c =
     let a = c.args in
-    (placed_at a.line.now a.from _ c.in-At.is c.next_word.ensures.placed).inside
+    (placed_at a.line.now a.from _ c.in-Some.is c.next_word.ensures.placed).inside
 
-pub returns-in-At : goal.returns-in-At
-returns-in-At c =
+pub returns-in-Some : goal.returns-in-Some
+returns-in-Some c =
     let a = c.args in
-    let named = headed a.form a.line.now a.from _ c.next_word.ensures _ c.in-At.is in
+    let named = headed a.form a.line.now a.from _ c.next_word.ensures _ c.in-Some.is in
     rw (named, ← c.part_of.ensures, ← c.head.ensures)
     c.read_rest.ensures
 

@@ -4,9 +4,7 @@ use Rattle.book_tables.proofs.ListedLaws.{scan_none, scan_on}
 use Rattle.book_tables.specs.View.{name_of}
 use Rattle.model.specs.Bytes.{same}
 use native.Mathlib.Omega.{arith}
-use mathlib.Core.Bool.{false}
 use mathlib.Core.Path.{sym, ◌∙◌}
-use Prim.Native.Nat.{◌-◌}
 use Rattle.book_tables.proofs.names.find_name.Goals as goal
 
 pub loop-i-init : goal.loop-i-init

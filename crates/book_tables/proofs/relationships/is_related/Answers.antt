@@ -1,56 +1,73 @@
--- `book_tables::relationships::is_related` meets its contract. The loop's invariant: no relationship from the node before the entry is the one.
+-- `book_tables::relationships::is_related` meets its contract. The loop's invariant: no relationship that the walk has passed is the one.
 -- Assumes nothing.
-use Rattle.book_tables.proofs.Walks.{rels_first, rels_inside, rels_next, rels_fall, rel_found, rel_absent}
 use native.Mathlib.Omega.{arith}
+use Rattle.chains.proofs.WalkLaws.{begins_falling, begins_on, still_falling, stands_behind, still_on}
+use Rattle.book_tables.specs.Layout.{from_links}
+use Rattle.book_tables.proofs.Walks.{rels_first, rels_fall, rels_inside, rels_next, rel_found, rel_absent}
 use Rattle.book_tables.proofs.relationships.is_related.Goals as goal
 
-pub loop-entry-init : goal.loop-entry-init
-loop-entry-init c = rels_first c.args.text.now c.args.words.now c.args.counts c.requires.0 c.args.label c.args.from c.args.to c.requires.1
-    c.requires.2 c.requires.3 _ c.first-entry.ensures
+pub numbers-i-items-requires : goal.numbers-i-items-requires
+numbers-i-items-requires c =
+    let a = c.args in
+    let m = c.requires.0.within in
+    (omega (arith, c.requires.0.room), rels_fall a.text.now a.words.now a.counts c.requires.0 a.label a.from a.to c.requires.1 c.requires.2 c.requires.3)
+
+pub loop-i-init : goal.loop-i-init
+loop-i-init c =
+    let a = c.args in
+    let o = c.numbers-i-items.ensures in
+    rw c.into_iter-i-iterator.ensures.into_iter_gives (
+      begins_falling _ _ _ _ o (rels_fall a.text.now a.words.now a.counts c.requires.0 a.label a.from a.to c.requires.1 c.requires.2 c.requires.3),
+      tt,
+      begins_on _ _ _ _ o,
+      rels_first a.text.now a.words.now a.counts c.requires.0 a.label a.from a.to c.requires.1 c.requires.2 c.requires.3 _ o.stands,
+    )
 
 pub overflow_add-i : goal.overflow_add-i
 overflow_add-i c =
-    let i = rels_inside c.args.text.now c.args.words.now c.args.counts c.requires.0 c.args.label
-    c.args.from c.args.to c.requires.1 c.requires.2 c.requires.3 c.loop-entry.entry c.loop-entry-test.true c.loop-entry.invariant in
-    let m = c.requires.0.within in omega (arith, c.requires.0.room)
+    let a = c.args in
+    let m = c.requires.0.within in
+    let i = rels_inside a.text.now a.words.now a.counts c.requires.0 a.label a.from a.to c.requires.1 c.requires.2 c.requires.3 c.in-Some.i
+    (rw c.in-Some.ensures.steps.0 at c.loop-i.invariant.3) in
+    omega (arith, c.requires.0.room)
 
 pub offset_bounds-words-i : goal.offset_bounds-words-i
 offset_bounds-words-i c =
-    let i = rels_inside c.args.text.now c.args.words.now c.args.counts c.requires.0 c.args.label
-    c.args.from c.args.to c.requires.1 c.requires.2 c.requires.3 c.loop-entry.entry c.loop-entry-test.true c.loop-entry.invariant in
-    let m = c.requires.0.within in omega (arith, c.requires.0.room)
+    let a = c.args in
+    let m = c.requires.0.within in
+    let i = rels_inside a.text.now a.words.now a.counts c.requires.0 a.label a.from a.to c.requires.1 c.requires.2 c.requires.3 c.in-Some.i
+    (rw c.in-Some.ensures.steps.0 at c.loop-i.invariant.3) in
+    omega (arith, c.requires.0.room)
 
 pub bounds-words-i : goal.bounds-words-i
 bounds-words-i c =
-    let i = rels_inside c.args.text.now c.args.words.now c.args.counts c.requires.0 c.args.label
-    c.args.from c.args.to c.requires.1 c.requires.2 c.requires.3 c.loop-entry.entry c.loop-entry-test.true
-    c.loop-entry.invariant in let m = c.requires.0.within in omega (arith, c.requires.0.room)
+    let a = c.args in
+    let m = c.requires.0.within in
+    let i = rels_inside a.text.now a.words.now a.counts c.requires.0 a.label a.from a.to c.requires.1 c.requires.2 c.requires.3 c.in-Some.i
+    (rw c.in-Some.ensures.steps.0 at c.loop-i.invariant.3) in
+    omega (arith, c.requires.0.room)
 
 pub returns-then-words-i : goal.returns-then-words-i
 returns-then-words-i c =
-    rel_found c.args.text.now c.args.words.now c.args.counts c.requires.0 c.args.label c.args.from
-    c.args.to c.requires.1 c.requires.2 c.requires.3 c.loop-entry.entry c.loop-entry-test.true
-    c.loop-entry.invariant c.if-words-i.true
+    let a = c.args in
+    let s = c.in-Some.ensures.steps in
+    rel_found a.text.now a.words.now a.counts c.requires.0 a.label a.from a.to c.requires.1 c.requires.2 c.requires.3 c.in-Some.i
+    (rw s.0 at c.loop-i.invariant.3) c.if-words-i.true
 
-pub next-entry-requires : goal.next-entry-requires
-next-entry-requires c =
-    let i = rels_inside c.args.text.now c.args.words.now c.args.counts c.requires.0 c.args.label
-    c.args.from c.args.to c.requires.1 c.requires.2 c.requires.3 c.loop-entry.entry c.loop-entry-test.true
-    c.loop-entry.invariant in let m = c.requires.0.within in omega (arith, c.requires.0.room)
-
-pub loop-entry-smaller : goal.loop-entry-smaller
-loop-entry-smaller c =
-    rels_fall c.args.text.now c.args.words.now c.args.counts c.requires.0 c.args.label c.args.from
-    c.args.to c.requires.1 c.requires.2 c.requires.3 c.loop-entry.entry c.loop-entry-test.true c.loop-entry.invariant _
-    c.next-entry.ensures
-
-pub loop-entry-preserved : goal.loop-entry-preserved
-loop-entry-preserved c =
-    rels_next c.args.text.now c.args.words.now c.args.counts c.requires.0 c.args.label c.args.from
-    c.args.to c.requires.1 c.requires.2 c.requires.3 c.loop-entry.entry c.loop-entry-test.true c.loop-entry.invariant
-    c.if-words-i.false _ c.next-entry.ensures
+pub loop-i-preserved : goal.loop-i-preserved
+loop-i-preserved c =
+    let a = c.args in
+    let s = c.in-Some.ensures.steps in
+    let l = c.loop-i in (
+      still_falling a.words.now from_links c.in-Some.i l.i-iterator c.next.new.self s l.invariant.0,
+      tt,
+      still_on a.words.now from_links c.in-Some.i l.i-iterator c.next.new.self s l.invariant.2,
+      rels_next a.text.now a.words.now a.counts c.requires.0 a.label a.from a.to c.requires.1 c.requires.2 c.requires.3 c.in-Some.i
+          (rw s.0 at l.invariant.3) c.if-words-i.false _ (stands_behind a.words.now from_links c.in-Some.i l.i-iterator c.next.new.self s l.invariant.2),
+    )
 
 pub returns : goal.returns
 returns c =
-    rel_absent c.args.text.now c.args.words.now c.args.counts c.requires.0 c.args.label c.args.from
-    c.args.to c.requires.1 c.requires.2 c.requires.3 c.loop-entry.entry (omega arith) c.loop-entry.invariant
+    let a = c.args in
+    rel_absent a.text.now a.words.now a.counts c.requires.0 a.label a.from a.to c.requires.1 c.requires.2 c.requires.3
+    c.loop-i.i-iterator.entry c.in-None.ensures.steps.0 c.loop-i.invariant.3

@@ -5,7 +5,6 @@ use native.Mathlib.Omega.{arith}
 use Rattle.enforce.proofs.TextLaws.{not_enforced, without_policy, few_texts}
 use Rattle.enforce.proofs.ClearLaws.{rules_short}
 use Rattle.enforce.proofs.HeldLaws.{held_on, policy_ready, policy_held, policy_passed}
-use borrow.Author.Rules.{rules}
 use Rattle.enforce.proofs.policies.weave_category.Goals as goal
 
 pub returns-then-not-has : goal.returns-then-not-has
@@ -61,30 +60,30 @@ overflow_add-result c =
       given.texts.rules_fit.few,
     )
 
-pub returns-in-Woven : goal.returns-in-Woven
-returns-in-Woven c =
+pub returns : goal.returns
+returns c =
     let a = c.args in
     let given = c.requires in
     let enforced = sym c.has.ensures ∙ c.if-not-has.false in
     let found = c.policy_place-policy in
-    let w = c.weave_text-added in
+    let w = c.weave_text in
     policy_held a.book.now a.words.now a.counts a.query.now a.rules.now a.rules_words.now a.rules_counts a.category
     given.texts a.lower given.low enforced found.result found.ensures c.if-rules_counts-policy.false a.texts given.many a.woven.now
-    a.shape given.held w.new.woven w.result w.ensures _ c.in-Woven.is
+    a.shape given.held w.new.woven w.result w.ensures _ c.in_ok-next.was
 
-pub returns-in-Passed : goal.returns-in-Passed
-returns-in-Passed c =
+pub returns-in_err-next : goal.returns-in_err-next
+returns-in_err-next c =
     let a = c.args in
     let given = c.requires in
     let enforced = sym c.has.ensures ∙ c.if-not-has.false in
     let found = c.policy_place-policy in
-    let w = c.weave_text-added in
-    policy_passed a.book.now a.words.now a.counts a.query.now a.rules.now a.rules_words.now a.rules_counts a.category
+    let w = c.weave_text in
+    rw c.from_residual.ensures (policy_passed a.book.now a.words.now a.counts a.query.now a.rules.now a.rules_words.now a.rules_counts a.category
     given.texts a.lower given.low enforced found.result found.ensures c.if-rules_counts-policy.false a.texts given.many a.woven.now
-    a.shape given.held w.new.woven w.result w.ensures c.in-Passed.is
+    a.shape given.held w.new.woven w.result w.ensures c.in_err-next.was)
 
-pub weave_text-added-requires : goal.weave_text-added-requires
-weave_text-added-requires c =
+pub weave_text-requires : goal.weave_text-requires
+weave_text-requires c =
     let a = c.args in
     let given = c.requires in
     let enforced = sym c.has.ensures ∙ c.if-not-has.false in

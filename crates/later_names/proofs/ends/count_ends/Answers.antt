@@ -1,5 +1,5 @@
 -- `later_names::ends::count_ends` meets its contract. The loop's invariant: the ends of the relationships before i are counted.
-use Prim.Native.Nat.{◌-◌, ◌+◌}
+use Prim.Native.Nat.{◌+◌}
 use mathlib.Core.Path.{refl}
 use native.Mathlib.Omega.{arith}
 use Rattle.book_tables.specs.Layout.{relationships}

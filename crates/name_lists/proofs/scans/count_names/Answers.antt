@@ -1,5 +1,5 @@
 -- `name_lists::scans::count_names` meets its contract. Assumes nothing.
-use Prim.Native.Nat.{◌+◌, ◌-◌}
+use Prim.Native.Nat.{◌+◌}
 use mathlib.Core.List.{List}
 use mathlib.Core.Path.{sym, ◌∙◌}
 use native.Mathlib.Omega.{arith}
@@ -28,24 +28,24 @@ overflow_add-i c =
     omega (
       arith,
       c.well_formed,
-      (placed_at a.s.now c.loop-i.i _ c.in-At.is
+      (placed_at a.s.now c.loop-i.i _ c.in-Some.is
           c.next_name.ensures.placed).inside,
     )
 
 pub loop-i-smaller : goal.loop-i-smaller
 loop-i-smaller c =
     let a = c.args in
-    let h = placed_at a.s.now c.loop-i.i _ c.in-At.is c.next_name.ensures.placed in
+    let h = placed_at a.s.now c.loop-i.i _ c.in-Some.is c.next_name.ensures.placed in
     omega (arith, h.after, h.some)
 
 pub loop-i-preserved : goal.loop-i-preserved
 loop-i-preserved c =
     let a = c.args in
-    let h = placed_at a.s.now c.loop-i.i _ c.in-At.is c.next_name.ensures.placed in (
+    let h = placed_at a.s.now c.loop-i.i _ c.in-Some.is c.next_name.ensures.placed in (
       omega (arith, h.after, h.some, c.loop-i.invariant.0),
       left_next length (λ (ns : List Bytes). c.loop-i.n + length ns) a.s.now a.from c.loop-i.i
           (λ (ns : List Bytes). c.loop-i.n + 1 + length ns) _ c.loop-i.invariant.1
-          (sym c.in-At.is ∙ c.next_name.ensures.is) (λ y e. omega arith),
+          (sym c.in-Some.is ∙ c.next_name.ensures.is) (λ y e. omega arith),
     )
 
 pub returns : goal.returns

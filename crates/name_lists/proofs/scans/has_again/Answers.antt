@@ -1,5 +1,4 @@
 -- `name_lists::scans::has_again` meets its contract. Assumes nothing.
-use Prim.Native.Nat.{◌-◌}
 use mathlib.Core.Path.{sym, ◌∙◌}
 use native.Mathlib.Omega.{arith}
 use Rattle.model.specs.Names.{twice}
@@ -24,33 +23,33 @@ overflow_add-end c =
     omega (
       arith,
       c.well_formed,
-      (placed_at a.s.now c.loop-i.i _ c.in-At.is
+      (placed_at a.s.now c.loop-i.i _ c.in-Some.is
           c.next_name.ensures.placed).inside,
     )
 
 pub part_of-requires : goal.part_of-requires
 part_of-requires c =
     let a = c.args in
-    (placed_at a.s.now c.loop-i.i _ c.in-At.is c.next_name.ensures.placed).inside
+    (placed_at a.s.now c.loop-i.i _ c.in-Some.is c.next_name.ensures.placed).inside
 
 pub returns-then-has_name : goal.returns-then-has_name
 returns-then-has_name c =
     let a = c.args in
     left_found twice twice a.s.now a.from c.loop-i.i _ _ c.loop-i.invariant
-    (sym c.in-At.is ∙ c.next_name.ensures.is)
+    (sym c.in-Some.is ∙ c.next_name.ensures.is)
     (λ y e. twice_found _ y.names (sym (rw c.part_of.ensures at (c.has_name.ensures y e)) ∙ c.if-has_name.true))
 
 pub loop-i-smaller : goal.loop-i-smaller
 loop-i-smaller c =
     let a = c.args in
-    let h = placed_at a.s.now c.loop-i.i _ c.in-At.is c.next_name.ensures.placed in
+    let h = placed_at a.s.now c.loop-i.i _ c.in-Some.is c.next_name.ensures.placed in
     omega (arith, h.after, h.some)
 
 pub loop-i-preserved : goal.loop-i-preserved
 loop-i-preserved c =
     let a = c.args in
     left_next twice twice a.s.now a.from c.loop-i.i twice _ c.loop-i.invariant
-    (sym c.in-At.is ∙ c.next_name.ensures.is)
+    (sym c.in-Some.is ∙ c.next_name.ensures.is)
     (λ y e. twice_other _ y.names (sym (rw c.part_of.ensures at (c.has_name.ensures y e)) ∙ c.if-has_name.false))
 
 pub returns : goal.returns

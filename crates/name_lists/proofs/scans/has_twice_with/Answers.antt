@@ -1,5 +1,4 @@
 -- `name_lists::scans::has_twice_with` meets its contract. The loop's invariant: the table has the names before the place. Assumes nothing.
-use Prim.Native.Nat.{◌-◌}
 use mathlib.Core.Path.{refl, sym, ◌∙◌}
 use native.Mathlib.Omega.{arith}
 use Rattle.name_lists.proofs.Heads.{placed_at}
@@ -32,7 +31,7 @@ returns-then-table-n c = c.has_again.ensures
 pub part_of-requires : goal.part_of-requires
 part_of-requires c =
     let a = c.args in
-    (placed_at a.s.now c.loop-i.i _ c.in-At.is c.next_name.ensures.placed).inside
+    (placed_at a.s.now c.loop-i.i _ c.in-Some.is c.next_name.ensures.placed).inside
 
 pub is_listed-requires : goal.is_listed-requires
 is_listed-requires c =
@@ -46,25 +45,25 @@ pub returns-then-is_listed : goal.returns-then-is_listed
 returns-then-is_listed c =
     let a = c.args in
     met_again a.s.now c.loop-i.table a.from c.loop-i.n c.loop-i.i c.loop-i.invariant.0 _
-    (sym c.in-At.is ∙ c.next_name.ensures.is)
+    (sym c.in-Some.is ∙ c.next_name.ensures.is)
     c.if-table-n.false _ (rw c.part_of.ensures at c.is_listed.ensures) c.if-is_listed.true
 
 pub overflow_add-i : goal.overflow_add-i
 overflow_add-i c =
     let a = c.args in
-    omega (arith, c.well_formed, (placed_at a.s.now c.loop-i.i _ c.in-At.is c.next_name.ensures.placed).inside)
+    omega (arith, c.well_formed, (placed_at a.s.now c.loop-i.i _ c.in-Some.is c.next_name.ensures.placed).inside)
 
 pub loop-i-smaller : goal.loop-i-smaller
 loop-i-smaller c =
     let a = c.args in
-    let h = placed_at a.s.now c.loop-i.i _ c.in-At.is c.next_name.ensures.placed in
+    let h = placed_at a.s.now c.loop-i.i _ c.in-Some.is c.next_name.ensures.placed in
     omega (arith, h.after, h.some)
 
 pub loop-i-preserved : goal.loop-i-preserved
 loop-i-preserved c =
     let a = c.args in (
       met_more a.s.now c.loop-i.table a.from c.loop-i.n c.loop-i.i c.loop-i.invariant.0 _
-          (sym c.in-At.is ∙ c.next_name.ensures.is)
+          (sym c.in-Some.is ∙ c.next_name.ensures.is)
           c.if-table-n.false _ (rw c.part_of.ensures at c.is_listed.ensures) c.if-is_listed.false _ _
           c.with_name-n.ensures,
       c.table-1.given ∙ c.loop-i.invariant.1,

@@ -1,6 +1,5 @@
 -- A request that is needed is read, and another is none.
 use Rattle.prepare.proofs.NeededLaws.{request_needed, request_not_needed}
-use borrow.Author.Rules.{rules}
 use Rattle.prepare.proofs.needed.request.Goals as goal
 
 pub returns-then-needed : goal.returns-then-needed

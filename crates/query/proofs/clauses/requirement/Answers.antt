@@ -13,7 +13,7 @@ pub returns-then-v-found : goal.returns-then-v-found
 unfolding demand_in
 returns-then-v-found c =
     let a = c.args in
-    let size : length a.found.parts ≡ 8 = c.well_formed.1.1.1.1.0.1.1.0.1.0.1 in
+    let size : length a.found.items ≡ 8 = c.well_formed.1.1.1.1.0.1.1.0.1.0.1 in
     let few = names_counted a.s.now a.found size c.requires.1.few in
     let there = place_known (name_at a.s.now a.d.subject) (names_of a.s.now a.found)
     (omega (arith, few, c.if-v-found.true, c.vertex_number-v.ensures)) in
@@ -23,7 +23,7 @@ pub returns : goal.returns
 unfolding demand_in
 returns c =
     let a = c.args in
-    let size : length a.found.parts ≡ 8 = c.well_formed.1.1.1.1.0.1.1.0.1.0.1 in
+    let size : length a.found.items ≡ 8 = c.well_formed.1.1.1.1.0.1.1.0.1.0.1 in
     let few = names_counted a.s.now a.found size c.requires.1.few in
     let absent = place_new (name_at a.s.now a.d.subject) (names_of a.s.now a.found)
     (omega (arith, few, c.if-v-found.false, c.vertex_number-v.ensures)) in

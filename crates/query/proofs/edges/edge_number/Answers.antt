@@ -1,5 +1,4 @@
 -- `edge_number` meets its contract. The loop's invariant: none of the first k edges has the name. Assumes nothing.
-use Prim.Native.Nat.{◌-◌}
 use mathlib.Core.Path.{◌≡◌, sym, ◌∙◌}
 use native.Mathlib.Omega.{arith}
 use lib.ListN.{length}
@@ -12,7 +11,7 @@ use Rattle.query.proofs.edges.edge_number.Goals as goal
 pub loop-k-init : goal.loop-k-init
 loop-k-init c =
     let a = c.args in
-    (omega arith, number_start (λ (e : Edge). name_at a.s.now e.name) no_edge a.links.edges (name_at a.s.now a.name))
+    (omega arith, number_start (λ (e : Edge). name_at a.s.now e.name) no_edge a.links.items (name_at a.s.now a.name))
 
 pub bounds-links-k : goal.bounds-links-k
 bounds-links-k c = omega (arith, c.requires.0.few)
@@ -24,9 +23,9 @@ same_part-requires c =
 pub returns-then-same_part : goal.returns-then-same_part
 returns-then-same_part c =
     let a = c.args in
-    let size : length a.links.edges ≡ 16 = c.well_formed.1.0.1.1.0.1.0.1 in
+    let size : length a.links.items ≡ 16 = c.well_formed.1.0.1.1.0.1.0.1 in
     let l = c.loop-k in
-    number_found (λ (e : Edge). name_at a.s.now e.name) no_edge a.links.edges (name_at a.s.now a.name) a.links.count
+    number_found (λ (e : Edge). name_at a.s.now e.name) no_edge a.links.items (name_at a.s.now a.name) a.links.count
     (omega (arith, size, c.requires.0.few)) l.k c.loop-k-test.true l.invariant.1 (sym c.same_part.ensures ∙ c.if-same_part.true)
 
 pub loop-k-preserved : goal.loop-k-preserved
@@ -34,14 +33,14 @@ loop-k-preserved c =
     let a = c.args in
     let l = c.loop-k in (
       omega arith,
-      number_on (λ (e : Edge). name_at a.s.now e.name) no_edge a.links.edges (name_at a.s.now a.name) l.k l.invariant.1
+      number_on (λ (e : Edge). name_at a.s.now e.name) no_edge a.links.items (name_at a.s.now a.name) l.k l.invariant.1
           (sym c.same_part.ensures ∙ c.if-same_part.false),
     )
 
 pub returns : goal.returns
 returns c =
     let a = c.args in
-    let size : length a.links.edges ≡ 16 = c.well_formed.1.0.1.1.0.1.0.1 in
+    let size : length a.links.items ≡ 16 = c.well_formed.1.0.1.1.0.1.0.1 in
     let l = c.loop-k in
-    number_none (λ (e : Edge). name_at a.s.now e.name) no_edge a.links.edges (name_at a.s.now a.name) a.links.count
+    number_none (λ (e : Edge). name_at a.s.now e.name) no_edge a.links.items (name_at a.s.now a.name) a.links.count
     (omega (arith, size, c.requires.0.few)) l.k l.invariant.0 c.loop-k-test.false l.invariant.1

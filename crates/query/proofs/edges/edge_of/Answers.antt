@@ -3,15 +3,8 @@ use mathlib.Core.Path.{ap, ◌∙◌}
 use Rattle.model.specs.Names.{place}
 use Rattle.model.specs.Answers.{name_at}
 use Rattle.book_tables.specs.View.{book_at}
+use Rattle.query.proofs.edges.edge_of.Goals.{then-points, else-points}
 use Rattle.query.proofs.edges.edge_of.Goals as goal
-
-pub returns-then-points : goal.returns-then-points
-unfolding name_at
-returns-then-points c =
-    let a = c.args in
-    let label = c.find_label-label.ensures
-    ∙ ap (λ w. place w (book_at a.book.now a.words.now a.counts).labels) c.part_of.ensures in
-    (λ i. record { name = a.link.edge; label = label i; from = a.last; to = a.own }) ∙ rw c.if-points.true
 
 pub returns : goal.returns
 unfolding name_at
@@ -19,4 +12,7 @@ returns c =
     let a = c.args in
     let label = c.find_label-label.ensures
     ∙ ap (λ w. place w (book_at a.book.now a.words.now a.counts).labels) c.part_of.ensures in
-    (λ i. record { name = a.link.edge; label = label i; from = a.own; to = a.last }) ∙ rw c.if-points.false
+    elim c.if-points.branch [
+      | then-points w ↦ rw (w.from-is, w.if-points.true) (λ i. record { name = a.link.edge; label = label i; from = a.last; to = a.own })
+      | else-points w ↦ rw (w.from-is, w.if-points.false) (λ i. record { name = a.link.edge; label = label i; from = a.own; to = a.last })
+    ]

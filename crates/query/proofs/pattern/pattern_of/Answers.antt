@@ -11,8 +11,8 @@ use Rattle.query.proofs.pattern.pattern_of.Goals as goal
 
 pub loop-x-init : goal.loop-x-init
 loop-x-init c =
-    pattern_start c.requires c.text_start-place.ensures c.no_vertices-found.ensures c.no_edges-links.ensures
-    c.no_clauses-conditions.ensures c.no_returns-returned.ensures
+    pattern_start c.requires c.text_start-place.ensures c.none-found.ensures c.none-links.ensures
+    c.none-conditions.ensures c.none-returned.ensures
 
 pub returns-in_default : goal.returns-in_default
 returns-in_default c =
@@ -23,118 +23,120 @@ returns-in_default c =
 pub vertex_number-own-requires : goal.vertex_number-own-requires
 vertex_number-own-requires c =
     let so = c.loop-x.invariant in
-    let here = here_inside c.next_piece.ensures c.in-Found.is c.in-Start.is in
+    let here = here_inside c.next_piece.ensures c.in-Ok.is c.in-Start.is in
     (vertices_inside _ _ _ so.vertices, here)
 
 pub with_vertex-found-requires : goal.with_vertex-found-requires
 with_vertex-found-requires c =
     start_own c.loop-x.invariant c.next_piece.ensures
-    c.in-Found.is c.in-Start.is c.vertex_number-own.ensures
+    c.in-Ok.is c.in-Start.is c.vertex_number-own.ensures
 
 pub loop-x-smaller-in-Start : goal.loop-x-smaller-in-Start
 loop-x-smaller-in-Start c =
-    fewer_pieces c.next_piece.ensures c.in-Found.is
+    fewer_pieces c.next_piece.ensures c.in-Ok.is
 
 pub loop-x-preserved-in-Start : goal.loop-x-preserved-in-Start
 loop-x-preserved-in-Start c =
     start_on c.loop-x.invariant c.next_piece.ensures
-    c.in-Found.is c.in-Start.is c.vertex_number-own.ensures c.with_vertex-found.ensures
+    c.in-Ok.is c.in-Start.is c.vertex_number-own.ensures c.with_vertex-found.ensures
 
 pub vertex_number-own-requires-in-Linked : goal.vertex_number-own-requires-in-Linked
 vertex_number-own-requires-in-Linked c =
     let so = c.loop-x.invariant in
-    let here = here_inside c.next_piece.ensures c.in-Found.is c.in-Linked.is in
+    let here = here_inside c.next_piece.ensures c.in-Ok.is c.in-Linked.is in
     (vertices_inside _ _ _ so.vertices, here.vertex)
 
 pub with_vertex-found-requires-in-Linked : goal.with_vertex-found-requires-in-Linked
 with_vertex-found-requires-in-Linked c =
     link_own c.loop-x.invariant c.next_piece.ensures
-    c.in-Found.is c.vertex_number-own-in-Linked.ensures _ c.in-Linked.is
+    c.in-Ok.is c.vertex_number-own-in-Linked.ensures _ c.in-Linked.is
 
 pub edge_of-requires : goal.edge_of-requires
 edge_of-requires c =
     let so = c.loop-x.invariant in
-    let here = here_inside c.next_piece.ensures c.in-Found.is
+    let here = here_inside c.next_piece.ensures c.in-Ok.is
     c.in-Linked.is in
     (so.asked.fits, here.label)
 
-pub bounds-links-n : goal.bounds-links-n
-bounds-links-n c =
-    link_room c.loop-x.invariant c.next_piece.ensures
-    c.in-Found.is _ c.in-Linked.is
-
-pub overflow_add-links : goal.overflow_add-links
-overflow_add-links c = omega (arith, c.loop-x.invariant.edges.stored.few)
+pub push-requires : goal.push-requires
+push-requires c = (
+  omega arith,
+  link_room c.loop-x.invariant c.next_piece.ensures
+      c.in-Ok.is _ c.in-Linked.is,
+)
 
 pub loop-x-smaller-in-Linked : goal.loop-x-smaller-in-Linked
 loop-x-smaller-in-Linked c =
-    fewer_pieces c.next_piece.ensures c.in-Found.is
+    fewer_pieces c.next_piece.ensures c.in-Ok.is
 
 pub loop-x-preserved-in-Linked : goal.loop-x-preserved-in-Linked
 loop-x-preserved-in-Linked c =
-    link_on c.loop-x.invariant c.next_piece.ensures
-    c.in-Found.is c.vertex_number-own-in-Linked.ensures _ c.in-Linked.is c.with_vertex-found-in-Linked.ensures
-    c.edge_of.ensures
+    rw c.push.ensures (link_on c.loop-x.invariant c.next_piece.ensures
+    c.in-Ok.is c.vertex_number-own-in-Linked.ensures _ c.in-Linked.is c.with_vertex-found-in-Linked.ensures
+    c.edge_of.ensures)
 
 pub exclusion-condition-requires : goal.exclusion-condition-requires
 exclusion-condition-requires c =
     let so = c.loop-x.invariant in
-    let here = here_inside c.next_piece.ensures c.in-Found.is c.in-Differ.is in
+    let here = here_inside c.next_piece.ensures c.in-Ok.is c.in-Differ.is in
     (vertices_inside _ _ _ so.vertices, here.0, here.1)
 
-pub bounds-conditions-n : goal.bounds-conditions-n
-bounds-conditions-n c =
-    differ_room c.loop-x.invariant c.next_piece.ensures
-    c.in-Found.is c.in-Differ.is
+pub push-requires-in-Differ : goal.push-requires-in-Differ
+push-requires-in-Differ c = (
+  omega arith,
+  differ_room c.loop-x.invariant c.next_piece.ensures
+      c.in-Ok.is c.in-Differ.is,
+)
 
 pub loop-x-smaller-in-Differ : goal.loop-x-smaller-in-Differ
 loop-x-smaller-in-Differ c =
-    fewer_pieces c.next_piece.ensures c.in-Found.is
+    fewer_pieces c.next_piece.ensures c.in-Ok.is
 
 pub loop-x-preserved-in-Differ : goal.loop-x-preserved-in-Differ
 loop-x-preserved-in-Differ c =
-    differ_on c.loop-x.invariant c.next_piece.ensures
-    c.in-Found.is c.in-Differ.is c.exclusion-condition.ensures
+    rw c.push-in-Differ.ensures (differ_on c.loop-x.invariant c.next_piece.ensures
+    c.in-Ok.is c.in-Differ.is c.exclusion-condition.ensures)
 
 pub requirement-condition-requires : goal.requirement-condition-requires
 requirement-condition-requires c =
     let so = c.loop-x.invariant in
-    let here = here_inside c.next_piece.ensures c.in-Found.is c.in-Asks.is in
+    let here = here_inside c.next_piece.ensures c.in-Ok.is c.in-Asks.is in
     (so.asked.fits, vertices_inside _ _ _ so.vertices, edges_inside so.edges, here)
 
-pub bounds-conditions-n-in-Asks : goal.bounds-conditions-n-in-Asks
-bounds-conditions-n-in-Asks c =
-    asks_room c.loop-x.invariant c.next_piece.ensures
-    c.in-Found.is c.in-Asks.is
+pub push-requires-in-Asks : goal.push-requires-in-Asks
+push-requires-in-Asks c = (
+  omega arith,
+  asks_room c.loop-x.invariant c.next_piece.ensures
+      c.in-Ok.is c.in-Asks.is,
+)
 
 pub loop-x-smaller-in-Asks : goal.loop-x-smaller-in-Asks
 loop-x-smaller-in-Asks c =
-    fewer_pieces c.next_piece.ensures c.in-Found.is
+    fewer_pieces c.next_piece.ensures c.in-Ok.is
 
 pub loop-x-preserved-in-Asks : goal.loop-x-preserved-in-Asks
 loop-x-preserved-in-Asks c =
-    asks_on c.loop-x.invariant c.next_piece.ensures
-    c.in-Found.is c.in-Asks.is c.requirement-condition.ensures
+    rw c.push-in-Asks.ensures (asks_on c.loop-x.invariant c.next_piece.ensures
+    c.in-Ok.is c.in-Asks.is c.requirement-condition.ensures)
 
 pub vertex_number-requires : goal.vertex_number-requires
 vertex_number-requires c =
     let so = c.loop-x.invariant in
-    let here = here_inside c.next_piece.ensures c.in-Found.is c.in-Returns.is in
+    let here = here_inside c.next_piece.ensures c.in-Ok.is c.in-Returns.is in
     (vertices_inside _ _ _ so.vertices, here)
 
-pub bounds-returned-n : goal.bounds-returned-n
-bounds-returned-n c =
-    returned_room c.loop-x.invariant c.next_piece.ensures
-    c.in-Found.is c.in-Returns.is
+pub push-requires-in-Returns : goal.push-requires-in-Returns
+push-requires-in-Returns c = (
+  omega arith,
+  returned_room c.loop-x.invariant c.next_piece.ensures
+      c.in-Ok.is c.in-Returns.is,
+)
 
 pub loop-x-smaller : goal.loop-x-smaller
 loop-x-smaller c =
-    fewer_pieces c.next_piece.ensures c.in-Found.is
+    fewer_pieces c.next_piece.ensures c.in-Ok.is
 
 pub loop-x-preserved : goal.loop-x-preserved
 loop-x-preserved c =
-    returned_on c.loop-x.invariant c.next_piece.ensures
-    c.in-Found.is c.in-Returns.is c.vertex_number.ensures
-
-pub offset_bounds-links-n : goal.offset_bounds-links-n
-offset_bounds-links-n c = omega (arith, c.loop-x.invariant.edges.stored.few)
+    rw c.push-in-Returns.ensures (returned_on c.loop-x.invariant c.next_piece.ensures
+    c.in-Ok.is c.in-Returns.is c.vertex_number.ensures)

@@ -1,5 +1,4 @@
 -- `vertex_number` meets its contract. The loop's invariant: none of the first k vertices has the name. Assumes nothing.
-use Prim.Native.Nat.{◌-◌}
 use mathlib.Core.Path.{◌≡◌, sym, ◌∙◌}
 use native.Mathlib.Omega.{arith}
 use lib.ListN.{length}
@@ -11,7 +10,7 @@ use Rattle.query.proofs.vertices.vertex_number.Goals as goal
 pub loop-k-init : goal.loop-k-init
 loop-k-init c =
     let a = c.args in
-    (omega arith, number_start (name_at a.s.now) no_part a.vertices.parts (name_at a.s.now a.name))
+    (omega arith, number_start (name_at a.s.now) no_part a.vertices.items (name_at a.s.now a.name))
 
 pub bounds-vertices-k : goal.bounds-vertices-k
 bounds-vertices-k c = omega (arith, c.requires.0.few)
@@ -23,9 +22,9 @@ same_part-requires c =
 pub returns-then-same_part : goal.returns-then-same_part
 returns-then-same_part c =
     let a = c.args in
-    let size : length a.vertices.parts ≡ 8 = c.well_formed.1.0.1.1.0.1.0.1 in
+    let size : length a.vertices.items ≡ 8 = c.well_formed.1.0.1.1.0.1.0.1 in
     let l = c.loop-k in
-    number_found (name_at a.s.now) no_part a.vertices.parts (name_at a.s.now a.name) a.vertices.count (omega (arith, size, c.requires.0.few)) l.k
+    number_found (name_at a.s.now) no_part a.vertices.items (name_at a.s.now a.name) a.vertices.count (omega (arith, size, c.requires.0.few)) l.k
     c.loop-k-test.true l.invariant.1 (sym c.same_part.ensures ∙ c.if-same_part.true)
 
 pub loop-k-preserved : goal.loop-k-preserved
@@ -33,14 +32,14 @@ loop-k-preserved c =
     let a = c.args in
     let l = c.loop-k in (
       omega arith,
-      number_on (name_at a.s.now) no_part a.vertices.parts (name_at a.s.now a.name) l.k l.invariant.1
+      number_on (name_at a.s.now) no_part a.vertices.items (name_at a.s.now a.name) l.k l.invariant.1
           (sym c.same_part.ensures ∙ c.if-same_part.false),
     )
 
 pub returns : goal.returns
 returns c =
     let a = c.args in
-    let size : length a.vertices.parts ≡ 8 = c.well_formed.1.0.1.1.0.1.0.1 in
+    let size : length a.vertices.items ≡ 8 = c.well_formed.1.0.1.1.0.1.0.1 in
     let l = c.loop-k in
-    number_none (name_at a.s.now) no_part a.vertices.parts (name_at a.s.now a.name) a.vertices.count (omega (arith, size, c.requires.0.few)) l.k
+    number_none (name_at a.s.now) no_part a.vertices.items (name_at a.s.now a.name) a.vertices.count (omega (arith, size, c.requires.0.few)) l.k
     l.invariant.0 c.loop-k-test.false l.invariant.1

@@ -15,7 +15,7 @@ piece_passed-t-requires c = (
   c.requires.0,
   record { vertex_names = c.loop-x.invariant.0.vertex_names; edge_names = c.loop-x.invariant.0.edge_names },
   c.loop-x.invariant.0.return_names,
-  subst (StepInside c.args.s.now) c.in-Found.is c.next_piece.ensures.inside,
+  subst (StepInside c.args.s.now) c.in-Ok.is c.next_piece.ensures.inside,
 )
 
 pub shape_of-vertices-then-t : goal.shape_of-vertices-then-t
@@ -33,20 +33,20 @@ shape_of-returned-then-t c =
 pub returns-then-t : goal.returns-then-t
 returns-then-t c =
     c.fault_at_end.ensures ∙ ap (λ w. verdict w c.piece_passed-t.result.survey) c.is_whole_from.ensures
-    ∙ walked_undeclared _ _ _ _ _ _ _ _ c.loop-x.invariant.0 _ c.next_piece.ensures _ c.in-Found.is _ _ _ _
+    ∙ walked_undeclared _ _ _ _ _ _ _ _ c.loop-x.invariant.0 _ c.next_piece.ensures _ c.in-Ok.is _ _ _ _
     c.piece_passed-t.ensures c.if-t.true
 
 pub overflow_add-i : goal.overflow_add-i
 overflow_add-i c =
-    omega (arith, walked_below _ _ _ _ _ _ _ _ c.loop-x.invariant.0 _ c.next_piece.ensures _ c.in-Found.is, c.well_formed)
+    omega (arith, walked_below _ _ _ _ _ _ _ _ c.loop-x.invariant.0 _ c.next_piece.ensures _ c.in-Ok.is, c.well_formed)
 
 pub loop-x-smaller : goal.loop-x-smaller
 loop-x-smaller c =
-    walked_less _ _ _ _ _ _ _ _ c.loop-x.invariant.0 _ c.next_piece.ensures _ c.in-Found.is
+    walked_less _ _ _ _ _ _ _ _ c.loop-x.invariant.0 _ c.next_piece.ensures _ c.in-Ok.is
 
 pub loop-x-preserved : goal.loop-x-preserved
 loop-x-preserved c = (
-  walked_on _ _ _ _ _ _ _ _ c.loop-x.invariant.0 _ c.next_piece.ensures _ c.in-Found.is _ _ _ _
+  walked_on _ _ _ _ _ _ _ _ c.loop-x.invariant.0 _ c.next_piece.ensures _ c.in-Ok.is _ _ _ _
       c.piece_passed-t.ensures,
   omega (arith, c.vertices-1.given, c.loop-x.invariant.1),
   omega
@@ -54,15 +54,15 @@ loop-x-preserved c = (
   omega (arith, c.returned-1.given, c.loop-x.invariant.3),
 )
 
-pub shape_of-vertices-in-None : goal.shape_of-vertices-in-None
-shape_of-vertices-in-None c = c.loop-x.invariant.1
+pub shape_of-vertices-in-Err : goal.shape_of-vertices-in-Err
+shape_of-vertices-in-Err c = c.loop-x.invariant.1
 
-pub shape_of-edges-in-None : goal.shape_of-edges-in-None
-shape_of-edges-in-None c = c.loop-x.invariant.2
+pub shape_of-edges-in-Err : goal.shape_of-edges-in-Err
+shape_of-edges-in-Err c = c.loop-x.invariant.2
 
-pub shape_of-returned-in-None : goal.shape_of-returned-in-None
-shape_of-returned-in-None c = c.loop-x.invariant.3
+pub shape_of-returned-in-Err : goal.shape_of-returned-in-Err
+shape_of-returned-in-Err c = c.loop-x.invariant.3
 
-pub returns-in-None : goal.returns-in-None
-returns-in-None c =
-    c.fault_at_end-in-None.ensures ∙ walked_end _ _ _ _ _ _ _ _ c.loop-x.invariant.0 _ c.next_piece.ensures _ c.in-None.is
+pub returns-in-Err : goal.returns-in-Err
+returns-in-Err c =
+    c.fault_at_end-in-Err.ensures ∙ walked_end _ _ _ _ _ _ _ _ c.loop-x.invariant.0 _ c.next_piece.ensures _ c.in-Err.is

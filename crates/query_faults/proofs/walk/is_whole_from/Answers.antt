@@ -10,14 +10,14 @@ loop-x-init c = refl
 pub loop-x-smaller : goal.loop-x-smaller
 loop-x-smaller c =
     let z = ap length (step_list c.args.s.now c.loop-x.place c.next_piece.result c.next_piece.ensures
-    c.in-Found.x c.in-Found.is) in omega arith
+    c.in-Ok.x c.in-Ok.is) in omega arith
 
 pub loop-x-preserved : goal.loop-x-preserved
 loop-x-preserved c =
     sym (step_whole c.args.s.now c.loop-x.place c.next_piece.result c.next_piece.ensures
-    c.in-Found.x c.in-Found.is) ∙ c.loop-x.invariant
+    c.in-Ok.x c.in-Ok.is) ∙ c.loop-x.invariant
 
-pub returns-in-None : goal.returns-in-None
-returns-in-None c =
+pub returns-in-Err : goal.returns-in-Err
+returns-in-Err c =
     sym (step_ends c.args.s.now c.loop-x.place c.next_piece.result
-    c.next_piece.ensures c.in-None.w c.in-None.is) ∙ c.loop-x.invariant
+    c.next_piece.ensures c.in-Err.whole c.in-Err.is) ∙ c.loop-x.invariant

@@ -1,3 +1,4 @@
+use Rattle.std.specs.Option.{ok_or}
 use Rattle.model.specs.Places.{none, bracket_of, variable_at}
 use Rattle.model.specs.Signs.{is_mark}
 use Rattle.model.specs.Bytes.{same}
@@ -15,45 +16,46 @@ use mathlib.Core.Bool.{true, false}
 use mathlib.Core.Path.{ap, subst, ◌∙◌}
 use Rattle.query_pieces.proofs.parts.condition.Goals as goal
 
-pub returns-in_default : goal.returns-in_default
+pub returns-in_err-x : goal.returns-in_err-x
 unfolding or_stopped
-returns-in_default c =
-    step_stopped (condition_by (signs_from false true c.args.s.now c.args.from)
+returns-in_err-x c =
+    rw c.from_residual.ensures
+    (step_stopped (condition_by (signs_from false true c.args.s.now c.args.from)
     ∙ ap or_stopped (name_unread false true c.args.s.now c.args.from c.name_next.result
-    c.name_next.ensures c.in_default.is _))
+    c.name_next.ensures c.in_err-x.was _)))
 
 pub differ-requires : goal.differ-requires
 differ-requires c =
-    subst (NameInside c.args.s.now) c.in-Found.is c.name_next.ensures.inside
+    subst (NameInside c.args.s.now) c.in_ok-x.was c.name_next.ensures.inside
 
 pub demand-requires : goal.demand-requires
 demand-requires c =
-    subst (NameInside c.args.s.now) c.in-Found.is c.name_next.ensures.inside
+    subst (NameInside c.args.s.now) c.in_ok-x.was c.name_next.ensures.inside
 
-pub returns-in-At : goal.returns-in-At
+pub returns-in-Some : goal.returns-in-Some
 unfolding bracket_of is_mark same mark_bytes variable_at
-returns-in-At c =
+returns-in-Some c =
     record {
       reads = condition_by (signs_from false true c.args.s.now c.args.from)
           ∙ ap or_stopped (name_read false true c.args.s.now c.args.from c.name_next.result
-          c.name_next.ensures c.in-Found.x c.in-Found.a c.in-Found.is _
-          ∙ rest_differs c.args.s.now c.in-Found.a c.mark_next.result c.mark_next.ensures
-          (name_at c.args.s.now c.in-Found.x) asked c.in-At.b c.in-At.is) ∙ c.differ.ensures.reads;
-      moves = step_farther c.args.from c.in-At.b c.differ.result
+          c.name_next.ensures c.in_ok-x.x c.in_ok-x.a c.in_ok-x.was _
+          ∙ rest_differs c.args.s.now c.in_ok-x.a c.mark_next.result c.mark_next.ensures
+          (name_at c.args.s.now c.in_ok-x.x) asked c.in-Some.b c.in-Some.is) ∙ c.differ.ensures.reads;
+      moves = step_farther c.args.from c.in-Some.b (ok_or c.differ.result false)
           (omega (
             arith,
             name_moves false true c.args.s.now c.args.from c.name_next.result
-                c.name_next.ensures c.in-Found.x c.in-Found.a c.in-Found.is,
+                c.name_next.ensures c.in_ok-x.x c.in_ok-x.a c.in_ok-x.was,
             mark_moves false true
-                c.args.s.now c.in-Found.a 15422 c.mark_next.result c.mark_next.ensures
-                c.in-At.b c.in-At.is,
+                c.args.s.now c.in_ok-x.a 15422 c.mark_next.result c.mark_next.ensures
+                c.in-Some.b c.in-Some.is,
           )) c.differ.ensures.moves;
       inside = c.differ.ensures.inside;
-      stands = step_stands c.args.s.now c.differ.result
+      stands = step_stands c.args.s.now (ok_or c.differ.result false)
           (name_stands false true c.args.s.now c.args.from c.name_next.result c.name_next.ensures
-          c.in-Found.x c.in-Found.a c.in-Found.is none
-          ∙ mark_stands false true c.args.s.now c.in-Found.a 15422 c.mark_next.result
-          c.mark_next.ensures c.in-At.b c.in-At.is none) c.differ.ensures.stands;
+          c.in_ok-x.x c.in_ok-x.a c.in_ok-x.was none
+          ∙ mark_stands false true c.args.s.now c.in_ok-x.a 15422 c.mark_next.result
+          c.mark_next.ensures c.in-Some.b c.in-Some.is none) c.differ.ensures.stands;
     }
 
 pub returns-in-None : goal.returns-in-None
@@ -62,15 +64,15 @@ returns-in-None c =
     record {
       reads = condition_by (signs_from false true c.args.s.now c.args.from)
           ∙ ap or_stopped (name_read false true c.args.s.now c.args.from c.name_next.result
-          c.name_next.ensures c.in-Found.x c.in-Found.a c.in-Found.is _
-          ∙ rest_asks c.args.s.now c.in-Found.a c.mark_next.result
-          c.mark_next.ensures (name_at c.args.s.now c.in-Found.x) asked c.in-None.is)
+          c.name_next.ensures c.in_ok-x.x c.in_ok-x.a c.in_ok-x.was _
+          ∙ rest_asks c.args.s.now c.in_ok-x.a c.mark_next.result
+          c.mark_next.ensures (name_at c.args.s.now c.in_ok-x.x) asked c.in-None.is)
           ∙ c.demand.ensures.reads;
-      moves = step_farther c.args.from c.in-Found.a c.demand.result
+      moves = step_farther c.args.from c.in_ok-x.a (ok_or c.demand.result false)
           (name_moves false true c.args.s.now c.args.from c.name_next.result c.name_next.ensures
-          c.in-Found.x c.in-Found.a c.in-Found.is) c.demand.ensures.moves;
+          c.in_ok-x.x c.in_ok-x.a c.in_ok-x.was) c.demand.ensures.moves;
       inside = c.demand.ensures.inside;
-      stands = step_stands c.args.s.now c.demand.result
+      stands = step_stands c.args.s.now (ok_or c.demand.result false)
           (name_stands false true c.args.s.now c.args.from c.name_next.result c.name_next.ensures
-          c.in-Found.x c.in-Found.a c.in-Found.is none) c.demand.ensures.stands;
+          c.in_ok-x.x c.in_ok-x.a c.in_ok-x.was none) c.demand.ensures.stands;
     }

@@ -10,12 +10,13 @@ use mathlib.Core.Bool.{true}
 use mathlib.Core.Path.{ap, subst, ◌∙◌}
 use Rattle.query_pieces.proofs.parts.start.Goals as goal
 
-pub returns-in_default : goal.returns-in_default
+pub returns-in_err-v : goal.returns-in_err-v
 unfolding or_stopped
-returns-in_default c =
-    step_stopped (start_by (signs_from true true c.args.s.now c.args.from)
+returns-in_err-v c =
+    rw c.from_residual.ensures
+    (step_stopped (start_by (signs_from true true c.args.s.now c.args.from)
     ∙ ap or_stopped (vertex_unread true c.args.s.now c.args.from c.vertex.result
-    c.vertex.ensures c.in_default.is _))
+    c.vertex.ensures c.in_err-v.was _)))
 
 pub returns : goal.returns
 unfolding step_of walk_at piece_of spot_of chain_at or_stopped piece_standing
@@ -23,14 +24,14 @@ returns c =
     record {
       reads = start_by (signs_from true true c.args.s.now c.args.from)
           ∙ ap or_stopped (vertex_read true c.args.s.now c.args.from c.vertex.result c.vertex.ensures
-          c.in-Found.v c.in-Found.q c.in-Found.is _);
+          c.in_ok-v.v c.in_ok-v.q c.in_ok-v.was _);
       moves = omega (
         arith,
         vertex_moves true c.args.s.now c.args.from c.vertex.result c.vertex.ensures
-            c.in-Found.v c.in-Found.q c.in-Found.is,
+            c.in_ok-v.v c.in_ok-v.q c.in_ok-v.was,
       );
-      inside = subst (NameInside c.args.s.now) c.in-Found.is c.vertex.ensures.inside;
+      inside = subst (NameInside c.args.s.now) c.in_ok-v.was c.vertex.ensures.inside;
       stands = vertex_stands true c.args.s.now
-          c.args.from c.vertex.result c.vertex.ensures c.in-Found.v c.in-Found.q
-          c.in-Found.is none;
+          c.args.from c.vertex.result c.vertex.ensures c.in_ok-v.v c.in_ok-v.q
+          c.in_ok-v.was none;
     }

@@ -11,56 +11,59 @@ use mathlib.Core.Bool.{true, false}
 use mathlib.Core.Path.{ap, subst, ◌∙◌}
 use Rattle.query_pieces.proofs.parts.vertex.Goals as goal
 
-pub returns-in_default : goal.returns-in_default
+pub returns-in_err-a : goal.returns-in_err-a
 unfolding vertex_then on_vertex mark_bytes
-returns-in_default c =
-    vertex_missed (λ f. mark_unread true c.args.close c.args.s.now c.args.from 40 c.mark_next.result
-    c.mark_next.ensures c.in_default.is _)
+returns-in_err-a c =
+    rw c.from_residual.ensures
+    (vertex_missed (λ f. mark_unread true c.args.close c.args.s.now c.args.from 40 c.mark_next.result
+    c.mark_next.ensures c.in_err-a.was _))
 
-pub returns-in_default-name_next : goal.returns-in_default-name_next
+pub returns-in_err-v : goal.returns-in_err-v
 unfolding vertex_then on_vertex mark_bytes
-returns-in_default-name_next c =
-    vertex_missed (λ f. mark_read true c.args.close c.args.s.now c.args.from 40 c.mark_next.result
-    c.mark_next.ensures c.in-At.a c.in-At.is _
-    ∙ name_unread true false c.args.s.now c.in-At.a c.name_next.result
-    c.name_next.ensures c.in_default-name_next.is _)
+returns-in_err-v c =
+    rw c.from_residual-in_err-v.ensures
+    (vertex_missed (λ f. mark_read true c.args.close c.args.s.now c.args.from 40 c.mark_next.result
+    c.mark_next.ensures c.in_ok-a.a c.in_ok-a.was _
+    ∙ name_unread true false c.args.s.now c.in_ok-a.a c.name_next.result
+    c.name_next.ensures c.in_err-v.was _))
 
-pub returns-in_default-mark_next : goal.returns-in_default-mark_next
+pub returns-in_err-q : goal.returns-in_err-q
 unfolding vertex_then on_vertex mark_bytes
-returns-in_default-mark_next c =
-    vertex_missed (λ f. mark_read true c.args.close c.args.s.now c.args.from 40 c.mark_next.result
-    c.mark_next.ensures c.in-At.a c.in-At.is _
-    ∙ name_read true false c.args.s.now c.in-At.a c.name_next.result c.name_next.ensures
-    c.in-Found.v c.in-Found.b c.in-Found.is _
-    ∙ mark_unread true true c.args.s.now c.in-Found.b 41 c.mark_next-2.result
-    c.mark_next-2.ensures c.in_default-mark_next.is _)
+returns-in_err-q c =
+    rw c.from_residual-in_err-q.ensures
+    (vertex_missed (λ f. mark_read true c.args.close c.args.s.now c.args.from 40 c.mark_next.result
+    c.mark_next.ensures c.in_ok-a.a c.in_ok-a.was _
+    ∙ name_read true false c.args.s.now c.in_ok-a.a c.name_next.result c.name_next.ensures
+    c.in_ok-v.v c.in_ok-v.b c.in_ok-v.was _
+    ∙ mark_unread true true c.args.s.now c.in_ok-v.b 41 c.mark_next-2.result
+    c.mark_next-2.ensures c.in_err-q.was _))
 
 pub returns : goal.returns
 unfolding vertex_then on_vertex mark_bytes bracket_of is_mark same variable_at
 returns c =
     record {
       reads = λ f. mark_read true c.args.close c.args.s.now c.args.from 40 c.mark_next.result
-          c.mark_next.ensures c.in-At.a c.in-At.is _
-          ∙ name_read true false c.args.s.now c.in-At.a c.name_next.result c.name_next.ensures
-          c.in-Found.v c.in-Found.b c.in-Found.is _
-          ∙ mark_read true true c.args.s.now c.in-Found.b 41 c.mark_next-2.result c.mark_next-2.ensures
-          c.in-At-mark_next.q c.in-At-mark_next.is _;
+          c.mark_next.ensures c.in_ok-a.a c.in_ok-a.was _
+          ∙ name_read true false c.args.s.now c.in_ok-a.a c.name_next.result c.name_next.ensures
+          c.in_ok-v.v c.in_ok-v.b c.in_ok-v.was _
+          ∙ mark_read true true c.args.s.now c.in_ok-v.b 41 c.mark_next-2.result c.mark_next-2.ensures
+          c.in_ok-q.q c.in_ok-q.was _;
       moves = omega (
         arith,
         mark_moves true c.args.close c.args.s.now c.args.from 40 c.mark_next.result
-            c.mark_next.ensures c.in-At.a c.in-At.is,
-        name_moves true false c.args.s.now c.in-At.a
-            c.name_next.result c.name_next.ensures c.in-Found.v c.in-Found.b
-            c.in-Found.is,
-        mark_moves true true c.args.s.now c.in-Found.b 41 c.mark_next-2.result
-            c.mark_next-2.ensures c.in-At-mark_next.q c.in-At-mark_next.is,
+            c.mark_next.ensures c.in_ok-a.a c.in_ok-a.was,
+        name_moves true false c.args.s.now c.in_ok-a.a
+            c.name_next.result c.name_next.ensures c.in_ok-v.v c.in_ok-v.b
+            c.in_ok-v.was,
+        mark_moves true true c.args.s.now c.in_ok-v.b 41 c.mark_next-2.result
+            c.mark_next-2.ensures c.in_ok-q.q c.in_ok-q.was,
       );
-      inside = subst (NameInside c.args.s.now) c.in-Found.is c.name_next.ensures.inside;
+      inside = subst (NameInside c.args.s.now) c.in_ok-v.was c.name_next.ensures.inside;
       stands = λ o. mark_stands true c.args.close
-          c.args.s.now c.args.from 40 c.mark_next.result c.mark_next.ensures c.in-At.a
-          c.in-At.is o ∙ name_stands true false c.args.s.now c.in-At.a c.name_next.result
-          c.name_next.ensures c.in-Found.v c.in-Found.b c.in-Found.is round
-          ∙ ap (λ l. vertex c.in-Found.v ∷ l)
-          (mark_stands true true c.args.s.now c.in-Found.b 41 c.mark_next-2.result
-          c.mark_next-2.ensures c.in-At-mark_next.q c.in-At-mark_next.is none);
+          c.args.s.now c.args.from 40 c.mark_next.result c.mark_next.ensures c.in_ok-a.a
+          c.in_ok-a.was o ∙ name_stands true false c.args.s.now c.in_ok-a.a c.name_next.result
+          c.name_next.ensures c.in_ok-v.v c.in_ok-v.b c.in_ok-v.was round
+          ∙ ap (λ l. vertex c.in_ok-v.v ∷ l)
+          (mark_stands true true c.args.s.now c.in_ok-v.b 41 c.mark_next-2.result
+          c.mark_next-2.ensures c.in_ok-q.q c.in_ok-q.was none);
     }

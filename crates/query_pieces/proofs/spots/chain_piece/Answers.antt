@@ -1,14 +1,15 @@
 use Rattle.query_pieces.proofs.PartLaws.{step_stopped}
 use Rattle.query_pieces.proofs.SpotLaws.{step_same, chain_link, no_link_law, chain_where, chain_match, chain_return, chain_none}
-use mathlib.Core.Path.{sym, ap, ◌∙◌}
-use Rattle.query_pieces.specs.Steps.{arrow_behind}
+use mathlib.Core.Path.{sym, ap, subst, ◌∙◌}
+use Rattle.query_signs.specs.Marks.{code_or, IsCode}
+use native.Mathlib.Omega.{arith}
 use Rattle.query_pieces.proofs.spots.chain_piece.Goals as goal
 
-pub returns-then-arrow-ne-NONE : goal.returns-then-arrow-ne-NONE
-returns-then-arrow-ne-NONE c =
+pub returns-in-Some : goal.returns-in-Some
+returns-in-Some c =
     step_same _ _ c.args.s.now c.args.q c.link.result
-    (chain_link c.args.s.now c.args.t c.args.q _
-    (c.arrow_behind-arrow.ensures ∙ ap arrow_behind c.mark_code.ensures) c.if-arrow-ne-NONE.true) c.link.ensures
+    (chain_link c.args.s.now c.args.t c.args.q c.in-Some.arrow
+    (ap code_or (sym c.in-Some.is) ∙ c.arrow_behind.ensures.reads) (λ z. let some = subst IsCode c.in-Some.is c.arrow_behind.ensures.some in omega arith)) c.link.ensures
 
 pub returns-then-is_word : goal.returns-then-is_word
 returns-then-is_word c =
@@ -31,7 +32,7 @@ returns-then-is_word-3 c =
 pub returns : goal.returns
 returns c =
     let none = no_link_law c.args.s.now c.args.t c.args.q
-    (sym (c.arrow_behind-arrow.ensures ∙ ap arrow_behind c.mark_code.ensures) ∙ c.if-arrow-ne-NONE.false) in
+    (sym c.arrow_behind.ensures.reads ∙ ap code_or c.in_default.is) in
     step_stopped (chain_none c.args.s.now c.args.t c.args.q none.0 none.1
     (sym c.is_word.ensures ∙ c.if-is_word.false) (sym c.is_word-2.ensures ∙ c.if-is_word-2.false)
     (sym c.is_word-3.ensures ∙ c.if-is_word-3.false))

@@ -2,7 +2,7 @@
 use Rattle.query_signs.proofs.ExpectLaws.{mark_end}
 use Rattle.query_signs.proofs.FrontLaws.{mark_other, mark_number, mark_next}
 use Rattle.query_signs.proofs.SignLaws.{none_left, mark_small}
-use Rattle.query_signs.specs.Marks.{mark_got}
+use Rattle.query_signs.specs.Marks.{mark_got, code_or}
 use native.Mathlib.Omega.{arith}
 use mathlib.Core.Path.{sym, ap, ◌∙◌}
 use Rattle.query_signs.proofs.expected.mark_next.Goals as goal
@@ -13,11 +13,18 @@ returns-then-s-at c =
     (none_left c.args.chain c.args.close c.args.s.now c.args.from c.blanks_end-at.result
     c.blanks_end-at.ensures c.if-s-at.true)
 
-pub returns-then-mark_at-code : goal.returns-then-mark_at-code
-returns-then-mark_at-code c =
+pub returns-in_err-found : goal.returns-in_err-found
+returns-in_err-found c =
+    rw c.from_residual.ensures
+    (mark_other c.args.chain c.args.close c.args.s.now c.args.from c.blanks_end-at.result
+    c.blanks_end-at.ensures c.if-s-at.false c.args.code 0
+    (ap (λ r. mark_got (code_or r)) (sym c.in_err-found.was) ∙ c.mark_at.ensures.reads) (λ z. omega (arith, c.requires)))
+
+pub returns-then-found-code : goal.returns-then-found-code
+returns-then-found-code c =
     mark_other c.args.chain c.args.close c.args.s.now c.args.from c.blanks_end-at.result
-    c.blanks_end-at.ensures c.if-s-at.false c.args.code c.mark_at.result
-    c.mark_at.ensures c.if-mark_at-code.true
+    c.blanks_end-at.ensures c.if-s-at.false c.args.code c.in_ok-found.found
+    (ap (λ r. mark_got (code_or r)) (sym c.in_ok-found.was) ∙ c.mark_at.ensures.reads) c.if-found-code.true
 
 pub returns-then-starts_number : goal.returns-then-starts_number
 returns-then-starts_number c =
@@ -31,5 +38,5 @@ pub returns : goal.returns
 returns c =
     mark_next c.args.chain c.args.close c.args.s.now c.args.from c.blanks_end-at.result
     c.blanks_end-at.ensures c.if-s-at.false c.args.code c.requires c.mark_size.result
-    (ap mark_got (sym c.if-mark_at-code.false) ∙ c.mark_at.ensures)
+    (ap mark_got (sym c.if-found-code.false) ∙ ap (λ r. mark_got (code_or r)) (sym c.in_ok-found.was) ∙ c.mark_at.ensures.reads)
     (sym c.starts_number.ensures ∙ c.if-starts_number.false) c.mark_size.ensures

@@ -12,18 +12,19 @@ returns-then-not-is_letter c =
     c.blanks_end-at.ensures
     (ap is_letter (sym c.peek.ensures) ∙ sym c.is_letter.ensures ∙ c.if-not-is_letter.true)
 
-pub returns-in_default : goal.returns-in_default
-returns-in_default c =
-    name_long c.args.chain c.args.close c.args.s.now c.args.from c.blanks_end-at.result
+pub returns-in_err-q : goal.returns-in_err-q
+returns-in_err-q c =
+    rw c.from_residual.ensures
+    (name_long c.args.chain c.args.close c.args.s.now c.args.from c.blanks_end-at.result
     c.blanks_end-at.ensures (ap is_letter (sym c.peek.ensures) ∙ sym c.is_letter.ensures
-    ∙ c.if-not-is_letter.false) (sym c.in_default.is ∙ c.word.ensures)
+    ∙ c.if-not-is_letter.false) (sym c.in_err-q.was ∙ c.word.ensures))
 
 pub returns-then-touches : goal.returns-then-touches
 returns-then-touches c =
     name_close c.args.chain c.args.close c.args.s.now c.args.from c.blanks_end-at.result
     c.blanks_end-at.ensures (ap is_letter (sym c.peek.ensures) ∙ sym c.is_letter.ensures
-    ∙ c.if-not-is_letter.false) c.in-At.q
-    (sym c.in-At.is ∙ c.word.ensures) (sym c.touches.ensures ∙ c.if-touches.true)
+    ∙ c.if-not-is_letter.false) c.in_ok-q.q
+    (sym c.in_ok-q.was ∙ c.word.ensures) (sym c.touches.ensures ∙ c.if-touches.true)
 
 pub slice_bounds-is_query_name-count : goal.slice_bounds-is_query_name-count
 slice_bounds-is_query_name-count c =
@@ -32,8 +33,8 @@ slice_bounds-is_query_name-count c =
       name_within c.args.chain c.args.close c.args.s.now c.args.from
           c.blanks_end-at.result c.blanks_end-at.ensures
           (ap is_letter (sym c.peek.ensures) ∙ sym c.is_letter.ensures
-          ∙ c.if-not-is_letter.false) c.in-At.q
-          (sym c.in-At.is ∙ c.word.ensures),
+          ∙ c.if-not-is_letter.false) c.in_ok-q.q
+          (sym c.in_ok-q.was ∙ c.word.ensures),
     )
 
 pub slice_bounds-is_query_name-start : goal.slice_bounds-is_query_name-start
@@ -43,8 +44,8 @@ slice_bounds-is_query_name-start c =
       name_within c.args.chain c.args.close c.args.s.now c.args.from
           c.blanks_end-at.result c.blanks_end-at.ensures
           (ap is_letter (sym c.peek.ensures) ∙ sym c.is_letter.ensures
-          ∙ c.if-not-is_letter.false) c.in-At.q
-          (sym c.in-At.is ∙ c.word.ensures),
+          ∙ c.if-not-is_letter.false) c.in_ok-q.q
+          (sym c.in_ok-q.was ∙ c.word.ensures),
     )
 
 pub slice_bounds-is_query_name-end : goal.slice_bounds-is_query_name-end
@@ -54,8 +55,8 @@ slice_bounds-is_query_name-end c =
       name_within c.args.chain c.args.close c.args.s.now c.args.from
           c.blanks_end-at.result c.blanks_end-at.ensures
           (ap is_letter (sym c.peek.ensures) ∙ sym c.is_letter.ensures
-          ∙ c.if-not-is_letter.false) c.in-At.q
-          (sym c.in-At.is ∙ c.word.ensures),
+          ∙ c.if-not-is_letter.false) c.in_ok-q.q
+          (sym c.in_ok-q.was ∙ c.word.ensures),
     )
 
 pub overflow_sub-result : goal.overflow_sub-result
@@ -65,7 +66,7 @@ overflow_sub-result c =
       name_within c.args.chain c.args.close c.args.s.now c.args.from
           c.blanks_end-at.result c.blanks_end-at.ensures
           (ap is_letter (sym c.peek.ensures) ∙ sym c.is_letter.ensures
-          ∙ c.if-not-is_letter.false) c.in-At.q (sym c.in-At.is ∙ c.word.ensures),
+          ∙ c.if-not-is_letter.false) c.in_ok-q.q (sym c.in_ok-q.was ∙ c.word.ensures),
     )
 
 pub returns-then-is_query_name : goal.returns-then-is_query_name
@@ -73,7 +74,7 @@ unfolding part_of
 returns-then-is_query_name c =
     name_found c.args.chain c.args.close c.args.s.now c.args.from c.blanks_end-at.result
     c.blanks_end-at.ensures (ap is_letter (sym c.peek.ensures) ∙ sym c.is_letter.ensures
-    ∙ c.if-not-is_letter.false) c.in-At.q (sym c.in-At.is ∙ c.word.ensures)
+    ∙ c.if-not-is_letter.false) c.in_ok-q.q (sym c.in_ok-q.was ∙ c.word.ensures)
     (sym c.touches.ensures ∙ c.if-touches.false) (sym c.is_query_name.ensures ∙ c.if-is_query_name.true)
 
 pub returns : goal.returns
@@ -81,5 +82,5 @@ unfolding part_of
 returns c =
     name_reserved c.args.chain c.args.close c.args.s.now c.args.from c.blanks_end-at.result
     c.blanks_end-at.ensures (ap is_letter (sym c.peek.ensures) ∙ sym c.is_letter.ensures
-    ∙ c.if-not-is_letter.false) c.in-At.q (sym c.in-At.is ∙ c.word.ensures)
+    ∙ c.if-not-is_letter.false) c.in_ok-q.q (sym c.in_ok-q.was ∙ c.word.ensures)
     (sym c.touches.ensures ∙ c.if-touches.false) (sym c.is_query_name.ensures ∙ c.if-is_query_name.false)

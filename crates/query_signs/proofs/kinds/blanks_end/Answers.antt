@@ -1,28 +1,24 @@
+-- `query_signs::kinds::blanks_end` meets its contract. The loop's invariant: the run of blanks from i on ends where the one from the start ends.
+use Rattle.text.proofs.PlaceLaws.{past_step_in, past_stop_in, past_end}
 use Rattle.query_signs.specs.Reads.{is_blank}
-use Rattle.text.proofs.PlaceLaws.{test_in, past_step, past_stop}
-use mathlib.Core.Bool.{true}
 use native.Mathlib.Omega.{arith}
-use Prim.Native.Nat.{◌-◌}
-use mathlib.Core.Path.{refl, sym, ap, ◌∙◌}
+use mathlib.Core.Path.{◌≡◌, refl, sym, ◌∙◌}
 use Rattle.query_signs.proofs.kinds.blanks_end.Goals as goal
 
 pub loop-i-init : goal.loop-i-init
-loop-i-init c = refl
+loop-i-init c = (omega arith, refl)
 
-pub overflow_add-i : goal.overflow_add-i
-unfolding is_blank
-overflow_add-i c = omega (arith, test_in is_blank c.args.s.now c.loop-i.i refl (ap is_blank (sym c.peek.ensures) ∙ sym c.is_blank.ensures ∙ c.loop-i-test.true))
-
-pub loop-i-smaller : goal.loop-i-smaller
-unfolding is_blank
-loop-i-smaller c = omega (arith, test_in is_blank c.args.s.now c.loop-i.i refl (ap is_blank (sym c.peek.ensures) ∙ sym c.is_blank.ensures ∙ c.loop-i-test.true))
+pub returns-then-not-is_blank : goal.returns-then-not-is_blank
+returns-then-not-is_blank c =
+    sym (past_stop_in is_blank c.args.s.now c.loop-i.i (omega arith)
+    (sym c.is_blank.ensures ∙ c.if-not-is_blank.true)) ∙ c.loop-i.invariant.1
 
 pub loop-i-preserved : goal.loop-i-preserved
-unfolding is_blank
-loop-i-preserved c =
-    sym (past_step is_blank c.args.s.now c.loop-i.i refl (ap is_blank (sym c.peek.ensures) ∙ sym c.is_blank.ensures ∙ c.loop-i-test.true)) ∙ c.loop-i.invariant
+loop-i-preserved c = (
+  omega arith,
+  sym (past_step_in is_blank c.args.s.now c.loop-i.i (omega arith)
+      (sym c.is_blank.ensures ∙ c.if-not-is_blank.false)) ∙ c.loop-i.invariant.1,
+)
 
 pub returns : goal.returns
-returns c =
-    sym (past_stop is_blank c.args.s.now c.loop-i.i
-    (ap is_blank (sym c.peek.ensures) ∙ sym c.is_blank.ensures ∙ c.loop-i-test.false)) ∙ c.loop-i.invariant
+returns c = (let e : c.max.result ≡ c.loop-i.i = omega arith in e) ∙ sym (past_end is_blank c.args.s.now c.loop-i.i (omega arith)) ∙ c.loop-i.invariant.1

@@ -1,6 +1,6 @@
-use Rattle.query_signs.proofs.MarkLaws.{peek_bound, mark_arrow, mark_pair, mark_one, mark_none}
+use Rattle.query_signs.proofs.MarkLaws.{peek_bound, mark_arrow, mark_pair, mark_one, mark_none, arrow_some, pair_some, single_some}
 use native.Mathlib.Omega.{arith}
-use Prim.Native.Nat.{◌+◌}
+use Prim.Native.Nat.{◌+◌, ◌*◌}
 use mathlib.Core.Path.{sym, ◌∙◌}
 use Rattle.query_signs.proofs.marks.mark_at.Goals as goal
 
@@ -22,26 +22,38 @@ overflow_add-pair c =
 
 pub returns-then-is_arrow : goal.returns-then-is_arrow
 returns-then-is_arrow c =
-    mark_arrow c.args.s.now c.args.at c.requires (λ i. (c.type_inv.s i).fits)
-    c.peek-b.result c.peek.result c.peek-b.ensures
-    c.peek.ensures c.args.chain (sym c.is_arrow.ensures ∙ c.if-is_arrow.true)
+    record {
+      reads = mark_arrow c.args.s.now c.args.at c.requires (λ i. (c.type_inv.s i).fits)
+          c.peek-b.result c.peek.result c.peek-b.ensures
+          c.peek.ensures c.args.chain (sym c.is_arrow.ensures ∙ c.if-is_arrow.true);
+      some = arrow_some c.args.chain (c.peek-b.result * 256 + c.peek.result) (sym c.is_arrow.ensures ∙ c.if-is_arrow.true);
+    }
 
 pub returns-then-is_pair : goal.returns-then-is_pair
 returns-then-is_pair c =
-    mark_pair c.args.s.now c.args.at c.requires (λ i. (c.type_inv.s i).fits)
-    c.peek-b.result c.peek.result c.peek-b.ensures c.peek.ensures c.args.chain
-    (sym c.is_arrow.ensures ∙ c.if-is_arrow.false) (sym c.is_pair.ensures ∙ c.if-is_pair.true)
+    record {
+      reads = mark_pair c.args.s.now c.args.at c.requires (λ i. (c.type_inv.s i).fits)
+          c.peek-b.result c.peek.result c.peek-b.ensures c.peek.ensures c.args.chain
+          (sym c.is_arrow.ensures ∙ c.if-is_arrow.false) (sym c.is_pair.ensures ∙ c.if-is_pair.true);
+      some = pair_some (c.peek-b.result * 256 + c.peek.result) (sym c.is_pair.ensures ∙ c.if-is_pair.true);
+    }
 
 pub returns-then-is_single : goal.returns-then-is_single
 returns-then-is_single c =
-    mark_one c.args.s.now c.args.at c.requires (λ i. (c.type_inv.s i).fits)
-    c.peek-b.result c.peek.result c.peek-b.ensures c.peek.ensures c.args.chain
-    (sym c.is_arrow.ensures ∙ c.if-is_arrow.false) (sym c.is_pair.ensures ∙ c.if-is_pair.false)
-    (sym c.is_single.ensures ∙ c.if-is_single.true)
+    record {
+      reads = mark_one c.args.s.now c.args.at c.requires (λ i. (c.type_inv.s i).fits)
+          c.peek-b.result c.peek.result c.peek-b.ensures c.peek.ensures c.args.chain
+          (sym c.is_arrow.ensures ∙ c.if-is_arrow.false) (sym c.is_pair.ensures ∙ c.if-is_pair.false)
+          (sym c.is_single.ensures ∙ c.if-is_single.true);
+      some = single_some c.peek-b.result (sym c.is_single.ensures ∙ c.if-is_single.true);
+    }
 
 pub returns : goal.returns
 returns c =
-    mark_none c.args.s.now c.args.at c.requires (λ i. (c.type_inv.s i).fits)
-    c.peek-b.result c.peek.result c.peek-b.ensures c.peek.ensures c.args.chain
-    (sym c.is_arrow.ensures ∙ c.if-is_arrow.false) (sym c.is_pair.ensures ∙ c.if-is_pair.false)
-    (sym c.is_single.ensures ∙ c.if-is_single.false)
+    record {
+      reads = mark_none c.args.s.now c.args.at c.requires (λ i. (c.type_inv.s i).fits)
+          c.peek-b.result c.peek.result c.peek-b.ensures c.peek.ensures c.args.chain
+          (sym c.is_arrow.ensures ∙ c.if-is_arrow.false) (sym c.is_pair.ensures ∙ c.if-is_pair.false)
+          (sym c.is_single.ensures ∙ c.if-is_single.false);
+      some = tt;
+    }

@@ -4,31 +4,32 @@ use native.Mathlib.Omega.{arith}
 use mathlib.Core.Path.{sym, ◌∙◌}
 use Rattle.query_signs.proofs.reading.text_sign.Goals as goal
 
-pub returns-in_default : goal.returns-in_default
-returns-in_default c =
-    record { got = text_none c.args.s.now c.args.at (sym c.in_default.is ∙ c.text_value.ensures); part = tt }
+pub returns-in_err-q : goal.returns-in_err-q
+returns-in_err-q c =
+    rw c.from_residual.ensures
+    (record { got = text_none c.args.s.now c.args.at (sym c.in_err-q.was ∙ c.text_value.ensures); part = tt })
 
 pub overflow_sub-result : goal.overflow_sub-result
 overflow_sub-result c =
     omega (
       arith,
-      text_behind c.args.s.now c.args.at c.in-At.q
-          (sym c.in-At.is ∙ c.text_value.ensures),
+      text_behind c.args.s.now c.args.at c.in_ok-q.q
+          (sym c.in_ok-q.was ∙ c.text_value.ensures),
     )
 
 pub overflow_sub-result-2 : goal.overflow_sub-result-2
 overflow_sub-result-2 c =
     omega (
       arith,
-      text_behind c.args.s.now c.args.at c.in-At.q
-          (sym c.in-At.is ∙ c.text_value.ensures),
+      text_behind c.args.s.now c.args.at c.in_ok-q.q
+          (sym c.in_ok-q.was ∙ c.text_value.ensures),
     )
 
 pub returns : goal.returns
 returns c =
     record {
-      got = text_found c.args.s.now c.args.at c.in-At.q
-          (sym c.in-At.is ∙ c.text_value.ensures);
+      got = text_found c.args.s.now c.args.at c.in_ok-q.q
+          (sym c.in_ok-q.was ∙ c.text_value.ensures);
       part = text_part c.args.s.now c.args.at
-          c.in-At.q (sym c.in-At.is ∙ c.text_value.ensures);
+          c.in_ok-q.q (sym c.in_ok-q.was ∙ c.text_value.ensures);
     }

@@ -25,24 +25,24 @@ returns-in_default c =
 
 pub has_name-requires : goal.has_name-requires
 has_name-requires c =
-    (subst (StepInside c.args.s.now) c.in-Found.is c.next_piece.ensures.inside, c.requires)
+    (subst (StepInside c.args.s.now) c.in-Ok.is c.next_piece.ensures.inside, c.requires)
 
 pub returns-then-has_name : goal.returns-then-has_name
 returns-then-has_name c =
     sym (stands_here (name_at c.args.s.now c.args.name) c.args.which c.args.count c.loop-i.i
-    c.loop-i-test.true (piece_of c.args.s.now c.in-Found.x.piece)
-    (found_at c.args.s.now c.loop-i.place) (found_at c.args.s.now c.in-Found.x.next)
+    c.loop-i-test.true (piece_of c.args.s.now c.in-Ok.x.piece)
+    (found_at c.args.s.now c.loop-i.place) (found_at c.args.s.now c.in-Ok.x.next)
     (step_list c.args.s.now c.loop-i.place c.next_piece.result c.next_piece.ensures
-    c.in-Found.x c.in-Found.is) (sym c.has_name.ensures ∙ c.if-has_name.true)) ∙ c.loop-i.invariant.1
+    c.in-Ok.x c.in-Ok.is) (sym c.has_name.ensures ∙ c.if-has_name.true)) ∙ c.loop-i.invariant.1
 
 pub loop-i-preserved : goal.loop-i-preserved
 loop-i-preserved c = (
   omega arith,
   sym (stands_on (name_at c.args.s.now c.args.name) c.args.which c.args.count c.loop-i.i
-      c.loop-i-test.true (piece_of c.args.s.now c.in-Found.x.piece)
-      (found_at c.args.s.now c.loop-i.place) (found_at c.args.s.now c.in-Found.x.next)
+      c.loop-i-test.true (piece_of c.args.s.now c.in-Ok.x.piece)
+      (found_at c.args.s.now c.loop-i.place) (found_at c.args.s.now c.in-Ok.x.next)
       (step_list c.args.s.now c.loop-i.place c.next_piece.result c.next_piece.ensures
-      c.in-Found.x c.in-Found.is) (sym c.has_name.ensures ∙ c.if-has_name.false)) ∙ c.loop-i.invariant.1,
+      c.in-Ok.x c.in-Ok.is) (sym c.has_name.ensures ∙ c.if-has_name.false)) ∙ c.loop-i.invariant.1,
 )
 
 pub returns : goal.returns

@@ -9,6 +9,3 @@ use Rattle.query_survey.proofs.scan.stands.Given as goal
 abbrev pub invariant-loop-i : goal.invariant-loop-i
 invariant-loop-i l = (l.i ≤ l.count)
     × (mem (name_at l.s l.name) (names_in l.which (take (l.count - l.i) (found_at l.s l.place))) ≡ mem (name_at l.s l.name) (names_in l.which (take l.count (found_at l.s l.initial.place))))
-
-abbrev pub decreases-loop-i : goal.decreases-loop-i
-decreases-loop-i l = l.count - l.i

@@ -1,25 +1,23 @@
-use borrow.Author.Tests.{eq-eqb, ne_eqb}
+-- `query_survey::tallies::is_over` meets its contract: a limit is passed where nothing is left of it.
+use Rattle.std.specs.Prelude.{ℕ, zero, suc, nat_eq, ◌≡◌, Bool, true, false, ◌||◌, eqb}
 use Rattle.query_survey.specs.Survey.{over_limit}
+use mathlib.Core.Path.{refl, ◌∙◌}
 use Rattle.query_survey.proofs.tallies.is_over.Goals as goal
 
-pub returns-then-t-eq0 : goal.returns-then-t-eq0
-unfolding over_limit
-returns-then-t-eq0 c = rw (eq-eqb _ _ c.if-t-eq0.true)
+none_left : (n : ℕ) → nat_eq n 0 ≡ eqb n 0
+none_left zero = refl
+none_left (suc n) = refl
 
-pub returns-then-t-eq0-2 : goal.returns-then-t-eq0-2
-unfolding over_limit
-returns-then-t-eq0-2 c = rw (ne_eqb _ _ c.if-t-eq0.false, eq-eqb _ _ c.if-t-eq0-2.true)
-
-pub returns-then-t-eq0-3 : goal.returns-then-t-eq0-3
-unfolding over_limit
-returns-then-t-eq0-3 c = rw (ne_eqb _ _ c.if-t-eq0.false, ne_eqb _ _ c.if-t-eq0-2.false, eq-eqb _ _ c.if-t-eq0-3.true)
-
-pub returns-then-t-eq0-4 : goal.returns-then-t-eq0-4
-unfolding over_limit
-returns-then-t-eq0-4 c =
-    rw (ne_eqb _ _ c.if-t-eq0.false, ne_eqb _ _ c.if-t-eq0-2.false, ne_eqb _ _ c.if-t-eq0-3.false, eq-eqb _ _ c.if-t-eq0-4.true)
+any_of_five : (a b c d e : Bool) → (a || (b || (c || (d || (e || false))))) ≡ (a || b || c || d || e)
+any_of_five true b c d e = refl
+any_of_five false true c d e = refl
+any_of_five false false true d e = refl
+any_of_five false false false true e = refl
+any_of_five false false false false true = refl
+any_of_five false false false false false = refl
 
 pub returns : goal.returns
 unfolding over_limit
-returns c =
-    rw (ne_eqb _ _ c.if-t-eq0.false, ne_eqb _ _ c.if-t-eq0-2.false, ne_eqb _ _ c.if-t-eq0-3.false, ne_eqb _ _ c.if-t-eq0-4.false)
+returns c = let t = c.args.t in
+    c.contains.ensures.value ∙ rw (none_left t.vertices, none_left t.edges, none_left t.exclusions, none_left t.requirements, none_left t.returns)
+    (any_of_five (eqb t.vertices 0) (eqb t.edges 0) (eqb t.exclusions 0) (eqb t.requirements 0) (eqb t.returns 0))

@@ -1,5 +1,4 @@
 -- `put_conditions` meets its contract. The loop's invariant: the first i are put. Assumes nothing.
-use Prim.Native.Nat.{◌-◌}
 use mathlib.Core.Path.{◌≡◌, ap}
 use lib.ListN.{length}
 use native.Mathlib.Omega.{arith}

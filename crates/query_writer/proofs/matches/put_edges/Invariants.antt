@@ -1,11 +1,8 @@
 -- `put_edges` meets its contract. The loop's invariant: the first i are put. Assumes nothing.
-use Prim.Native.Nat.{◌≤◌, ◌-◌}
+use Prim.Native.Nat.{◌≤◌}
 use Rattle.putting.specs.Putting.{Puts}
 use Rattle.query_writer.specs.Pieces.{edges_text}
 use Rattle.query_writer.proofs.matches.put_edges.Given as goal
 
 abbrev pub invariant-loop-i : goal.invariant-loop-i
 invariant-loop-i l = (l.i ≤ l.count) × Puts l.initial.out l.at (edges_text l.book l.words l.query l.vertices l.edges l.i) l.out l.next
-
-abbrev pub decreases-loop-i : goal.decreases-loop-i
-decreases-loop-i l = l.count - l.i

@@ -1,5 +1,4 @@
 -- `put_returns` meets its contract. The loop's invariant: the first i are put. Assumes nothing.
-use Prim.Native.Nat.{◌-◌}
 use mathlib.Core.Path.{◌≡◌, ap}
 use mathlib.Core.List.{[]}
 use lib.ListN.{length}

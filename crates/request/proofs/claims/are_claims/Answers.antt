@@ -1,5 +1,5 @@
 -- `request::claims::are_claims` meets its contract. Assumes nothing.
-use Prim.Native.Nat.{◌-◌}
+use Rattle.std.specs.Prelude.{Some}
 use mathlib.Core.Path.{refl, sym, ap, ◌∙◌}
 use native.Mathlib.Omega.{arith}
 use Rattle.request.specs.Claims.{claim_at}
@@ -12,16 +12,16 @@ loop-i-init c = refl
 pub loop-i-smaller : goal.loop-i-smaller
 loop-i-smaller c =
     let h = placed_at c.args.s.now c.loop-i.i _
-    (ap claim_at (sym c.claim.ensures ∙ c.in-Claim.is))
+    (ap claim_at (sym c.claim.ensures ∙ c.in-Some-Item.is ∙ ap Some c.in-Some-Item.field-0-is))
     (claim_placed c.args.s.now c.loop-i.i) in omega (arith, h.onward)
 
 pub loop-i-preserved : goal.loop-i-preserved
 loop-i-preserved c =
-    read_on c.args.s.now c.loop-i.i (sym c.in-Claim.is ∙ c.claim.ensures) ∙ c.loop-i.invariant
+    read_on c.args.s.now c.loop-i.i (ap Some (sym c.in-Some-Item.field-0-is) ∙ sym c.in-Some-Item.is ∙ c.claim.ensures) ∙ c.loop-i.invariant
 
-pub returns-in-Close : goal.returns-in-Close
-returns-in-Close c =
-    c.form_ends.ensures ∙ read_closed c.args.s.now c.loop-i.i (sym c.in-Close.is ∙ c.claim.ensures)
+pub returns-in-Some-Close : goal.returns-in-Some-Close
+returns-in-Some-Close c =
+    c.form_ends.ensures ∙ read_closed c.args.s.now c.loop-i.i (ap Some (sym c.in-Some-Close.field-0-is) ∙ sym c.in-Some-Close.is ∙ c.claim.ensures)
     ∙ c.loop-i.invariant
 
 pub returns-in-None : goal.returns-in-None

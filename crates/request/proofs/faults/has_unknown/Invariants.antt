@@ -6,7 +6,6 @@ use Rattle.model.specs.Lists.{any}
 use Rattle.book_tables.specs.View.{book_at}
 use Rattle.rules_tables.specs.View.{actors_at}
 use Rattle.request.specs.Claims.{is_unknown, Left}
-use borrow.Author.Rules.{rules}
 use Rattle.request.proofs.faults.has_unknown.Given as goal
 
 abbrev pub invariant-loop-i : goal.invariant-loop-i

@@ -1,7 +1,6 @@
 -- `request::read::read_one` meets its contract. Assumes nothing.
 use Prim.Native.Nat.{◌-◌}
 use mathlib.Core.Path.{◌∙◌}
-use borrow.Author.Rules.{rules}
 use Rattle.model.specs.Answers.{part_of}
 use Rattle.book_tables.specs.View.{book_at}
 use Rattle.rules_tables.specs.View.{rules_at}
@@ -23,18 +22,18 @@ returns-then-to-text c =
     (followed (book_at a.book.now a.words.now a.counts) (rules_at a.rules.now a.table.now a.sizes) a.text.now _
     c.line_end-to.ensures c.if-text-to.false c.if-to-text.true
     ∙ second_line a.counts.nodes a.rules.now a.table.now a.sizes.categories
-    (fed (part_of a.text.now 0 (c.line_end-to.result - 0))) _ _ c.read_line-first.ensures c.in-Accepted.is)
+    (fed (part_of a.text.now 0 (c.line_end-to.result - 0))) _ _ c.read_line-first.ensures c.in-Ok.is)
 
-pub returns-in-Refused : goal.returns-in-Refused
+pub returns-in-Err : goal.returns-in-Err
 unfolding part_of
-returns-in-Refused c =
+returns-in-Err c =
     let a = c.args in
     reads_as a.counts.nodes a.rules.now a.table.now a.sizes.categories a.text.now _ _ c.read_line-first.result
     (first_of (book_at a.book.now a.words.now a.counts) (rules_at a.rules.now a.table.now a.sizes) a.text.now _
     c.line_end-to.ensures c.if-text-to.false)
     (still_refused a.counts.nodes a.rules.now a.table.now a.sizes.categories
     (fed (part_of a.text.now 0 (c.line_end-to.result - 0))) _ c.read_line-first.result c.read_line-first.ensures
-    a.text.now _ _ c.in-Refused.is)
+    a.text.now _ _ c.in-Err.is)
 
 pub returns-else-to-text : goal.returns-else-to-text
 unfolding part_of

@@ -1,5 +1,4 @@
 -- `request::stores::identities` meets its contract. Assumes nothing.
-use Prim.Native.Nat.{◌-◌}
 use mathlib.Core.Path.{sym, ◌∙◌}
 use native.Mathlib.Omega.{arith}
 use Rattle.model.specs.Bytes.{bytes_of}
@@ -9,8 +8,7 @@ use Rattle.rules_tables.specs.View.{actors_at}
 use Rattle.request.proofs.ClaimLaws.{placed_at}
 use Rattle.request.proofs.FaultLaws.{no_actor, no_node_law, both_known, is_4, is_5, is_11, is_none, few_actors, node_unknown, node_known}
 use Rattle.request.proofs.StoreLaws.{storing_start, count_few, unknown_here, unknown_behind, second_time, has_room, storing_next}
-use Rattle.request.proofs.StoreLaws.{all_known, all_once, all_named, stored, stored_over, told_fault}
-use borrow.Author.Rules.{rules}
+use Rattle.request.proofs.StoreLaws.{all_known, all_once, all_named, stored, stored_over}
 use Rattle.request.proofs.stores.identities.Goals as goal
 
 pub loop-i-init : goal.loop-i-init
@@ -30,28 +28,26 @@ returns-then-is_given c =
     let a = c.args in
     let b = book_at a.book.now a.words.now a.counts in
     let few = few_actors a.rules.now a.table.now a.sizes c.requires.1 a.k c.requires.2 in
-    let n = sym c.in_default.is ∙ c.next_claim.ensures.is in
-    record {
-      told = λ w xs e d. is_none a.rules.now a.table.now a.sizes c.requires.1 b w a.k e xs c.requires.2
+    let n = sym c.in_default.is ∙ c.next_claim.ensures.is in (
+      λ w xs e d. is_none a.rules.now a.table.now a.sizes c.requires.1 b w a.k e xs c.requires.2
           (all_known c.loop-i.invariant n xs d) (all_once c.loop-i.invariant n xs d)
-          (all_named c.loop-i.invariant n xs d (bytes_of "requestor") _ c.is_given.ensures ∙ c.if-is_given.true);
-      stored = λ z xs d. stored c.loop-i.invariant n xs d few;
-    }
+          (all_named c.loop-i.invariant n xs d (bytes_of "requestor") _ c.is_given.ensures ∙ c.if-is_given.true),
+      λ xs d. stored c.loop-i.invariant n xs d few,
+    )
 
 pub returns-in_default : goal.returns-in_default
 returns-in_default c =
     let a = c.args in
     let b = book_at a.book.now a.words.now a.counts in
     let n = sym c.in_default.is ∙ c.next_claim.ensures.is in
-    told_fault a.book.now a.words.now a.counts a.rules.now a.table.now a.sizes a.k a.s.now a.from 11 (omega arith)
-    (λ w xs e d. is_11 a.rules.now a.table.now a.sizes c.requires.1 b w a.k e xs c.requires.2
+    λ w xs e d. is_11 a.rules.now a.table.now a.sizes c.requires.1 b w a.k e xs c.requires.2
     (all_known c.loop-i.invariant n xs d) (all_once c.loop-i.invariant n xs d)
-    (all_named c.loop-i.invariant n xs d (bytes_of "requestor") _ c.is_given.ensures ∙ c.if-is_given.false)) _ c.fault_only.ensures
+    (all_named c.loop-i.invariant n xs d (bytes_of "requestor") _ c.is_given.ensures ∙ c.if-is_given.false)
 
 pub part_of-name-requires : goal.part_of-name-requires
 part_of-name-requires c =
     let a = c.args in
-    (placed_at a.s.now c.loop-i.i _ c.in-At.is c.next_claim.ensures.placed).actor.inside
+    (placed_at a.s.now c.loop-i.i _ c.in-Some.is c.next_claim.ensures.placed).actor.inside
 
 pub is_actor-requires : goal.is_actor-requires
 is_actor-requires c =
@@ -62,17 +58,16 @@ returns-then-not-is_actor c =
     let a = c.args in
     let b = book_at a.book.now a.words.now a.counts in
     let actors = actors_at a.rules.now a.table.now a.k in
-    let n = sym c.in-At.is ∙ c.next_claim.ensures.is in
+    let n = sym c.in-Some.is ∙ c.next_claim.ensures.is in
     let none = no_actor actors (node_names b) _
     (sym (rw c.part_of-name.ensures at c.is_actor.ensures) ∙ c.if-not-is_actor.true) in
-    told_fault a.book.now a.words.now a.counts a.rules.now a.table.now a.sizes a.k a.s.now a.from 4 (omega arith)
-    (λ w xs e d. is_4 a.rules.now a.table.now a.sizes c.requires.1 b w a.k e xs c.requires.2
-    (unknown_here c.loop-i.invariant _ _ _ n none xs d)) _ c.fault_only-then-not-is_actor.ensures
+    λ w xs e d. is_4 a.rules.now a.table.now a.sizes c.requires.1 b w a.k e xs c.requires.2
+    (unknown_here c.loop-i.invariant _ _ _ n none xs d)
 
 pub part_of-requires : goal.part_of-requires
 part_of-requires c =
     let a = c.args in
-    (placed_at a.s.now c.loop-i.i _ c.in-At.is c.next_claim.ensures.placed).node.inside
+    (placed_at a.s.now c.loop-i.i _ c.in-Some.is c.next_claim.ensures.placed).node.inside
 
 pub find_node-number-requires : goal.find_node-number-requires
 find_node-number-requires c =
@@ -83,13 +78,12 @@ returns-then-counts-number c =
     let a = c.args in
     let b = book_at a.book.now a.words.now a.counts in
     let actors = actors_at a.rules.now a.table.now a.k in
-    let n = sym c.in-At.is ∙ c.next_claim.ensures.is in
+    let n = sym c.in-Some.is ∙ c.next_claim.ensures.is in
     let none = no_node_law actors (node_names b) _ (sym (rw c.part_of-name.ensures at c.is_actor.ensures) ∙ c.if-not-is_actor.false)
     (node_unknown a.book.now a.words.now a.counts _ _ (rw c.part_of.ensures at c.find_node-number.ensures)
     c.if-counts-number.true) in
-    told_fault a.book.now a.words.now a.counts a.rules.now a.table.now a.sizes a.k a.s.now a.from 4 (omega arith)
-    (λ w xs e d. is_4 a.rules.now a.table.now a.sizes c.requires.1 b w a.k e xs c.requires.2
-    (unknown_here c.loop-i.invariant _ _ _ n none xs d)) _ c.fault_only-then-counts-number.ensures
+    λ w xs e d. is_4 a.rules.now a.table.now a.sizes c.requires.1 b w a.k e xs c.requires.2
+    (unknown_here c.loop-i.invariant _ _ _ n none xs d)
 
 pub is_given-requires-in-loop-i : goal.is_given-requires-in-loop-i
 is_given-requires-in-loop-i c =
@@ -106,46 +100,43 @@ returns-then-has_unknown c =
     let a = c.args in
     let b = book_at a.book.now a.words.now a.counts in
     let actors = actors_at a.rules.now a.table.now a.k in
-    let n = sym c.in-At.is ∙ c.next_claim.ensures.is in
+    let n = sym c.in-Some.is ∙ c.next_claim.ensures.is in
     let known = both_known actors (node_names b) _
     (sym (rw c.part_of-name.ensures at c.is_actor.ensures) ∙ c.if-not-is_actor.false)
     (node_known a.book.now a.words.now a.counts _ _ (rw c.part_of.ensures at c.find_node-number.ensures)
     c.if-counts-number.false) in
-    told_fault a.book.now a.words.now a.counts a.rules.now a.table.now a.sizes a.k a.s.now a.from 4 (omega arith)
-    (λ w xs e d. is_4 a.rules.now a.table.now a.sizes c.requires.1 b w a.k e xs c.requires.2
-    (unknown_behind c.loop-i.invariant _ _ _ n known _ c.has_unknown.ensures xs d ∙ c.if-has_unknown.true)) _ c.fault_only-then-has_unknown.ensures
+    λ w xs e d. is_4 a.rules.now a.table.now a.sizes c.requires.1 b w a.k e xs c.requires.2
+    (unknown_behind c.loop-i.invariant _ _ _ n known _ c.has_unknown.ensures xs d ∙ c.if-has_unknown.true)
 
 pub returns-then-is_given-2 : goal.returns-then-is_given-2
 returns-then-is_given-2 c =
     let a = c.args in
     let b = book_at a.book.now a.words.now a.counts in
     let actors = actors_at a.rules.now a.table.now a.k in
-    let n = sym c.in-At.is ∙ c.next_claim.ensures.is in
+    let n = sym c.in-Some.is ∙ c.next_claim.ensures.is in
     let known = both_known actors (node_names b) _
     (sym (rw c.part_of-name.ensures at c.is_actor.ensures) ∙ c.if-not-is_actor.false)
     (node_known a.book.now a.words.now a.counts _ _ (rw c.part_of.ensures at c.find_node-number.ensures)
     c.if-counts-number.false) in
-    told_fault a.book.now a.words.now a.counts a.rules.now a.table.now a.sizes a.k a.s.now a.from 5 (omega arith)
-    (λ w xs e d. is_5 a.rules.now a.table.now a.sizes c.requires.1 b w a.k e xs c.requires.2
+    λ w xs e d. is_5 a.rules.now a.table.now a.sizes c.requires.1 b w a.k e xs c.requires.2
     (unknown_behind c.loop-i.invariant _ _ _ n known _ c.has_unknown.ensures xs d ∙ c.if-has_unknown.false)
-    (second_time c.loop-i.invariant _ _ _ n known _ (rw c.part_of-name.ensures at c.is_given-in-loop-i.ensures) c.if-is_given-2.true xs d)) _
-    c.fault_only-then-is_given-2.ensures
+    (second_time c.loop-i.invariant _ _ _ n known _ (rw c.part_of-name.ensures at c.is_given-in-loop-i.ensures) c.if-is_given-2.true xs d)
 
 pub offset_bounds-list-count : goal.offset_bounds-list-count
 offset_bounds-list-count c =
-    omega (arith, (let a = c.args in let b = book_at a.book.now a.words.now a.counts in let actors = actors_at a.rules.now a.table.now a.k in let few = few_actors a.rules.now a.table.now a.sizes c.requires.1 a.k c.requires.2 in let n = sym c.in-At.is ∙ c.next_claim.ensures.is in let known = both_known actors (node_names b) _ (sym (rw c.part_of-name.ensures at c.is_actor.ensures) ∙ c.if-not-is_actor.false) (node_known a.book.now a.words.now a.counts _ _ (rw c.part_of.ensures at c.find_node-number.ensures) c.if-counts-number.false) in has_room c.loop-i.invariant _ _ _ n known _ (rw c.part_of-name.ensures at c.is_given-in-loop-i.ensures) c.if-is_given-2.false few), c.loop-i.invariant.size)
+    omega (arith, (let a = c.args in let b = book_at a.book.now a.words.now a.counts in let actors = actors_at a.rules.now a.table.now a.k in let few = few_actors a.rules.now a.table.now a.sizes c.requires.1 a.k c.requires.2 in let n = sym c.in-Some.is ∙ c.next_claim.ensures.is in let known = both_known actors (node_names b) _ (sym (rw c.part_of-name.ensures at c.is_actor.ensures) ∙ c.if-not-is_actor.false) (node_known a.book.now a.words.now a.counts _ _ (rw c.part_of.ensures at c.find_node-number.ensures) c.if-counts-number.false) in has_room c.loop-i.invariant _ _ _ n known _ (rw c.part_of-name.ensures at c.is_given-in-loop-i.ensures) c.if-is_given-2.false few), c.loop-i.invariant.size)
 
 pub bounds-list-count : goal.bounds-list-count
 bounds-list-count c =
-    omega (arith, (let a = c.args in let b = book_at a.book.now a.words.now a.counts in let actors = actors_at a.rules.now a.table.now a.k in let few = few_actors a.rules.now a.table.now a.sizes c.requires.1 a.k c.requires.2 in let n = sym c.in-At.is ∙ c.next_claim.ensures.is in let known = both_known actors (node_names b) _ (sym (rw c.part_of-name.ensures at c.is_actor.ensures) ∙ c.if-not-is_actor.false) (node_known a.book.now a.words.now a.counts _ _ (rw c.part_of.ensures at c.find_node-number.ensures) c.if-counts-number.false) in has_room c.loop-i.invariant _ _ _ n known _ (rw c.part_of-name.ensures at c.is_given-in-loop-i.ensures) c.if-is_given-2.false few), c.loop-i.invariant.size)
+    omega (arith, (let a = c.args in let b = book_at a.book.now a.words.now a.counts in let actors = actors_at a.rules.now a.table.now a.k in let few = few_actors a.rules.now a.table.now a.sizes c.requires.1 a.k c.requires.2 in let n = sym c.in-Some.is ∙ c.next_claim.ensures.is in let known = both_known actors (node_names b) _ (sym (rw c.part_of-name.ensures at c.is_actor.ensures) ∙ c.if-not-is_actor.false) (node_known a.book.now a.words.now a.counts _ _ (rw c.part_of.ensures at c.find_node-number.ensures) c.if-counts-number.false) in has_room c.loop-i.invariant _ _ _ n known _ (rw c.part_of-name.ensures at c.is_given-in-loop-i.ensures) c.if-is_given-2.false few), c.loop-i.invariant.size)
 
 pub overflow_add-count : goal.overflow_add-count
-overflow_add-count c = omega (arith, (let a = c.args in let b = book_at a.book.now a.words.now a.counts in let actors = actors_at a.rules.now a.table.now a.k in let few = few_actors a.rules.now a.table.now a.sizes c.requires.1 a.k c.requires.2 in let n = sym c.in-At.is ∙ c.next_claim.ensures.is in let known = both_known actors (node_names b) _ (sym (rw c.part_of-name.ensures at c.is_actor.ensures) ∙ c.if-not-is_actor.false) (node_known a.book.now a.words.now a.counts _ _ (rw c.part_of.ensures at c.find_node-number.ensures) c.if-counts-number.false) in has_room c.loop-i.invariant _ _ _ n known _ (rw c.part_of-name.ensures at c.is_given-in-loop-i.ensures) c.if-is_given-2.false few))
+overflow_add-count c = omega (arith, (let a = c.args in let b = book_at a.book.now a.words.now a.counts in let actors = actors_at a.rules.now a.table.now a.k in let few = few_actors a.rules.now a.table.now a.sizes c.requires.1 a.k c.requires.2 in let n = sym c.in-Some.is ∙ c.next_claim.ensures.is in let known = both_known actors (node_names b) _ (sym (rw c.part_of-name.ensures at c.is_actor.ensures) ∙ c.if-not-is_actor.false) (node_known a.book.now a.words.now a.counts _ _ (rw c.part_of.ensures at c.find_node-number.ensures) c.if-counts-number.false) in has_room c.loop-i.invariant _ _ _ n known _ (rw c.part_of-name.ensures at c.is_given-in-loop-i.ensures) c.if-is_given-2.false few))
 
 pub loop-i-smaller : goal.loop-i-smaller
 loop-i-smaller c =
     let a = c.args in
-    omega (arith, (placed_at a.s.now c.loop-i.i _ c.in-At.is c.next_claim.ensures.placed).onward)
+    omega (arith, (placed_at a.s.now c.loop-i.i _ c.in-Some.is c.next_claim.ensures.placed).onward)
 
 pub loop-i-preserved : goal.loop-i-preserved
 loop-i-preserved c =
@@ -153,17 +144,16 @@ loop-i-preserved c =
     let b = book_at a.book.now a.words.now a.counts in
     let actors = actors_at a.rules.now a.table.now a.k in
     let few = few_actors a.rules.now a.table.now a.sizes c.requires.1 a.k c.requires.2 in
-    let n = sym c.in-At.is ∙ c.next_claim.ensures.is in
+    let n = sym c.in-Some.is ∙ c.next_claim.ensures.is in
     let found = rw c.part_of.ensures at c.find_node-number.ensures in
     let known = both_known actors (node_names b) _
     (sym (rw c.part_of-name.ensures at c.is_actor.ensures) ∙ c.if-not-is_actor.false)
     (node_known a.book.now a.words.now a.counts _ _ found c.if-counts-number.false) in
     storing_next c.loop-i.invariant _ _ _ n known _ (rw c.part_of-name.ensures at c.is_given-in-loop-i.ensures) c.if-is_given-2.false
-    (placed_at a.s.now c.loop-i.i _ c.in-At.is c.next_claim.ensures.placed) _ found
+    (placed_at a.s.now c.loop-i.i _ c.in-Some.is c.next_claim.ensures.placed) _ found
     c.if-counts-number.false few
 
 pub returns : goal.returns
 returns c =
     let a = c.args in
-    told_fault a.book.now a.words.now a.counts a.rules.now a.table.now a.sizes a.k a.s.now a.from 11 (omega arith)
-    (λ w xs e d. stored_over c.loop-i.invariant c.loop-i-test.false) _ c.fault_only-2.ensures
+    λ w xs e d. stored_over c.loop-i.invariant c.loop-i-test.false

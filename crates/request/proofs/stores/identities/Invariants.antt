@@ -4,7 +4,6 @@ use lib.ListN.{length}
 use Rattle.book_tables.specs.View.{book_at}
 use Rattle.rules_tables.specs.View.{actors_at}
 use Rattle.request.proofs.StoreLaws.{Storing}
-use borrow.Author.Rules.{rules}
 use Rattle.request.proofs.stores.identities.Given as goal
 
 -- the identities before the place are stored

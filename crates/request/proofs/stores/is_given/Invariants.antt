@@ -1,5 +1,5 @@
 -- `request::stores::is_given` meets its contract. None of the identities passed is the actor's. Assumes nothing.
-use Prim.Native.Nat.{◌-◌, ◌≤◌}
+use Prim.Native.Nat.{◌≤◌}
 use mathlib.Core.Path.{◌≡◌}
 use mathlib.Core.Bool.{false}
 use Rattle.model.specs.Bytes.{same}
@@ -9,6 +9,3 @@ use Rattle.request.proofs.stores.is_given.Given as goal
 
 abbrev pub invariant-loop-i : goal.invariant-loop-i
 invariant-loop-i l = (l.i ≤ l.count) × (any (same l.name) (actor_names l.s l.list l.i) ≡ false)
-
-abbrev pub decreases-loop-i : goal.decreases-loop-i
-decreases-loop-i l = l.count - l.i

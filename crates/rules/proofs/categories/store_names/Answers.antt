@@ -1,5 +1,5 @@
 -- `rules::categories::store_names` meets its contract. Assumes nothing.
-use Prim.Native.Nat.{◌+◌, ◌≤◌, ◌-◌}
+use Prim.Native.Nat.{◌+◌, ◌≤◌}
 use mathlib.Core.List.{[]}
 use mathlib.Core.Path.{◌≡◌, refl, sym, ◌∙◌}
 use native.Mathlib.Omega.{arith}
@@ -35,17 +35,17 @@ returns-in_default c =
     x.names (c.loop-i.invariant.2 x e) (sym c.in_default.is ∙ c.next_name.ensures.is)
 
 pub overflow_add-at : goal.overflow_add-at
-overflow_add-at c = omega (arith, (let a = c.args in let r = c.requires.0 in storing_room a.words.now c.loop-i.words a.at a.s.now a.base c.loop-i.i c.loop-i.n r.read.names (c.loop-i.invariant.2 r.read r.is) r.room (sym c.in-At.is ∙ c.next_name.ensures.is)))
+overflow_add-at c = omega (arith, (let a = c.args in let r = c.requires.0 in storing_room a.words.now c.loop-i.words a.at a.s.now a.base c.loop-i.i c.loop-i.n r.read.names (c.loop-i.invariant.2 r.read r.is) r.room (sym c.in-Some.is ∙ c.next_name.ensures.is)))
 
 pub overflow_add-base : goal.overflow_add-base
 overflow_add-base c =
-    let h = placed_at _ _ _ c.in-At.is c.next_name.ensures.placed in
+    let h = placed_at _ _ _ c.in-Some.is c.next_name.ensures.placed in
     omega (arith, h.inside, c.requires.1)
 
 pub store_name-requires : goal.store_name-requires
 store_name-requires c =
-    let h = placed_at _ _ _ c.in-At.is c.next_name.ensures.placed in
-    (omega (arith, (let a = c.args in let r = c.requires.0 in storing_room a.words.now c.loop-i.words a.at a.s.now a.base c.loop-i.i c.loop-i.n r.read.names (c.loop-i.invariant.2 r.read r.is) r.room (sym c.in-At.is ∙ c.next_name.ensures.is)), c.loop-i.invariant.0), omega (arith, h.inside, c.requires.1), omega (arith, h.short))
+    let h = placed_at _ _ _ c.in-Some.is c.next_name.ensures.placed in
+    (omega (arith, (let a = c.args in let r = c.requires.0 in storing_room a.words.now c.loop-i.words a.at a.s.now a.base c.loop-i.i c.loop-i.n r.read.names (c.loop-i.invariant.2 r.read r.is) r.room (sym c.in-Some.is ∙ c.next_name.ensures.is)), c.loop-i.invariant.0), omega (arith, h.inside, c.requires.1), omega (arith, h.short))
 
 pub overflow_add-n : goal.overflow_add-n
 overflow_add-n c =
@@ -53,25 +53,25 @@ overflow_add-n c =
 
 pub overflow_add-i : goal.overflow_add-i
 overflow_add-i c =
-    let h = placed_at _ _ _ c.in-At.is c.next_name.ensures.placed in
+    let h = placed_at _ _ _ c.in-Some.is c.next_name.ensures.placed in
     omega (arith, h.inside, c.requires.1)
 
 pub loop-i-smaller : goal.loop-i-smaller
 loop-i-smaller c =
-    let h = placed_at _ _ _ c.in-At.is c.next_name.ensures.placed in
+    let h = placed_at _ _ _ c.in-Some.is c.next_name.ensures.placed in
     omega (arith, h.after, h.some)
 
 pub loop-i-preserved : goal.loop-i-preserved
 loop-i-preserved c =
     let a = c.args in
-    let h = placed_at _ _ _ c.in-At.is c.next_name.ensures.placed in
+    let h = placed_at _ _ _ c.in-Some.is c.next_name.ensures.placed in
     let r = c.requires.0 in (
       rw c.store_name.ensures (simp length-set c.loop-i.invariant.0),
       omega (arith, h.after, h.some, c.loop-i.invariant.1),
       λ x e. let ri = r.is in let d : x ≡ r.read = cc in let room : a.at + length x.names ≤ length a.words.now = rw d r.room in
           rw c.store_name.ensures
           (storing_next a.words.now c.loop-i.words a.at a.s.now a.base c.loop-i.i c.loop-i.n x.names
-          (c.loop-i.invariant.2 x e) (sym c.in-At.is ∙ c.next_name.ensures.is) h room),
+          (c.loop-i.invariant.2 x e) (sym c.in-Some.is ∙ c.next_name.ensures.is) h room),
     )
 
 pub shape_of-words : goal.shape_of-words

@@ -2,47 +2,45 @@
 use mathlib.Core.Path.{sym, ◌∙◌}
 use native.Mathlib.Omega.{arith}
 use Rattle.rules.proofs.FormLaws.{unopened, wordless, of_category, of_policy_law, of_neither, form_moved}
-use Rattle.item_forms.proofs.PlacedLaws.{placed_at}
 use Rattle.rules.proofs.forms.rules_form.Goals as goal
 
-pub returns-in_default : goal.returns-in_default
-returns-in_default c =
+pub returns-in_err-i : goal.returns-in_err-i
+returns-in_err-i c =
     let a = c.args in
-    unopened a.s.now (sym c.in_default.is ∙ c.open_form.ensures)
+    rw c.from_residual.ensures (unopened a.s.now c.in_err-i.ensures)
 
-pub returns-in_default-next_word : goal.returns-in_default-next_word
-returns-in_default-next_word c =
+pub returns-in_err-word : goal.returns-in_err-word
+returns-in_err-word c =
     let a = c.args in
-    wordless a.s.now (sym c.in-At.is ∙ c.open_form.ensures)
-    (sym c.in_default-next_word.is ∙ c.next_word.ensures.is)
+    rw c.from_residual-in_err-word.ensures (wordless a.s.now c.in_ok-i.ensures c.in_err-word.ensures.is)
 
 pub part_of-first-requires : goal.part_of-first-requires
 part_of-first-requires c =
-    (placed_at _ _ _ c.in-At-next_word.is c.next_word.ensures.placed).inside
+    c.in_ok-word.ensures.placed.inside
 
 pub overflow_add-end : goal.overflow_add-end
 overflow_add-end c =
     let a = c.args in
-    omega (arith, c.well_formed, (placed_at a.s.now _ _ c.in-At-next_word.is c.next_word.ensures.placed).inside)
+    omega (arith, c.well_formed, c.in_ok-word.ensures.placed.inside)
 
 pub returns-then-same_bytes : goal.returns-then-same_bytes
 returns-then-same_bytes c =
     let a = c.args in
     form_moved a.s.now _ _ c.category_form.result
-    (of_category a.s.now (sym c.in-At.is ∙ c.open_form.ensures) (sym c.in-At-next_word.is ∙ c.next_word.ensures.is)
+    (of_category a.s.now c.in_ok-i.ensures c.in_ok-word.ensures.is
     (sym (rw c.part_of-first.ensures at c.same_bytes.ensures) ∙ c.if-same_bytes.true)) c.category_form.ensures
 
 pub returns-then-same_bytes-2 : goal.returns-then-same_bytes-2
 returns-then-same_bytes-2 c =
     let a = c.args in
     form_moved a.s.now _ _ c.policy_form.result
-    (of_policy_law a.s.now (sym c.in-At.is ∙ c.open_form.ensures) (sym c.in-At-next_word.is ∙ c.next_word.ensures.is)
+    (of_policy_law a.s.now c.in_ok-i.ensures c.in_ok-word.ensures.is
     (sym (rw c.part_of-first.ensures at c.same_bytes.ensures) ∙ c.if-same_bytes.false)
     (sym (rw c.part_of-first.ensures at c.same_bytes-2.ensures) ∙ c.if-same_bytes-2.true)) c.policy_form.ensures
 
 pub returns : goal.returns
 returns c =
     let a = c.args in
-    of_neither a.s.now (sym c.in-At.is ∙ c.open_form.ensures) (sym c.in-At-next_word.is ∙ c.next_word.ensures.is)
+    of_neither a.s.now c.in_ok-i.ensures c.in_ok-word.ensures.is
     (sym (rw c.part_of-first.ensures at c.same_bytes.ensures) ∙ c.if-same_bytes.false)
     (sym (rw c.part_of-first.ensures at c.same_bytes-2.ensures) ∙ c.if-same_bytes-2.false)

@@ -1,11 +1,13 @@
 -- `rules::load::form_step` meets its contract. Assumes nothing.
+use mathlib.Core.Path.{ap, ◌∙◌}
+use Rattle.std.specs.Prelude.{Some}
 use Rattle.rules.proofs.LoadLaws.{of_category, of_policy_law, of_none}
 use Rattle.rules.proofs.load.form_step.Goals as goal
 
 pub category_step-requires : goal.category_step-requires
 category_step-requires c =
     let g = c.requires in
-    let f = of_category _ _ _ c.rules_form.ensures _ _ _ c.in-Category.is in
+    let f = of_category _ _ _ c.rules_form.ensures _ _ _ (c.in-Some-Category.is ∙ ap Some c.in-Some-Category.field-0-is) in
     record {
       fits = g.fits;
       short = g.short;
@@ -19,7 +21,7 @@ category_step-requires c =
 
 pub part_of-requires : goal.part_of-requires
 part_of-requires c =
-    (of_policy_law _ _ _ c.rules_form.ensures _ _ c.in-Policy.is).inside
+    (of_policy_law _ _ _ c.rules_form.ensures _ _ (c.in-Some-Policy.is ∙ ap Some c.in-Some-Policy.field-0-is)).inside
 
 pub fault_of-fault-requires : goal.fault_of-fault-requires
 fault_of-fault-requires c =
@@ -28,7 +30,7 @@ fault_of-fault-requires c =
 pub policy_step-requires : goal.policy_step-requires
 policy_step-requires c =
     let g = c.requires in
-    let f = of_policy_law _ _ _ c.rules_form.ensures _ _ c.in-Policy.is in
+    let f = of_policy_law _ _ _ c.rules_form.ensures _ _ (c.in-Some-Policy.is ∙ ap Some c.in-Some-Policy.field-0-is) in
     record {
       fits = g.fits;
       short = g.short;
@@ -39,14 +41,14 @@ policy_step-requires c =
       is = rw c.part_of.ensures at c.fault_of-fault.ensures;
     }
 
-pub returns-in-Category : goal.returns-in-Category
-returns-in-Category c =
-    let f = of_category _ _ _ c.rules_form.ensures _ _ _ c.in-Category.is in
+pub returns-in-Some-Category : goal.returns-in-Some-Category
+returns-in-Some-Category c =
+    let f = of_category _ _ _ c.rules_form.ensures _ _ _ (c.in-Some-Category.is ∙ ap Some c.in-Some-Category.field-0-is) in
     rw f.is (c.category_step.ensures _ f.actors f.over f.actors_are f.over_are)
 
-pub returns-in-Policy : goal.returns-in-Policy
-returns-in-Policy c =
-    let f = of_policy_law _ _ _ c.rules_form.ensures _ _ c.in-Policy.is in
+pub returns-in-Some-Policy : goal.returns-in-Some-Policy
+returns-in-Some-Policy c =
+    let f = of_policy_law _ _ _ c.rules_form.ensures _ _ (c.in-Some-Policy.is ∙ ap Some c.in-Some-Policy.field-0-is) in
     rw f.is (c.policy_step.ensures _ (rw c.part_of.ensures at c.fault_of-fault.ensures))
 
 pub returns-in-None : goal.returns-in-None

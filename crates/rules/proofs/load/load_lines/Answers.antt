@@ -1,5 +1,4 @@
 -- `rules::load::load_lines` meets its contract. Assumes nothing.
-use Prim.Native.Nat.{◌-◌}
 use native.Mathlib.Omega.{arith}
 use borrow.Author.Rules.{rules}
 use Rattle.model.specs.Answers.{refusal_of}
@@ -22,11 +21,11 @@ line_step-requires c =
       inside = line_inside c.args.text.now c.loop-at.at _ c.line_end-to.ensures c.loop-at-test.true;
     }
 
-pub returns-in-Fault : goal.returns-in-Fault
+pub returns-in-Err : goal.returns-in-Err
 unfolding refusal refusal_of
-returns-in-Fault c =
+returns-in-Err c =
     reading_fault _ c.args.text.now _ _ c.loop-at.at _ _ c.loop-at.invariant _ c.line_end-to.ensures
-    c.loop-at-test.true _ _ c.line_step.ensures _ c.in-Fault.is
+    c.loop-at-test.true _ _ c.line_step.ensures _ c.in-Err.is
 
 pub overflow_add-at : goal.overflow_add-at
 overflow_add-at c =
@@ -47,7 +46,7 @@ loop-at-smaller c =
 pub loop-at-preserved : goal.loop-at-preserved
 loop-at-preserved c =
     reading_on _ c.args.text.now _ _ c.loop-at.at _ _ c.loop-at.invariant _ c.line_end-to.ensures
-    c.loop-at-test.true _ _ c.line_step.ensures _ c.in-Known.is (search rules)
+    c.loop-at-test.true _ _ c.line_step.ensures _ c.in-Ok.is (search rules)
 
 pub covered_rules-requires : goal.covered_rules-requires
 covered_rules-requires c = (c.loop-at.invariant.fits, c.requires.1)

@@ -1,5 +1,4 @@
 -- `rules::tests::is_unknown` meets its contract. Assumes nothing.
-use Prim.Native.Nat.{◌-◌}
 use mathlib.Core.List.{List}
 use mathlib.Core.Bool.{Bool, not}
 use mathlib.Core.Path.{sym, ◌∙◌}
@@ -30,7 +29,7 @@ returns-in_default c =
 pub part_of-name_bytes-requires : goal.part_of-name_bytes-requires
 part_of-name_bytes-requires c =
     let a = c.args in
-    (placed_at a.s.now c.loop-i.i _ c.in-At.is c.next_name.ensures.placed).inside
+    (placed_at a.s.now c.loop-i.i _ c.in-Some.is c.next_name.ensures.placed).inside
 
 pub find_name-requires : goal.find_name-requires
 find_name-requires c =
@@ -42,18 +41,18 @@ returns-then-count-find_name c =
     let p : Bytes → Bool = λ w. mem w (names_at a.text.now a.words.now names a.count) in
     let found = rw c.part_of-name_bytes.ensures at c.find_name.ensures in
     left_found (λ ns. not (all p ns)) (λ ns. not (all p ns)) a.s.now a.from c.loop-i.i _ _ c.loop-i.invariant
-    (sym c.in-At.is ∙ c.next_name.ensures.is)
+    (sym c.in-Some.is ∙ c.next_name.ensures.is)
     (λ y e. miss_found p _ y.names (place_out a.text.now a.words.now names a.count _ (omega (arith, found, c.if-count-find_name.true))))
 
 pub overflow_add-i : goal.overflow_add-i
 overflow_add-i c =
     let a = c.args in
-    omega (arith, c.well_formed, (placed_at a.s.now c.loop-i.i _ c.in-At.is c.next_name.ensures.placed).inside)
+    omega (arith, c.well_formed, (placed_at a.s.now c.loop-i.i _ c.in-Some.is c.next_name.ensures.placed).inside)
 
 pub loop-i-smaller : goal.loop-i-smaller
 loop-i-smaller c =
     let a = c.args in
-    let h = placed_at a.s.now c.loop-i.i _ c.in-At.is c.next_name.ensures.placed in
+    let h = placed_at a.s.now c.loop-i.i _ c.in-Some.is c.next_name.ensures.placed in
     omega (arith, h.after, h.some)
 
 pub loop-i-preserved : goal.loop-i-preserved
@@ -62,7 +61,7 @@ loop-i-preserved c =
     let p : Bytes → Bool = λ w. mem w (names_at a.text.now a.words.now names a.count) in
     let found = rw c.part_of-name_bytes.ensures at c.find_name.ensures in
     left_next (λ ns. not (all p ns)) (λ ns. not (all p ns)) a.s.now a.from c.loop-i.i (λ ns. not (all p ns)) _ c.loop-i.invariant
-    (sym c.in-At.is ∙ c.next_name.ensures.is)
+    (sym c.in-Some.is ∙ c.next_name.ensures.is)
     (λ y e. miss_other p _ y.names (place_mem a.text.now a.words.now names a.count _ (omega (arith, found, c.if-count-find_name.false))))
 
 pub returns : goal.returns

@@ -1,5 +1,5 @@
 -- `rules::tests::lacks_one_of` meets its contract. Assumes nothing.
-use Prim.Native.Nat.{◌≤◌, ◌-◌}
+use Prim.Native.Nat.{◌≤◌}
 use mathlib.Core.Bool.{true}
 use mathlib.Core.Path.{◌≡◌}
 use Rattle.model.specs.Names.{mem}
@@ -14,6 +14,3 @@ use Rattle.rules.proofs.tests.lacks_one_of.Given as goal
 abbrev pub invariant-loop-i : goal.invariant-loop-i
 invariant-loop-i l = (l.i ≤ l.count)
     × ((x : NamesRead) → names_behind l.s l.a ≡ just x → all (λ w. mem w x.names) (listed (name_of l.text l.words (actors_from l.k)) l.i) ≡ true)
-
-abbrev pub decreases-loop-i : goal.decreases-loop-i
-decreases-loop-i l = l.count - l.i

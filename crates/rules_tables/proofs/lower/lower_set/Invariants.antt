@@ -11,6 +11,3 @@ use Rattle.rules_tables.proofs.lower.lower_set.Given as goal
 
 abbrev pub invariant-loop-i : goal.invariant-loop-i
 invariant-loop-i l = (l.i ≤ l.over) × ((m : ℕ) → bit l.set m ≡ (eqb m l.k || below_some l.text l.words l.k m (names_at l.text l.words (over_from l.k) l.i)))
-
-abbrev pub decreases-loop-i : goal.decreases-loop-i
-decreases-loop-i l = l.over - l.i

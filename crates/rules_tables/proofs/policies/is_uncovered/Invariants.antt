@@ -9,6 +9,3 @@ use Rattle.rules_tables.proofs.policies.is_uncovered.Given as goal
 
 abbrev pub invariant-loop-k : goal.invariant-loop-k
 invariant-loop-k l = (l.k ≤ l.count) × (any (uncovered l.words l.counts) (listed (λ i. i) l.k) ≡ false)
-
-abbrev pub decreases-loop-k : goal.decreases-loop-k
-decreases-loop-k l = l.count - l.k

@@ -16,9 +16,6 @@ loop-i-init c = (omega arith, scan_none (λ w. eqb w c.args.m) (policy_category 
 pub overflow_mul-i : goal.overflow_mul-i
 overflow_mul-i c = omega (arith, c.requires.few_policies)
 
-pub overflow_add-i : goal.overflow_add-i
-overflow_add-i c = omega (arith, c.requires.few_policies)
-
 pub offset_bounds-words-i : goal.offset_bounds-words-i
 offset_bounds-words-i c = omega (arith, c.requires.few_policies)
 

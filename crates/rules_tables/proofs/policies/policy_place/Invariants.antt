@@ -10,6 +10,3 @@ use Rattle.rules_tables.proofs.policies.policy_place.Given as goal
 
 abbrev pub invariant-loop-i : goal.invariant-loop-i
 invariant-loop-i l = (l.i ≤ l.count) × (any (λ w. eqb w l.m) (listed (policy_category l.words) l.i) ≡ false)
-
-abbrev pub decreases-loop-i : goal.decreases-loop-i
-decreases-loop-i l = l.count - l.i

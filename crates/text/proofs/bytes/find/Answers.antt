@@ -2,7 +2,6 @@
 use Rattle.text.proofs.PlaceLaws.{past_none, past_end}
 use Rattle.text.specs.Places.{is_other}
 use native.Mathlib.Omega.{arith}
-use Prim.Native.Nat.{◌-◌}
 use mathlib.Core.Path.{refl, sym, ◌∙◌}
 use Rattle.text.proofs.bytes.find.Goals as goal
 

@@ -2,26 +2,28 @@
 use Rattle.text.proofs.PlaceLaws.{past_step_in, past_stop_in, past_end}
 use Rattle.text.specs.Places.{is_other}
 use borrow.Author.Tests.{eq-eqb, ne_eqb}
-use Prim.Native.Nat.{◌-◌}
 use mathlib.Core.Bool.{not}
-use mathlib.Core.Path.{refl, sym, ap, ◌∙◌}
+use native.Mathlib.Omega.{arith}
+use mathlib.Core.Path.{◌≡◌, refl, sym, ap, ◌∙◌}
 use Rattle.text.proofs.bytes.find_near.Goals as goal
 
 pub loop-i-init : goal.loop-i-init
-loop-i-init c = refl
+loop-i-init c = (omega arith, refl)
 
 pub returns-then-s-i : goal.returns-then-s-i
 unfolding is_other
 returns-then-s-i c =
-    sym (past_stop_in (is_other c.args.byte) c.args.s.now c.loop-i.i c.loop-i-test.true
-    (ap not (eq-eqb _ c.args.byte c.if-s-i.true))) ∙ c.loop-i.invariant
+    sym (past_stop_in (is_other c.args.byte) c.args.s.now c.loop-i.i (omega arith)
+    (ap not (eq-eqb _ c.args.byte c.if-s-i.true))) ∙ c.loop-i.invariant.1
 
 pub loop-i-preserved : goal.loop-i-preserved
 unfolding is_other
-loop-i-preserved c =
-    sym (past_step_in (is_other c.args.byte) c.args.s.now c.loop-i.i c.loop-i-test.true
-    (ap not (ne_eqb _ c.args.byte c.if-s-i.false))) ∙ c.loop-i.invariant
+loop-i-preserved c = (
+  omega arith,
+  sym (past_step_in (is_other c.args.byte) c.args.s.now c.loop-i.i (omega arith)
+      (ap not (ne_eqb _ c.args.byte c.if-s-i.false))) ∙ c.loop-i.invariant.1,
+)
 
 pub returns : goal.returns
-returns c = sym (past_end (is_other c.args.byte) c.args.s.now c.loop-i.i c.loop-i-test.false)
-    ∙ c.loop-i.invariant
+returns c = (let e : c.max.result ≡ c.loop-i.i = omega arith in e) ∙ sym (past_end (is_other c.args.byte) c.args.s.now c.loop-i.i (omega arith))
+    ∙ c.loop-i.invariant.1

@@ -6,7 +6,6 @@ use Rattle.model.specs.Words.{is_digit, run, decimal}
 use native.Mathlib.Omega.{arith}
 use lib.ListN.{get_or, drop}
 use Prim.Native.Nat.{◌+◌, ◌*◌, ◌-◌}
-use mathlib.Core.Bool.{true}
 use mathlib.Core.Path.{refl, sym, ap, ◌∙◌}
 use Rattle.text.proofs.numbers.digits.Goals as goal
 

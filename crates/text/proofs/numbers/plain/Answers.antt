@@ -11,25 +11,25 @@ use mathlib.Core.Bool.{false}
 use mathlib.Core.Path.{◌≡◌, sym, ◌∙◌}
 use Rattle.text.proofs.numbers.plain.Goals as goal
 
-pub returns-in_default : goal.returns-in_default
-returns-in_default c =
-    not_number false c.args.s.now c.args.at c.args.at
-    (large_not_whole false _ (untold c.args.s.now c.args.at (sym c.in_default.is ∙ c.digits.ensures)))
+pub returns-in_err-v : goal.returns-in_err-v
+returns-in_err-v c =
+    c.from_residual.ensures ∙ not_number false c.args.s.now c.args.at c.args.at
+    (large_not_whole false _ (untold c.args.s.now c.args.at (sym c.digits.ensures ∙ c.in_err-v.was)))
 
 pub returns-then-q-at : goal.returns-then-q-at
 returns-then-q-at c =
-    let t = told c.args.s.now c.args.at _ _ (sym c.in-Value.is ∙ c.digits.ensures) in
+    let t = told c.args.s.now c.args.at _ _ (sym c.digits.ensures ∙ c.in_ok-v.was) in
     not_number false c.args.s.now c.args.at c.args.at
     (none_not_whole false (run is_digit (drop c.args.at c.args.s.now)) (omega (arith, c.if-q-at.true, t.end)))
 
 pub overflow_sub-q : goal.overflow_sub-q
 overflow_sub-q c =
-    let t = told c.args.s.now c.args.at _ _ (sym c.in-Value.is ∙ c.digits.ensures) in omega (arith, t.end)
+    let t = told c.args.s.now c.args.at _ _ (sym c.digits.ensures ∙ c.in_ok-v.was) in omega (arith, t.end)
 
 pub returns-then-q-at-eq1 : goal.returns-then-q-at-eq1
 unfolding biased
 returns-then-q-at-eq1 c =
-    let t = told c.args.s.now c.args.at _ _ (sym c.in-Value.is ∙ c.digits.ensures) in
+    let t = told c.args.s.now c.args.at _ _ (sym c.digits.ensures ∙ c.in_ok-v.was) in
     let n : length (run is_digit (drop c.args.at c.args.s.now)) ≡ 1 = omega (arith, c.if-q-at-eq1.true, t.end) in
     let h = run_head is_digit c.args.s.now c.args.at (omega arith) ∙ sym c.peek.ensures ∙ c.if-peek-eq-ZERO.true in
     is_number false c.args.s.now c.args.at c.args.at _ _ (zero_whole _ h n)
@@ -37,7 +37,7 @@ returns-then-q-at-eq1 c =
 
 pub returns-then-peek-eq-ZERO : goal.returns-then-peek-eq-ZERO
 returns-then-peek-eq-ZERO c =
-    let t = told c.args.s.now c.args.at _ _ (sym c.in-Value.is ∙ c.digits.ensures) in
+    let t = told c.args.s.now c.args.at _ _ (sym c.digits.ensures ∙ c.in_ok-v.was) in
     let h = run_head is_digit c.args.s.now c.args.at (omega (arith, c.if-q-at.false, t.end))
     ∙ sym c.peek.ensures ∙ c.if-peek-eq-ZERO.true in
     not_number false c.args.s.now c.args.at c.args.at
@@ -49,7 +49,7 @@ overflow_add-result c = omega arith
 pub returns-then-v-lt-BIAS : goal.returns-then-v-lt-BIAS
 unfolding biased
 returns-then-v-lt-BIAS c =
-    let t = told c.args.s.now c.args.at _ _ (sym c.in-Value.is ∙ c.digits.ensures) in
+    let t = told c.args.s.now c.args.at _ _ (sym c.digits.ensures ∙ c.in_ok-v.was) in
     let n : 0 < length (run is_digit (drop c.args.at c.args.s.now)) = omega (arith, c.if-q-at.false, t.end) in
     let h : get_or (run is_digit (drop c.args.at c.args.s.now)) 0 256 ≡ 48 → ⊥ = λ e. c.if-peek-eq-ZERO.false
     (c.peek.ensures ∙ sym (run_head is_digit c.args.s.now c.args.at n) ∙ e) in
@@ -59,7 +59,7 @@ returns-then-v-lt-BIAS c =
 
 pub returns : goal.returns
 returns c =
-    let t = told c.args.s.now c.args.at _ _ (sym c.in-Value.is ∙ c.digits.ensures) in
+    let t = told c.args.s.now c.args.at _ _ (sym c.digits.ensures ∙ c.in_ok-v.was) in
     let n : 0 < length (run is_digit (drop c.args.at c.args.s.now)) = omega (arith, c.if-q-at.false, t.end) in
     let h : get_or (run is_digit (drop c.args.at c.args.s.now)) 0 256 ≡ 48 → ⊥ = λ e. c.if-peek-eq-ZERO.false
     (c.peek.ensures ∙ sym (run_head is_digit c.args.s.now c.args.at n) ∙ e) in

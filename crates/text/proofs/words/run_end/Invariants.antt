@@ -2,12 +2,9 @@
 use Rattle.text.specs.Places.{past}
 use Rattle.model.specs.Words.{is_word_byte}
 use lib.ListN.{length}
-use Prim.Native.Nat.{◌-◌}
+use Prim.Native.Nat.{◌≤◌, max}
 use mathlib.Core.Path.{◌≡◌}
 use Rattle.text.proofs.words.run_end.Given as goal
 
 abbrev pub invariant-loop-i : goal.invariant-loop-i
-invariant-loop-i l = past is_word_byte l.s l.i ≡ past is_word_byte l.s l.from
-
-abbrev pub decreases-loop-i : goal.decreases-loop-i
-decreases-loop-i l = length l.s - l.i
+invariant-loop-i l = (l.i ≤ max l.from (length l.s)) × (past is_word_byte l.s l.i ≡ past is_word_byte l.s l.from)

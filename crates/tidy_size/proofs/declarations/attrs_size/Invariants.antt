@@ -10,6 +10,3 @@ use Rattle.tidy_size.proofs.declarations.attrs_size.Given as goal
 abbrev pub invariant-loop-i : goal.invariant-loop-i
 invariant-loop-i l =
     (l.i ≤ l.count) × ((owner : Owner) → LinesSize (λ text. NamesFit text l.words l.offset l.count) (λ text. attr_line owner text l.words l.offset) l.i l.size)
-
-abbrev pub decreases-loop-i : goal.decreases-loop-i
-decreases-loop-i l = l.count - l.i

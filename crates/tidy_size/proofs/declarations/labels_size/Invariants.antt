@@ -9,6 +9,3 @@ use Rattle.tidy_size.proofs.declarations.labels_size.Given as goal
 
 abbrev pub invariant-loop-i : goal.invariant-loop-i
 invariant-loop-i l = (l.i ≤ l.count) × LinesSize (λ text. NamesFit text l.words label_names l.count) (λ text. label_line text l.words) l.i l.size
-
-abbrev pub decreases-loop-i : goal.decreases-loop-i
-decreases-loop-i l = l.count - l.i

@@ -7,6 +7,3 @@ use Rattle.tidy_size.proofs.entries.entries_size.Given as goal
 abbrev pub invariant-loop-attribute : goal.invariant-loop-attribute
 invariant-loop-attribute l =
     (l.attribute ≤ l.declared) × EntriesSize l.words l.offset l.declared l.owner l.attribute l.size
-
-abbrev pub decreases-loop-attribute : goal.decreases-loop-attribute
-decreases-loop-attribute l = l.declared - l.attribute

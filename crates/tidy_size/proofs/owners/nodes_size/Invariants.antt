@@ -8,6 +8,3 @@ use Rattle.tidy_size.proofs.owners.nodes_size.Given as goal
 
 abbrev pub invariant-loop-i : goal.invariant-loop-i
 invariant-loop-i l = (l.i ≤ l.nodes) × LinesSize (λ text. Fits text l.words l.counts) (λ text. node_line l.counts text l.words) l.i l.size
-
-abbrev pub decreases-loop-i : goal.decreases-loop-i
-decreases-loop-i l = l.nodes - l.i

@@ -9,6 +9,3 @@ use Rattle.tidy_size.proofs.owners.rels_size.Given as goal
 abbrev pub invariant-loop-i : goal.invariant-loop-i
 invariant-loop-i l =
     (l.i ≤ l.relationships) × LinesSize (λ text. Fits text l.words l.counts) (λ text. rel_line l.counts text l.words) l.i l.size
-
-abbrev pub decreases-loop-i : goal.decreases-loop-i
-decreases-loop-i l = l.relationships - l.i

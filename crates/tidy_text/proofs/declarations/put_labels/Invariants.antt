@@ -6,6 +6,3 @@ use Rattle.tidy_text.proofs.declarations.put_labels.Given as goal
 
 abbrev pub invariant-loop-i : goal.invariant-loop-i
 invariant-loop-i l = (l.i ≤ l.count) × Puts l.initial.out l.at (labels_text l.book l.words l.i) l.out l.next
-
-abbrev pub decreases-loop-i : goal.decreases-loop-i
-decreases-loop-i l = l.count - l.i

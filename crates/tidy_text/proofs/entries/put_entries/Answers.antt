@@ -14,38 +14,30 @@ returns-then-owner-eq0 c =
     let a = c.args in
     puts_same (no_entries a.book.now a.words.now a.offset a.owner a.declared c.if-owner-eq0.true) (puts_nothing a.out.now a.at)
 
-pub loop-left-init : goal.loop-left-init
+pub loop-attribute-init : goal.loop-attribute-init
 unfolding entries_text
-loop-left-init c =
+loop-attribute-init c =
     let a = c.args in
-    let none : 0 ≡ a.declared - a.declared = omega arith in (
-      omega arith,
-      puts_same (ap (entries_text a.book.now a.words.now a.offset a.owner) none)
-          (puts_none (λ n. slot_piece a.book.now a.words.now a.offset n (slot_in a.words.now a.owner n)) a.out.now a.at),
-    )
+    puts_none (λ n. slot_piece a.book.now a.words.now a.offset n (slot_in a.words.now a.owner n)) a.out.now a.at
 
 pub put_entry-next-requires : goal.put_entry-next-requires
 put_entry-next-requires c =
     slot_inside c.requires c.entry_slots-slots.ensures _ (omega arith)
 
-pub loop-left-preserved : goal.loop-left-preserved
+pub loop-attribute-preserved : goal.loop-attribute-preserved
 unfolding entries_text slot_in
-loop-left-preserved c =
+loop-attribute-preserved c =
     let a = c.args in
-    let i : ℕ = a.declared - c.loop-left.left in
-    let next : i + 1 ≡ a.declared - (c.loop-left.left - 1) = omega arith in
-    let said = c.entry_slots-slots.ensures.each i (omega (arith, c.requires.few)) in (
-      omega arith,
-      puts_same (ap (entries_text a.book.now a.words.now a.offset a.owner) next)
-          (puts_next (λ n. slot_piece a.book.now a.words.now a.offset n (slot_in a.words.now a.owner n)) i c.loop-left.invariant.1
-          (puts_same (ap (slot_piece a.book.now a.words.now a.offset i) said) c.put_entry-next.ensures)),
-    )
+    let i : ℕ = c.loop-attribute.attribute in
+    let said = c.entry_slots-slots.ensures.each i (omega (arith, c.requires.few)) in
+    puts_next (λ n. slot_piece a.book.now a.words.now a.offset n (slot_in a.words.now a.owner n)) i c.loop-attribute.invariant
+    (puts_same (ap (slot_piece a.book.now a.words.now a.offset i) said) c.put_entry-next.ensures)
 
 pub shape_of-out : goal.shape_of-out
-shape_of-out c = puts_keeps_length c.loop-left.invariant.1
+shape_of-out c = puts_keeps_length c.loop-attribute.invariant
 
 pub returns : goal.returns
 returns c =
     let a = c.args in
-    let all : a.declared - c.loop-left.left ≡ a.declared = omega arith in
-    puts_same (ap (entries_text a.book.now a.words.now a.offset a.owner) all) c.loop-left.invariant.1
+    let all : c.loop-attribute.attribute ≡ a.declared = omega arith in
+    puts_same (ap (entries_text a.book.now a.words.now a.offset a.owner) all) c.loop-attribute.invariant

@@ -13,6 +13,3 @@ use Rattle.weave.proofs.identities.find_identity.Given as goal
 abbrev pub invariant-loop-i : goal.invariant-loop-i
 invariant-loop-i l = (l.i ≤ l.count)
     × ((j : ℕ) → j < l.i → identified_by (vertex_of_word l.query l.rules l.word) (identity_in l.request (get_or l.identities j no_identity)) ≡ false)
-
-abbrev pub decreases-loop-i : goal.decreases-loop-i
-decreases-loop-i l = l.count - l.i

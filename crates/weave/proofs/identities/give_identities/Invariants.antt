@@ -8,6 +8,3 @@ use Rattle.weave.proofs.identities.give_identities.Given as goal
 abbrev pub invariant-loop-v : goal.invariant-loop-v
 invariant-loop-v l = (l.v ≤ l.n)
     × GivenSoFar l.query l.rules (identities_in l.request l.identities l.count) l.initial.words l.words l.v l.mask
-
-abbrev pub decreases-loop-v : goal.decreases-loop-v
-decreases-loop-v l = l.n - l.v

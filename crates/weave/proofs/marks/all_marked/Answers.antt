@@ -15,14 +15,14 @@ pub loop-v-preserved : goal.loop-v-preserved
 loop-v-preserved c = (
   omega arith,
   λ i h. either (equal_or_not i c.loop-v.v)
-      (λ e. subst (λ z. bit c.args.marks z ≡ true) (sym e) (sym c.has.ensures ∙ c.if-has.true))
+      (λ e. subst (λ z. bit c.args.marks z ≡ true) (sym e) (sym c.has.ensures ∙ c.if-not-has.false))
       (λ e. let d = e.1 in c.loop-v.invariant.1 i (omega arith)),
 )
 
-pub returns-else-has : goal.returns-else-has
-returns-else-has c =
-    sym (not_all_marks c.args.marks c.args.n c.loop-v.v c.loop-v-test.true
-    (sym c.has.ensures ∙ c.if-has.false))
+pub returns-then-not-has : goal.returns-then-not-has
+returns-then-not-has c =
+    sym (not_all_marks c.args.marks c.args.n c.loop-v.v (omega arith)
+    (sym c.has.ensures ∙ c.if-not-has.true))
 
 pub returns : goal.returns
-returns c = sym (all_marks c.args.marks c.args.n c.loop-v.v c.loop-v.invariant.1 c.loop-v-test.false)
+returns c = sym (all_marks c.args.marks c.args.n c.loop-v.v c.loop-v.invariant.1 (omega arith))

@@ -7,6 +7,3 @@ use Rattle.weave.proofs.marks.all_marked.Given as goal
 
 abbrev pub invariant-loop-v : goal.invariant-loop-v
 invariant-loop-v l = (l.v ≤ l.n) × ((i : ℕ) → i < l.v → bit l.marks i ≡ true)
-
-abbrev pub decreases-loop-v : goal.decreases-loop-v
-decreases-loop-v l = l.n - l.v

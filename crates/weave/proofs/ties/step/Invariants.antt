@@ -5,6 +5,3 @@ use Rattle.weave.proofs.ties.step.Given as goal
 
 abbrev pub invariant-loop-i : goal.invariant-loop-i
 invariant-loop-i l = (l.i ≤ l.edges) × Stepped l.words l.i l.mask l.next
-
-abbrev pub decreases-loop-i : goal.decreases-loop-i
-decreases-loop-i l = l.edges - l.i

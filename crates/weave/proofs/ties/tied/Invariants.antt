@@ -5,6 +5,3 @@ use Rattle.weave.proofs.ties.tied.Given as goal
 
 abbrev pub invariant-loop-round : goal.invariant-loop-round
 invariant-loop-round l = (l.round ≤ l.vertices) × TiedSoFar l.words l.vertices l.edges l.mask l.marked l.round
-
-abbrev pub decreases-loop-round : goal.decreases-loop-round
-decreases-loop-round l = l.vertices - l.round

@@ -81,9 +81,3 @@ overflow_add-words-in-loop-i c = omega (arith, c.loop-i-test.true, c.requires.0.
 
 pub offset_bounds-words-at-in-loop-i-2 : goal.offset_bounds-words-at-in-loop-i-2
 offset_bounds-words-at-in-loop-i-2 c = omega (arith, c.loop-i-test.true, c.requires.0.room)
-
-pub overflow_add-i : goal.overflow_add-i
-overflow_add-i c = omega (arith, c.loop-i-test.true, c.requires.0.few)
-
-pub loop-i-smaller : goal.loop-i-smaller
-loop-i-smaller c = omega (arith, c.loop-i-test.true)

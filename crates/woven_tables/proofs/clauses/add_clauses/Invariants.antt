@@ -5,6 +5,3 @@ use Rattle.woven_tables.proofs.clauses.add_clauses.Given as goal
 
 abbrev pub invariant-loop-i : goal.invariant-loop-i
 invariant-loop-i l = (l.i ≤ l.count) × ClausesSoFar l.base l.k l.clauses l.i l.numbers l.before l.initial.words l.words l.woven
-
-abbrev pub decreases-loop-i : goal.decreases-loop-i
-decreases-loop-i l = l.count - l.i

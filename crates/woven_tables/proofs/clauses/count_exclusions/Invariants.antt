@@ -5,6 +5,3 @@ use Rattle.woven_tables.proofs.clauses.count_exclusions.Given as goal
 
 abbrev pub invariant-loop-i : goal.invariant-loop-i
 invariant-loop-i l = (l.i ≤ l.count) × ExclusionsCounted l.clauses l.i l.n
-
-abbrev pub decreases-loop-i : goal.decreases-loop-i
-decreases-loop-i l = l.count - l.i

@@ -1,5 +1,5 @@
 -- `value_words` meets its contract, by the value's kind. Assumes nothing.
-use Rattle.woven_tables.proofs.ClauseLaws.{number_said, text_said, true_said, false_said}
+use Rattle.woven_tables.proofs.ClauseLaws.{number_said, text_said, truth_said}
 use Rattle.model.specs.PlainData.{ValueFits}
 use native.Mathlib.Omega.{arith}
 use mathlib.Core.Path.{subst}
@@ -20,10 +20,5 @@ returns-in-Number c = number_said c.args.base c.args.value _ c.in-Number.is
 pub returns-in-Text : goal.returns-in-Text
 returns-in-Text c = text_said c.args.base c.args.value _ _ c.in-Text.is
 
-pub returns-then-t : goal.returns-then-t
-returns-then-t c =
-    true_said c.args.base c.args.value _ c.in-Truth.is c.if-t.true
-
-pub returns-else-t : goal.returns-else-t
-returns-else-t c =
-    false_said c.args.base c.args.value _ c.in-Truth.is c.if-t.false
+pub returns-in-Truth : goal.returns-in-Truth
+returns-in-Truth c = truth_said c.args.base c.args.value _ _ c.in-Truth.is c.from.ensures

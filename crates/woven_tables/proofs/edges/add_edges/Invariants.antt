@@ -5,6 +5,3 @@ use Rattle.woven_tables.proofs.edges.add_edges.Given as goal
 
 abbrev pub invariant-loop-i : goal.invariant-loop-i
 invariant-loop-i l = (l.i ≤ l.count) × EdgesSoFar l.base l.k l.edges l.i l.numbers l.initial.words l.words l.woven
-
-abbrev pub decreases-loop-i : goal.decreases-loop-i
-decreases-loop-i l = l.count - l.i

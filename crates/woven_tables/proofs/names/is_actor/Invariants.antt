@@ -13,6 +13,3 @@ use Rattle.woven_tables.proofs.names.is_actor.Given as goal
 
 abbrev pub invariant-loop-i : goal.invariant-loop-i
 invariant-loop-i l = (l.i ≤ l.count) × (any (same (name_of l.query l.rules l.word)) (listed (λ j. name_in l.rules (get_or l.actors j 0)) l.i) ≡ false)
-
-abbrev pub decreases-loop-i : goal.decreases-loop-i
-decreases-loop-i l = l.count - l.i

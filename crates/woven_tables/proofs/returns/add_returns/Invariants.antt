@@ -5,6 +5,3 @@ use Rattle.woven_tables.proofs.returns.add_returns.Given as goal
 
 abbrev pub invariant-loop-i : goal.invariant-loop-i
 invariant-loop-i l = (l.i ≤ l.count) × ReturnsSoFar l.returns l.i l.numbers l.initial.words l.words
-
-abbrev pub decreases-loop-i : goal.decreases-loop-i
-decreases-loop-i l = l.count - l.i

@@ -96,9 +96,3 @@ offset_bounds-numbers-i c = omega (arith, c.loop-i-test.true, c.requires.0.few)
 
 pub bounds-numbers-i : goal.bounds-numbers-i
 bounds-numbers-i c = omega (arith, c.loop-i-test.true, c.requires.0.few)
-
-pub overflow_add-i : goal.overflow_add-i
-overflow_add-i c = omega (arith, c.loop-i-test.true, c.requires.0.few)
-
-pub loop-i-smaller : goal.loop-i-smaller
-loop-i-smaller c = omega (arith, c.loop-i-test.true)

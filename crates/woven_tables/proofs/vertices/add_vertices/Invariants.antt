@@ -11,6 +11,3 @@ abbrev pub invariant-loop-i : goal.invariant-loop-i
 invariant-loop-i l = (l.i ≤ l.count)
     × VerticesSoFar l.query l.rules (text_vertices (drop l.base (text_of l.query l.rules l.k)) l.k (actors_at l.rules l.actors l.actor_count) l.parts l.count) l.initial.words l.words l.woven l.n l.i
     l.numbers
-
-abbrev pub decreases-loop-i : goal.decreases-loop-i
-decreases-loop-i l = l.count - l.i

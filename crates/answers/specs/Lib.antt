@@ -1,2 +1,0 @@
--- What services answer.
-pub mod Answered
