@@ -1,13 +1,13 @@
 -- Laws of comparisons.
-use Prim.Native.Nat.{ℕ, suc, ◌+◌, ◌≤◌, ◌<◌}
-use mathlib.Core.Path.{◌≡◌, refl, ap}
+use Prim.Native.Nat.{ℕ, zero, suc, ◌+◌, ◌≤◌, ◌<◌}
+use mathlib.Core.Path.{◌≡◌, refl, ap, ◌∙◌}
 use mathlib.Core.List.{[], ◌∷◌}
 use mathlib.Core.Bool.{Bool, true, false, not, ◌&&◌}
 use native.Mathlib.Omega.{arith}
 use lib.ListN.{length, get_or, drop}
-use lib.Dec.{eqb}
+use lib.Dec.{T, eqb, eqb→eq}
 use borrow.Author.Tests.{eq-eqb, ne_eqb, lt-ltb, le-ltb}
-use Rattle.logic.specs.Tests.{either, below_or_not, equal_or_not}
+use Rattle.logic.specs.Tests.{and_left, and_right}
 use Rattle.logic.specs.Flags.{neither}
 use Rattle.logic.specs.Lists.{drop_at, drop_end}
 use Rattle.model.specs.Bytes.{Bytes, bytes_of, same}
@@ -15,10 +15,8 @@ use Rattle.model.specs.Choice.{pick, Maybe, nothing, just}
 use Rattle.model.specs.Lists.{any}
 use Rattle.model.specs.Names.{mem}
 use Rattle.model.specs.Forms.{never_names, name_of}
-use Rattle.model.specs.TextOrder.{byte_order}
-use Rattle.std.specs.Cmp.Lexicographic.{pointwise, slice_cmp}
-use Rattle.std.specs.Ordering.{nat_cmp}
-use Rattle.compare.specs.Compare.{begins_one_of_six, order_of}
+use Rattle.model.specs.TextOrder.{less, equal, greater, byte_order}
+use Rattle.compare.specs.Compare.{begins_one_of_six, same_near}
 
 -- texts of different lengths differ
 pub same_lengths : (a b : Bytes) → (length a ≡ length b → ⊥) → same a b ≡ false
@@ -37,6 +35,18 @@ module _ (a b : Bytes) (i : ℕ) where
   unfolding same
   same_end l m = rw (drop_end a i l, drop_end b i m)
 
+  pub compare_end : length a ≤ i → length b ≤ i → byte_order (drop i a) (drop i b) ≡ equal
+  unfolding byte_order
+  compare_end l m = rw (drop_end a i l, drop_end b i m)
+
+  pub compare_shorter : length a ≤ i → i < length b → byte_order (drop i a) (drop i b) ≡ less
+  unfolding byte_order
+  compare_shorter l m = rw (drop_end a i l, drop_at b i m)
+
+  pub compare_longer : i < length a → length b ≤ i → byte_order (drop i a) (drop i b) ≡ greater
+  unfolding byte_order
+  compare_longer l m = rw (drop_at a i l, drop_end b i m)
+
   module _ (l : i < length a) (m : i < length b) where
     pub same_step : get_or a i 0 ≡ get_or b i 0 → same (drop i a) (drop i b) ≡ same (drop (i + 1) a) (drop (i + 1) b)
     unfolding same
@@ -46,27 +56,51 @@ module _ (a b : Bytes) (i : ℕ) where
     unfolding same
     same_differs e = rw (drop_at a i l, drop_at b i m, ne_eqb (get_or a i 0) (get_or b i 0) e)
 
--- the slices' own comparisons are the definitions
-pub same_is : (a b : Bytes) → pointwise eqb a b ≡ same a b
-unfolding same
-same_is [] [] = refl
-same_is [] (y ∷ b) = refl
-same_is (x ∷ a) [] = refl
-same_is (x ∷ a) (y ∷ b) = go (eqb x y) (same_is a b)
-  where
-    go : (t : Bool) → pointwise eqb a b ≡ same a b → t && pointwise eqb a b ≡ pick t (same a b) false
-    go true e = e
-    go false e = refl
+    pub compare_less : get_or a i 0 < get_or b i 0 → byte_order (drop i a) (drop i b) ≡ less
+    unfolding byte_order
+    compare_less h = rw (drop_at a i l, drop_at b i m, lt-ltb (get_or a i 0) (get_or b i 0) h)
 
-pub order_is : (a b : Bytes) → order_of (slice_cmp nat_cmp a b) ≡ byte_order a b
-unfolding order_of byte_order
-order_is [] [] = refl
-order_is [] (y ∷ b) = refl
-order_is (x ∷ a) [] = refl
-order_is (x ∷ a) (y ∷ b) =
-    either (below_or_not x y) (λ l. rw (lt-ltb x y l)) (λ l. either (equal_or_not x y)
-    (λ e. rw (le-ltb x y l, eq-eqb x y e, le-ltb y x (omega (arith, e))) (order_is a b))
-    (λ (_, d). rw (le-ltb x y l, ne_eqb x y d, lt-ltb y x (omega (arith, d)))))
+    pub compare_greater : get_or b i 0 < get_or a i 0 → byte_order (drop i a) (drop i b) ≡ greater
+    unfolding byte_order
+    compare_greater h = rw (drop_at a i l, drop_at b i m, le-ltb (get_or a i 0) (get_or b i 0) (omega arith), lt-ltb (get_or b i 0) (get_or a i 0) h)
+
+    pub compare_step : get_or b i 0 ≤ get_or a i 0 → get_or a i 0 ≤ get_or b i 0 → byte_order (drop i a) (drop i b) ≡ byte_order (drop (i + 1) a) (drop (i + 1) b)
+    unfolding byte_order
+    compare_step h k = rw (drop_at a i l, drop_at b i m, le-ltb (get_or a i 0) (get_or b i 0) h, le-ltb (get_or b i 0) (get_or a i 0) k)
+
+pick_both : (x y z : Bool) → pick x (pick y z false) false ≡ pick (x && y) z false
+pick_both true y z = refl
+pick_both false y z = refl
+
+-- the same from a place on: a row of the same bytes, and the same behind it
+same_row_law : (a b : Bytes) (i n : ℕ) → i + n < length a → i + n < length b
+    → same (drop i a) (drop i b) ≡ pick (same_near a b i n) (same (drop (i + suc n) a) (drop (i + suc n) b)) false
+unfolding same
+same_row_law a b i zero l m = rw (drop_at a i (omega arith), drop_at b i (omega arith))
+same_row_law a b i (suc n) l m =
+    let e : i + suc n + 1 ≡ i + suc (suc n) = omega arith in
+    same_row_law a b i n (omega arith) (omega arith)
+    ∙ rw (drop_at a (i + suc n) l, drop_at b (i + suc n) m, e)
+    (pick_both (same_near a b i n) (eqb (get_or a (i + suc n) 0) (get_or b (i + suc n) 0)) (same (drop (i + suc (suc n)) a) (drop (i + suc (suc n)) b)))
+
+-- two texts stand as what is left of them behind a row of the same bytes
+pub compare_row : (a b : Bytes) (i n : ℕ) → i + n < length a → i + n < length b → T (same_near a b i n)
+    → byte_order (drop i a) (drop i b) ≡ byte_order (drop (i + suc n) a) (drop (i + suc n) b)
+compare_row a b i zero l m t =
+    let e = eqb→eq (get_or a i 0) (get_or b i 0) t in
+    compare_step a b i (omega arith) (omega arith) (omega (arith, e)) (omega (arith, e))
+compare_row a b i (suc n) l m t =
+    let e = eqb→eq (get_or a (i + suc n) 0) (get_or b (i + suc n) 0) (and_right (same_near a b i n) _ t) in
+    let k : i + suc n + 1 ≡ i + suc (suc n) = omega arith in
+    compare_row a b i n (omega arith) (omega arith) (and_left (same_near a b i n) _ t)
+    ∙ rw k at (compare_step a b (i + suc n) l m (omega (arith, e)) (omega (arith, e)))
+
+module _ (a b : Bytes) (i n : ℕ) (l : i + n < length a) (m : i + n < length b) where
+  pub row_same : same_near a b i n ≡ true → same (drop i a) (drop i b) ≡ same (drop (i + suc n) a) (drop (i + suc n) b)
+  row_same e = same_row_law a b i n l m ∙ rw e
+
+  pub row_differs : same_near a b i n ≡ false → same (drop i a) (drop i b) ≡ false
+  row_differs e = same_row_law a b i n l m ∙ rw e
 
 -- the same exactly if equal
 pub same_itself : (a : Bytes) → same a a ≡ true

@@ -1,0 +1,12 @@
+-- `compare::same_fours` meets its contract. The loop's invariant: what is left of the two texts stands as the whole texts do.
+use Rattle.model.specs.TextOrder.{byte_order}
+use lib.ListN.{length, drop}
+use Prim.Native.Nat.{◌-◌, ◌≤◌}
+use mathlib.Core.Path.{◌≡◌}
+use Rattle.compare.proofs.same_fours.Given as goal
+
+abbrev pub invariant-loop-i : goal.invariant-loop-i
+invariant-loop-i l = (l.i ≤ length l.a) × (l.i ≤ length l.b) × (byte_order (drop l.i l.a) (drop l.i l.b) ≡ byte_order l.a l.b)
+
+abbrev pub decreases-loop-i : goal.decreases-loop-i
+decreases-loop-i l = length l.a - l.i
