@@ -12,7 +12,7 @@ use crate::{clauses, edges, vertices};
 use book_tables::BookCounts;
 use model::limits::{MAX_CONDITIONS, MAX_EDGES, MAX_RETURNS, MAX_VERTICES};
 use model::{Clause, Condition, Counts, Edge, Part, Pattern};
-use query_pieces::{Piece, reading};
+use query_pieces::{Piece, Place, reading};
 use query_survey::scan;
 
 // The numbers of the returned vertices found so far, in the order of the text.
@@ -85,7 +85,13 @@ pub fn pattern_of(book: &[u8], words: &[u32], counts: BookCounts, s: &[u8]) -> P
         let Ok(x) = reading::next_piece(s, place) else {
             return made(found, links, conditions, returned);
         };
-        place = x.next;
+        let behind = x.next;
+        // Field by field: as a whole it would be read before all of it is written.
+        place = Place {
+            at: behind.at,
+            close: behind.close,
+            spot: behind.spot,
+        };
         match x.piece {
             Piece::Start(v) => {
                 let own = vertices::vertex_number(s, found, v);

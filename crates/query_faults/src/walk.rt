@@ -128,13 +128,20 @@ pub fn fault_with(
     loop {
         match reading::next_piece(s, place) {
             Ok(x) => {
+                let behind = x.next;
+                // Field by field: as a whole it would be read before all of it is written.
+                let next = Place {
+                    at: behind.at,
+                    close: behind.close,
+                    spot: behind.spot,
+                };
                 t = piece_passed(
                     book, words, counts, s, vertices, edges, returned, i, t, x.piece,
                 );
                 if t.survey.undeclared {
-                    return tallies::fault_at_end(is_whole_from(s, x.next), t.survey);
+                    return tallies::fault_at_end(is_whole_from(s, next), t.survey);
                 }
-                place = x.next;
+                place = next;
                 i += 1;
             }
             Err(whole) => return tallies::fault_at_end(whole, t.survey),

@@ -152,9 +152,9 @@ pub vertex_missed : {close : Bool} {s : Bytes} {from : ℕ} → ((f : Bytes → 
 unfolding on_vertex
 vertex_missed e = record { reads = e; moves = tt; inside = tt; stands = λ o. tt }
 
-pub step_stopped : {w : Walk} {l : List Standing} {s : Bytes} {from : ℕ} → w ≡ stopped false → StepIs w l s from None
+pub step_stopped : {w : Walk} {l : List Standing} {s : Bytes} {from : ℕ} → w ≡ stopped false → StepIs w l s from (Err false)
 unfolding step_of
-step_stopped e = record { reads = e; moves = tt; inside = tt; stands = tt }
+step_stopped e = record { reads = e; moves = tt; inside = tt; stands = tt; ends = refl }
 
 pub place_stopped : {s : Bytes} {p : Place} {b : Bool} → walk_at s p ≡ stopped b → StepAt s p (Err b)
 unfolding step_of

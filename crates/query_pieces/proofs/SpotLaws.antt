@@ -7,8 +7,7 @@ use native.Mathlib.Omega.{arith}
 use lib.ListN.{length}
 use lib.Dec.{T}
 use borrow.Author.Tests.{ne_eqb}
-use Rattle.std.specs.Prelude.{Option, Some, None}
-use Rattle.std.specs.Option.{ok_or}
+use Rattle.std.specs.Prelude.{Option, Some, None, Result, Bool}
 use Rattle.logic.specs.Tests.{either, equal_or_not}
 use Rattle.model.specs.Bytes.{Bytes, bytes_of, same}
 use Rattle.model.specs.Choice.{nothing, just, and_then}
@@ -185,8 +184,8 @@ module _ (s : Bytes) (t : SignData) (q : ℕ) where
   return_none a = rw (no_mark 44 (omega arith) a)
 
 -- a step of an equal walk
-pub step_same : {k l : List Standing} (v w : Walk) (s : Bytes) (from : ℕ) (r : Option Step) → (v ≡ w) × (k ≡ l) → StepIs w l s from r → StepIs v k s from r
-step_same v w s from r e h = record { reads = e.0 ∙ h.reads; moves = h.moves; inside = h.inside; stands = step_stands s (ok_or r false) e.1 h.stands }
+pub step_same : {k l : List Standing} (v w : Walk) (s : Bytes) (from : ℕ) (r : Result Step Bool) → (v ≡ w) × (k ≡ l) → StepIs w l s from r → StepIs v k s from r
+step_same v w s from r e h = record { reads = e.0 ∙ h.reads; moves = h.moves; inside = h.inside; stands = step_stands s r e.1 h.stands; ends = h.ends }
 
 -- the first sign of a list that has one
 first_some : (ts : List Sign) (x : First) → first ts ≡ just x → ts ≡ x.sign ∷ x.rest

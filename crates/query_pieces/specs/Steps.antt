@@ -1,6 +1,5 @@
 -- The pieces of a text from a place on, one step after another.
 use Rattle.std.specs.Prelude.{ℕ, ◌-◌, ◌<◌, ◌≡◌, List, [], ◌∷◌, ◌++◌, Bool, true, false, T, eqb, length, Option, Some, None, Result, Ok, Err}
-use Rattle.std.specs.Option.{ok_or}
 use Rattle.model.specs.Bytes.{Bytes, bytes_of}
 use Rattle.model.specs.Choice.{pick, Maybe, nothing, just, and_then}
 use Rattle.model.specs.Words.{Got}
@@ -99,16 +98,22 @@ abbrev pub StepStands : List Standing → Bytes → Result Step Bool → Type 0
 StepStands l s (Err w) = T true
 StepStands l s (Ok x) = l ≡ piece_standing x.piece ++ standings_at s x.next
 
+-- where no piece stands behind a sign, the text does not end as it may
+abbrev pub StepEnds : Result Step Bool → Type 0
+StepEnds (Err w) = w ≡ false
+StepEnds (Ok x) = T true
+
 -- a piece that was read at the front of signs, and what follows it
 unfoldable pub pieces_by : Maybe (Got Piece) → List Sign → Walk
 pieces_by m ts = or_stopped (and_then m (λ g. just (ahead g.got (walk (spot_after g.got) (g.size - 1) ts))))
 
 -- a walk is r and what follows it, behind a place; so is what stands there; r lies inside the text; where there is none, the text does not end as it may
-pub record StepIs (w : Walk) (l : List Standing) (s : Bytes) (from : ℕ) (r : Option Step) : Type 0 where
-  pub reads : w ≡ step_of s (ok_or r false)
-  pub moves : StepBehind from (ok_or r false)
-  pub inside : StepInside s (ok_or r false)
-  pub stands : StepStands l s (ok_or r false)
+pub record StepIs (w : Walk) (l : List Standing) (s : Bytes) (from : ℕ) (r : Result Step Bool) : Type 0 where
+  pub reads : w ≡ step_of s r
+  pub moves : StepBehind from r
+  pub inside : StepInside s r
+  pub stands : StepStands l s r
+  pub ends : StepEnds r
 
 -- the signs behind the first sign, which ends at a place
 abbrev pub signs_behind : SpotData → Bytes → SignData → ℕ → List Sign

@@ -36,24 +36,38 @@ fn linked(arrow: usize, l: Link) -> Piece
 }
 
 // An edge in its brackets, an arrow's end, and the vertex behind it.
-pub fn link(s: &[u8], from: usize, arrow: usize) -> Option<Step>
+pub fn link(s: &[u8], from: usize, arrow: usize) -> Result<Step, bool>
     requires { 0 < arrow }
     ensures { StepIs (or_stopped (link_then (mark_bytes arrow) (signs_from true false s.now from) (chained arrow)))
         (standings_from none true false s.now from) s.now from result }
 {
-    let a = expected::mark_next(s, from, true, false, marks::OPEN_SQUARE)?;
-    let (edge, b) = expected::name_next(s, a, true, false)?;
-    let c = expected::mark_next(s, b, true, true, marks::COLON)?;
-    let (label, d) = expected::name_next(s, c, true, false)?;
-    let e = expected::mark_next(s, d, true, true, marks::CLOSE_SQUARE)?;
-    let f = expected::mark_next(s, e, true, false, arrow)?;
-    let (vertex, q) = vertex(s, f, false)?;
+    let Some(a) = expected::mark_next(s, from, true, false, marks::OPEN_SQUARE) else {
+        return Err(false);
+    };
+    let Some((edge, b)) = expected::name_next(s, a, true, false) else {
+        return Err(false);
+    };
+    let Some(c) = expected::mark_next(s, b, true, true, marks::COLON) else {
+        return Err(false);
+    };
+    let Some((label, d)) = expected::name_next(s, c, true, false) else {
+        return Err(false);
+    };
+    let Some(e) = expected::mark_next(s, d, true, true, marks::CLOSE_SQUARE) else {
+        return Err(false);
+    };
+    let Some(f) = expected::mark_next(s, e, true, false, arrow) else {
+        return Err(false);
+    };
+    let Some((vertex, q)) = vertex(s, f, false) else {
+        return Err(false);
+    };
     let l = Link {
         edge,
         label,
         vertex,
     };
-    Some(Step {
+    Ok(Step {
         piece: linked(arrow, l),
         next: Place {
             at: q,
@@ -64,12 +78,14 @@ pub fn link(s: &[u8], from: usize, arrow: usize) -> Option<Step>
 }
 
 // Match (v), from behind Match.
-pub fn start(s: &[u8], from: usize) -> Option<Step>
+pub fn start(s: &[u8], from: usize) -> Result<Step, bool>
     ensures { StepIs (pieces_by (start_at (signs_from true true s.now from)) (signs_from true true s.now from))
         (standings_from none true true s.now from) s.now from result }
 {
-    let (v, q) = vertex(s, from, true)?;
-    Some(Step {
+    let Some((v, q)) = vertex(s, from, true) else {
+        return Err(false);
+    };
+    Ok(Step {
         piece: Piece::Start(v),
         next: Place {
             at: q,
@@ -80,13 +96,15 @@ pub fn start(s: &[u8], from: usize) -> Option<Step>
 }
 
 // v <> u, from behind the sign.
-fn differ(s: &[u8], v: Part, from: usize) -> Option<Step>
+fn differ(s: &[u8], v: Part, from: usize) -> Result<Step, bool>
     requires { HasPart s.now v }
     ensures { StepIs (or_stopped (other_then (name_at s.now v) (signs_from false false s.now from) asked))
         (standings_from none false false s.now from) s.now from result }
 {
-    let (u, q) = expected::name_next(s, from, false, false)?;
-    Some(Step {
+    let Some((u, q)) = expected::name_next(s, from, false, false) else {
+        return Err(false);
+    };
+    Ok(Step {
         piece: Piece::Differ(v, u),
         next: Place {
             at: q,
@@ -97,16 +115,24 @@ fn differ(s: &[u8], v: Part, from: usize) -> Option<Step>
 }
 
 // x.attr REL value, from behind x.
-fn demand(s: &[u8], subject: Part, from: usize) -> Option<Step>
+fn demand(s: &[u8], subject: Part, from: usize) -> Result<Step, bool>
     requires { HasPart s.now subject }
     ensures { StepIs (or_stopped (expect (bytes_of ".") (signs_from false true s.now from)
         (λ ts. value_then (name_at s.now subject) ts asked))) (standings_from none false true s.now from) s.now from result }
 {
-    let a = expected::mark_next(s, from, false, true, marks::DOT)?;
-    let (attribute, b) = expected::name_next(s, a, false, false)?;
-    let (relation, c) = expected::relation_next(s, b, true)?;
-    let (value, q, close) = expected::value_next(s, c, false)?;
-    Some(Step {
+    let Some(a) = expected::mark_next(s, from, false, true, marks::DOT) else {
+        return Err(false);
+    };
+    let Some((attribute, b)) = expected::name_next(s, a, false, false) else {
+        return Err(false);
+    };
+    let Some((relation, c)) = expected::relation_next(s, b, true) else {
+        return Err(false);
+    };
+    let Some((value, q, close)) = expected::value_next(s, c, false) else {
+        return Err(false);
+    };
+    Ok(Step {
         piece: Piece::Asks(Demand {
             subject,
             attribute,
@@ -122,11 +148,13 @@ fn demand(s: &[u8], subject: Part, from: usize) -> Option<Step>
 }
 
 // A condition, from behind Where or AND.
-pub fn condition(s: &[u8], from: usize) -> Option<Step>
+pub fn condition(s: &[u8], from: usize) -> Result<Step, bool>
     ensures { StepIs (pieces_by (condition_at (signs_from false true s.now from)) (signs_from false true s.now from))
         (standings_from none false true s.now from) s.now from result }
 {
-    let (x, a) = expected::name_next(s, from, false, true)?;
+    let Some((x, a)) = expected::name_next(s, from, false, true) else {
+        return Err(false);
+    };
     match expected::mark_next(s, a, false, true, marks::DIFFERS) {
         Some(b) => differ(s, x, b),
         None => demand(s, x, a),
@@ -134,12 +162,14 @@ pub fn condition(s: &[u8], from: usize) -> Option<Step>
 }
 
 // A returned name, from behind Return or a comma.
-pub fn returned(s: &[u8], from: usize, close: bool) -> Option<Step>
+pub fn returned(s: &[u8], from: usize, close: bool) -> Result<Step, bool>
     ensures { StepIs (pieces_by (return_at (signs_from false close s.now from)) (signs_from false close s.now from))
         (standings_from none false close s.now from) s.now from result }
 {
-    let (v, q) = expected::name_next(s, from, false, close)?;
-    Some(Step {
+    let Some((v, q)) = expected::name_next(s, from, false, close) else {
+        return Err(false);
+    };
+    Ok(Step {
         piece: Piece::Returns(v),
         next: Place {
             at: q,

@@ -14,6 +14,8 @@ pub fn next_piece(s: &[u8], place: Place) -> Result<Step, bool>
     if s.len() <= kinds::blanks_end(s, at) {
         return Err(spots::ends_well(spot));
     }
-    let (t, q) = reading::next_sign(s, at, spots::in_chain(spot), close).ok_or(false)?;
-    spots::piece_by(s, spot, t, q).ok_or(false)
+    let Some((t, q)) = reading::next_sign(s, at, spots::in_chain(spot), close) else {
+        return Err(false);
+    };
+    spots::piece_by(s, spot, t, q)
 }

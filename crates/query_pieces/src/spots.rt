@@ -50,14 +50,14 @@ pub fn in_chain(spot: Spot) -> bool
 }
 
 // The piece at the beginning, whose first sign ends at q.
-fn first_piece(s: &[u8], t: Sign, q: usize) -> Option<Step>
+fn first_piece(s: &[u8], t: Sign, q: usize) -> Result<Step, bool>
     requires { SignInside s.now t }
     ensures { StepIs (walk_by AtStart s.now t q) (standings_by AtStart s.now t q) s.now q result }
 {
     if is_word(s, t, b"Match") {
         return parts::start(s, q);
     }
-    None
+    Err(false)
 }
 
 // The mark that ends a link, by the one that begins it: -> behind -, and - behind <-.
@@ -77,7 +77,7 @@ fn arrow_behind(t: Sign) -> Option<usize>
 }
 
 // The piece behind a chain, whose first sign ends at q.
-fn chain_piece(s: &[u8], t: Sign, q: usize) -> Option<Step>
+fn chain_piece(s: &[u8], t: Sign, q: usize) -> Result<Step, bool>
     requires { SignInside s.now t }
     ensures { StepIs (walk_by InChain s.now t q) (standings_by InChain s.now t q) s.now q result }
 {
@@ -93,11 +93,11 @@ fn chain_piece(s: &[u8], t: Sign, q: usize) -> Option<Step>
     if is_word(s, t, b"Return") {
         return parts::returned(s, q, true);
     }
-    None
+    Err(false)
 }
 
 // The piece behind a condition, whose first sign ends at q.
-fn where_piece(s: &[u8], t: Sign, q: usize) -> Option<Step>
+fn where_piece(s: &[u8], t: Sign, q: usize) -> Result<Step, bool>
     requires { SignInside s.now t }
     ensures { StepIs (walk_by InWhere s.now t q) (standings_by InWhere s.now t q) s.now q result }
 {
@@ -110,24 +110,24 @@ fn where_piece(s: &[u8], t: Sign, q: usize) -> Option<Step>
     if is_word(s, t, b"Return") {
         return parts::returned(s, q, true);
     }
-    None
+    Err(false)
 }
 
 // The piece behind a returned name, whose first sign ends at q.
-fn return_piece(s: &[u8], t: Sign, q: usize) -> Option<Step>
+fn return_piece(s: &[u8], t: Sign, q: usize) -> Result<Step, bool>
     ensures { StepIs (walk_by InReturn s.now t q) (standings_by InReturn s.now t q) s.now q result }
 {
     let Sign::Mark(code) = t else {
-        return None;
+        return Err(false);
     };
     if code != marks::COMMA {
-        return None;
+        return Err(false);
     }
     parts::returned(s, q, false)
 }
 
 // The piece at a spot, whose first sign ends at q.
-pub fn piece_by(s: &[u8], spot: Spot, t: Sign, q: usize) -> Option<Step>
+pub fn piece_by(s: &[u8], spot: Spot, t: Sign, q: usize) -> Result<Step, bool>
     requires { SignInside s.now t }
     ensures { StepIs (walk_by spot s.now t q) (standings_by spot s.now t q) s.now q result }
 {

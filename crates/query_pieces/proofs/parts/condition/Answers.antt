@@ -1,4 +1,3 @@
-use Rattle.std.specs.Option.{ok_or}
 use Rattle.model.specs.Places.{none, bracket_of, variable_at}
 use Rattle.model.specs.Signs.{is_mark}
 use Rattle.model.specs.Bytes.{same}
@@ -16,46 +15,46 @@ use mathlib.Core.Bool.{true, false}
 use mathlib.Core.Path.{ap, subst, ◌∙◌}
 use Rattle.query_pieces.proofs.parts.condition.Goals as goal
 
-pub returns-in_err-x : goal.returns-in_err-x
+pub returns-in_default : goal.returns-in_default
 unfolding or_stopped
-returns-in_err-x c =
-    rw c.from_residual.ensures
-    (step_stopped (condition_by (signs_from false true c.args.s.now c.args.from)
+returns-in_default c =
+    step_stopped (condition_by (signs_from false true c.args.s.now c.args.from)
     ∙ ap or_stopped (name_unread false true c.args.s.now c.args.from c.name_next.result
-    c.name_next.ensures c.in_err-x.was _)))
+    c.name_next.ensures c.in_default.is _))
 
 pub differ-requires : goal.differ-requires
 differ-requires c =
-    subst (NameInside c.args.s.now) c.in_ok-x.was c.name_next.ensures.inside
+    subst (NameInside c.args.s.now) c.in-Some.is c.name_next.ensures.inside
 
 pub demand-requires : goal.demand-requires
 demand-requires c =
-    subst (NameInside c.args.s.now) c.in_ok-x.was c.name_next.ensures.inside
+    subst (NameInside c.args.s.now) c.in-Some.is c.name_next.ensures.inside
 
-pub returns-in-Some : goal.returns-in-Some
+pub returns-in-Some-mark_next : goal.returns-in-Some-mark_next
 unfolding bracket_of is_mark same mark_bytes variable_at
-returns-in-Some c =
+returns-in-Some-mark_next c =
     record {
       reads = condition_by (signs_from false true c.args.s.now c.args.from)
           ∙ ap or_stopped (name_read false true c.args.s.now c.args.from c.name_next.result
-          c.name_next.ensures c.in_ok-x.x c.in_ok-x.a c.in_ok-x.was _
-          ∙ rest_differs c.args.s.now c.in_ok-x.a c.mark_next.result c.mark_next.ensures
-          (name_at c.args.s.now c.in_ok-x.x) asked c.in-Some.b c.in-Some.is) ∙ c.differ.ensures.reads;
-      moves = step_farther c.args.from c.in-Some.b (ok_or c.differ.result false)
+          c.name_next.ensures c.in-Some.x c.in-Some.a c.in-Some.is _
+          ∙ rest_differs c.args.s.now c.in-Some.a c.mark_next.result c.mark_next.ensures
+          (name_at c.args.s.now c.in-Some.x) asked c.in-Some-mark_next.b c.in-Some-mark_next.is) ∙ c.differ.ensures.reads;
+      moves = step_farther c.args.from c.in-Some-mark_next.b c.differ.result
           (omega (
             arith,
             name_moves false true c.args.s.now c.args.from c.name_next.result
-                c.name_next.ensures c.in_ok-x.x c.in_ok-x.a c.in_ok-x.was,
+                c.name_next.ensures c.in-Some.x c.in-Some.a c.in-Some.is,
             mark_moves false true
-                c.args.s.now c.in_ok-x.a 15422 c.mark_next.result c.mark_next.ensures
-                c.in-Some.b c.in-Some.is,
+                c.args.s.now c.in-Some.a 15422 c.mark_next.result c.mark_next.ensures
+                c.in-Some-mark_next.b c.in-Some-mark_next.is,
           )) c.differ.ensures.moves;
       inside = c.differ.ensures.inside;
-      stands = step_stands c.args.s.now (ok_or c.differ.result false)
+      stands = step_stands c.args.s.now c.differ.result
           (name_stands false true c.args.s.now c.args.from c.name_next.result c.name_next.ensures
-          c.in_ok-x.x c.in_ok-x.a c.in_ok-x.was none
-          ∙ mark_stands false true c.args.s.now c.in_ok-x.a 15422 c.mark_next.result
-          c.mark_next.ensures c.in-Some.b c.in-Some.is none) c.differ.ensures.stands;
+          c.in-Some.x c.in-Some.a c.in-Some.is none
+          ∙ mark_stands false true c.args.s.now c.in-Some.a 15422 c.mark_next.result
+          c.mark_next.ensures c.in-Some-mark_next.b c.in-Some-mark_next.is none) c.differ.ensures.stands;
+      ends = c.differ.ensures.ends;
     }
 
 pub returns-in-None : goal.returns-in-None
@@ -64,15 +63,16 @@ returns-in-None c =
     record {
       reads = condition_by (signs_from false true c.args.s.now c.args.from)
           ∙ ap or_stopped (name_read false true c.args.s.now c.args.from c.name_next.result
-          c.name_next.ensures c.in_ok-x.x c.in_ok-x.a c.in_ok-x.was _
-          ∙ rest_asks c.args.s.now c.in_ok-x.a c.mark_next.result
-          c.mark_next.ensures (name_at c.args.s.now c.in_ok-x.x) asked c.in-None.is)
+          c.name_next.ensures c.in-Some.x c.in-Some.a c.in-Some.is _
+          ∙ rest_asks c.args.s.now c.in-Some.a c.mark_next.result
+          c.mark_next.ensures (name_at c.args.s.now c.in-Some.x) asked c.in-None.is)
           ∙ c.demand.ensures.reads;
-      moves = step_farther c.args.from c.in_ok-x.a (ok_or c.demand.result false)
+      moves = step_farther c.args.from c.in-Some.a c.demand.result
           (name_moves false true c.args.s.now c.args.from c.name_next.result c.name_next.ensures
-          c.in_ok-x.x c.in_ok-x.a c.in_ok-x.was) c.demand.ensures.moves;
+          c.in-Some.x c.in-Some.a c.in-Some.is) c.demand.ensures.moves;
       inside = c.demand.ensures.inside;
-      stands = step_stands c.args.s.now (ok_or c.demand.result false)
+      stands = step_stands c.args.s.now c.demand.result
           (name_stands false true c.args.s.now c.args.from c.name_next.result c.name_next.ensures
-          c.in_ok-x.x c.in_ok-x.a c.in_ok-x.was none) c.demand.ensures.stands;
+          c.in-Some.x c.in-Some.a c.in-Some.is none) c.demand.ensures.stands;
+      ends = c.demand.ensures.ends;
     }

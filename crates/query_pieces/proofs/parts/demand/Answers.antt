@@ -14,86 +14,83 @@ use mathlib.Core.Bool.{true, false}
 use mathlib.Core.Path.{ap, subst, ◌∙◌}
 use Rattle.query_pieces.proofs.parts.demand.Goals as goal
 
-pub returns-in_err-a : goal.returns-in_err-a
+pub returns-in_default : goal.returns-in_default
 unfolding or_stopped value_then mark_bytes
-returns-in_err-a c =
-    rw c.from_residual.ensures
-    (step_stopped (ap or_stopped (mark_unread false true c.args.s.now c.args.from 46 c.mark_next.result
-    c.mark_next.ensures c.in_err-a.was _)))
+returns-in_default c =
+    step_stopped (ap or_stopped (mark_unread false true c.args.s.now c.args.from 46 c.mark_next.result
+    c.mark_next.ensures c.in_default.is _))
 
-pub returns-in_err-attribute : goal.returns-in_err-attribute
+pub returns-in_default-name_next : goal.returns-in_default-name_next
 unfolding or_stopped value_then mark_bytes
-returns-in_err-attribute c =
-    rw c.from_residual-in_err-attribute.ensures
-    (step_stopped (ap or_stopped (mark_read false true c.args.s.now c.args.from 46 c.mark_next.result
-    c.mark_next.ensures c.in_ok-a.a c.in_ok-a.was _
-    ∙ name_unread false false c.args.s.now c.in_ok-a.a c.name_next.result
-    c.name_next.ensures c.in_err-attribute.was _)))
+returns-in_default-name_next c =
+    step_stopped (ap or_stopped (mark_read false true c.args.s.now c.args.from 46 c.mark_next.result
+    c.mark_next.ensures c.in-Some.a c.in-Some.is _
+    ∙ name_unread false false c.args.s.now c.in-Some.a c.name_next.result
+    c.name_next.ensures c.in_default-name_next.is _))
 
-pub returns-in_err-relation : goal.returns-in_err-relation
+pub returns-in_default-relation_next : goal.returns-in_default-relation_next
 unfolding or_stopped value_then mark_bytes
-returns-in_err-relation c =
-    rw c.from_residual-in_err-relation.ensures
-    (step_stopped (ap or_stopped (mark_read false true c.args.s.now c.args.from 46 c.mark_next.result
-    c.mark_next.ensures c.in_ok-a.a c.in_ok-a.was _
-    ∙ name_read false false c.args.s.now c.in_ok-a.a c.name_next.result c.name_next.ensures
-    c.in_ok-attribute.attribute c.in_ok-attribute.b c.in_ok-attribute.was _
-    ∙ relation_unread true c.args.s.now c.in_ok-attribute.b c.relation_next.result
-    c.relation_next.ensures c.in_err-relation.was _)))
+returns-in_default-relation_next c =
+    step_stopped (ap or_stopped (mark_read false true c.args.s.now c.args.from 46 c.mark_next.result
+    c.mark_next.ensures c.in-Some.a c.in-Some.is _
+    ∙ name_read false false c.args.s.now c.in-Some.a c.name_next.result c.name_next.ensures
+    c.in-Some-name_next.attribute c.in-Some-name_next.b c.in-Some-name_next.is _
+    ∙ relation_unread true c.args.s.now c.in-Some-name_next.b c.relation_next.result
+    c.relation_next.ensures c.in_default-relation_next.is _))
 
-pub returns-in_err-value : goal.returns-in_err-value
+pub returns-in_default-value_next : goal.returns-in_default-value_next
 unfolding or_stopped value_then mark_bytes
-returns-in_err-value c =
-    rw c.from_residual-in_err-value.ensures
-    (step_stopped (ap or_stopped (mark_read false true c.args.s.now c.args.from 46 c.mark_next.result
-    c.mark_next.ensures c.in_ok-a.a c.in_ok-a.was _
-    ∙ name_read false false c.args.s.now c.in_ok-a.a c.name_next.result c.name_next.ensures
-    c.in_ok-attribute.attribute c.in_ok-attribute.b c.in_ok-attribute.was _
-    ∙ relation_read true c.args.s.now c.in_ok-attribute.b c.relation_next.result
-    c.relation_next.ensures c.in_ok-relation.relation c.in_ok-relation.c
-    c.in_ok-relation.was _ ∙ value_unread false c.args.s.now c.in_ok-relation.c
-    c.value_next.result c.value_next.ensures c.in_err-value.was _)))
+returns-in_default-value_next c =
+    step_stopped (ap or_stopped (mark_read false true c.args.s.now c.args.from 46 c.mark_next.result
+    c.mark_next.ensures c.in-Some.a c.in-Some.is _
+    ∙ name_read false false c.args.s.now c.in-Some.a c.name_next.result c.name_next.ensures
+    c.in-Some-name_next.attribute c.in-Some-name_next.b c.in-Some-name_next.is _
+    ∙ relation_read true c.args.s.now c.in-Some-name_next.b c.relation_next.result
+    c.relation_next.ensures c.in-Some-relation_next.relation c.in-Some-relation_next.c
+    c.in-Some-relation_next.is _ ∙ value_unread false c.args.s.now c.in-Some-relation_next.c
+    c.value_next.result c.value_next.ensures c.in_default-value_next.is _))
 
 pub returns : goal.returns
 unfolding step_of walk_at piece_of spot_of chain_at or_stopped value_then mark_bytes piece_standing bracket_of is_mark same variable_at
 returns c =
     record {
       reads = ap or_stopped (mark_read false true c.args.s.now c.args.from 46 c.mark_next.result
-          c.mark_next.ensures c.in_ok-a.a c.in_ok-a.was _
-          ∙ name_read false false c.args.s.now c.in_ok-a.a c.name_next.result c.name_next.ensures
-          c.in_ok-attribute.attribute c.in_ok-attribute.b c.in_ok-attribute.was _
-          ∙ relation_read true c.args.s.now c.in_ok-attribute.b c.relation_next.result
-          c.relation_next.ensures c.in_ok-relation.relation c.in_ok-relation.c
-          c.in_ok-relation.was _ ∙ value_read false c.args.s.now c.in_ok-relation.c
-          c.value_next.result c.value_next.ensures c.in_ok-value.value c.in_ok-value.q
-          c.in_ok-value.close c.in_ok-value.was _);
+          c.mark_next.ensures c.in-Some.a c.in-Some.is _
+          ∙ name_read false false c.args.s.now c.in-Some.a c.name_next.result c.name_next.ensures
+          c.in-Some-name_next.attribute c.in-Some-name_next.b c.in-Some-name_next.is _
+          ∙ relation_read true c.args.s.now c.in-Some-name_next.b c.relation_next.result
+          c.relation_next.ensures c.in-Some-relation_next.relation c.in-Some-relation_next.c
+          c.in-Some-relation_next.is _ ∙ value_read false c.args.s.now c.in-Some-relation_next.c
+          c.value_next.result c.value_next.ensures c.in-Some-value_next.value c.in-Some-value_next.q
+          c.in-Some-value_next.close c.in-Some-value_next.is _);
       moves = omega (
         arith,
         mark_moves false true c.args.s.now c.args.from 46 c.mark_next.result c.mark_next.ensures
-            c.in_ok-a.a c.in_ok-a.was,
-        name_moves false false c.args.s.now c.in_ok-a.a c.name_next.result
-            c.name_next.ensures c.in_ok-attribute.attribute c.in_ok-attribute.b
-            c.in_ok-attribute.was,
-        relation_moves true c.args.s.now c.in_ok-attribute.b
-            c.relation_next.result c.relation_next.ensures c.in_ok-relation.relation
-            c.in_ok-relation.c c.in_ok-relation.was,
+            c.in-Some.a c.in-Some.is,
+        name_moves false false c.args.s.now c.in-Some.a c.name_next.result
+            c.name_next.ensures c.in-Some-name_next.attribute c.in-Some-name_next.b
+            c.in-Some-name_next.is,
+        relation_moves true c.args.s.now c.in-Some-name_next.b
+            c.relation_next.result c.relation_next.ensures c.in-Some-relation_next.relation
+            c.in-Some-relation_next.c c.in-Some-relation_next.is,
         value_moves false c.args.s.now
-            c.in_ok-relation.c c.value_next.result c.value_next.ensures c.in_ok-value.value
-            c.in_ok-value.q c.in_ok-value.close c.in_ok-value.was,
+            c.in-Some-relation_next.c c.value_next.result c.value_next.ensures c.in-Some-value_next.value
+            c.in-Some-value_next.q c.in-Some-value_next.close c.in-Some-value_next.is,
       );
       inside = record {
         subject = c.requires;
-        attribute = subst (NameInside c.args.s.now) c.in_ok-attribute.was c.name_next.ensures.inside;
-        value = subst (ValueInside c.args.s.now) c.in_ok-value.was c.value_next.ensures.inside;
+        attribute = subst (NameInside c.args.s.now) c.in-Some-name_next.is c.name_next.ensures.inside;
+        value = subst (ValueInside c.args.s.now) c.in-Some-value_next.is c.value_next.ensures.inside;
       };
       stands = mark_stands false true
-          c.args.s.now c.args.from 46 c.mark_next.result c.mark_next.ensures c.in_ok-a.a
-          c.in_ok-a.was none ∙ name_stands false false c.args.s.now c.in_ok-a.a c.name_next.result
-          c.name_next.ensures c.in_ok-attribute.attribute c.in_ok-attribute.b
-          c.in_ok-attribute.was none
-          ∙ relation_stands true c.args.s.now c.in_ok-attribute.b c.relation_next.result
-          c.relation_next.ensures c.in_ok-relation.relation c.in_ok-relation.c
-          c.in_ok-relation.was none ∙ value_stands false c.args.s.now c.in_ok-relation.c
-          c.value_next.result c.value_next.ensures c.in_ok-value.value c.in_ok-value.q
-          c.in_ok-value.close c.in_ok-value.was;
+          c.args.s.now c.args.from 46 c.mark_next.result c.mark_next.ensures c.in-Some.a
+          c.in-Some.is none ∙ name_stands false false c.args.s.now c.in-Some.a c.name_next.result
+          c.name_next.ensures c.in-Some-name_next.attribute c.in-Some-name_next.b
+          c.in-Some-name_next.is none
+          ∙ relation_stands true c.args.s.now c.in-Some-name_next.b c.relation_next.result
+          c.relation_next.ensures c.in-Some-relation_next.relation c.in-Some-relation_next.c
+          c.in-Some-relation_next.is none ∙ value_stands false c.args.s.now c.in-Some-relation_next.c
+          c.value_next.result c.value_next.ensures c.in-Some-value_next.value c.in-Some-value_next.q
+          c.in-Some-value_next.close c.in-Some-value_next.is;
+      ends = tt;
     }

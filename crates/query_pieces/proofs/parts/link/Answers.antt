@@ -15,160 +15,154 @@ use mathlib.Core.Bool.{true, false}
 use mathlib.Core.Path.{sym, ap, subst, ◌∙◌}
 use Rattle.query_pieces.proofs.parts.link.Goals as goal
 
-pub returns-in_err-a : goal.returns-in_err-a
+pub returns-in_default : goal.returns-in_default
 unfolding link_then or_stopped mark_bytes
-returns-in_err-a c =
-    rw c.from_residual.ensures
-    (step_stopped (ap or_stopped (mark_unread true false c.args.s.now c.args.from 91 c.mark_next.result
-    c.mark_next.ensures c.in_err-a.was _)))
+returns-in_default c =
+    step_stopped (ap or_stopped (mark_unread true false c.args.s.now c.args.from 91 c.mark_next.result
+    c.mark_next.ensures c.in_default.is _))
 
-pub returns-in_err-edge : goal.returns-in_err-edge
+pub returns-in_default-name_next : goal.returns-in_default-name_next
 unfolding link_then or_stopped mark_bytes
-returns-in_err-edge c =
-    rw c.from_residual-in_err-edge.ensures
-    (step_stopped (ap or_stopped (mark_read true false c.args.s.now c.args.from 91 c.mark_next.result
-    c.mark_next.ensures c.in_ok-a.a c.in_ok-a.was _
-    ∙ name_unread true false c.args.s.now c.in_ok-a.a c.name_next.result
-    c.name_next.ensures c.in_err-edge.was _)))
+returns-in_default-name_next c =
+    step_stopped (ap or_stopped (mark_read true false c.args.s.now c.args.from 91 c.mark_next.result
+    c.mark_next.ensures c.in-Some.a c.in-Some.is _
+    ∙ name_unread true false c.args.s.now c.in-Some.a c.name_next.result
+    c.name_next.ensures c.in_default-name_next.is _))
 
-pub returns-in_err-c : goal.returns-in_err-c
+pub returns-in_default-mark_next : goal.returns-in_default-mark_next
 unfolding link_then or_stopped mark_bytes
-returns-in_err-c c =
-    rw c.from_residual-in_err-c.ensures
-    (step_stopped (ap or_stopped (mark_read true false c.args.s.now c.args.from 91 c.mark_next.result
-    c.mark_next.ensures c.in_ok-a.a c.in_ok-a.was _
-    ∙ name_read true false c.args.s.now c.in_ok-a.a c.name_next.result c.name_next.ensures
-    c.in_ok-edge.edge c.in_ok-edge.b c.in_ok-edge.was _
-    ∙ mark_unread true true c.args.s.now c.in_ok-edge.b 58 c.mark_next-2.result
-    c.mark_next-2.ensures c.in_err-c.was _)))
+returns-in_default-mark_next c =
+    step_stopped (ap or_stopped (mark_read true false c.args.s.now c.args.from 91 c.mark_next.result
+    c.mark_next.ensures c.in-Some.a c.in-Some.is _
+    ∙ name_read true false c.args.s.now c.in-Some.a c.name_next.result c.name_next.ensures
+    c.in-Some-name_next.edge c.in-Some-name_next.b c.in-Some-name_next.is _
+    ∙ mark_unread true true c.args.s.now c.in-Some-name_next.b 58 c.mark_next-2.result
+    c.mark_next-2.ensures c.in_default-mark_next.is _))
 
-pub returns-in_err-label : goal.returns-in_err-label
+pub returns-in_default-name_next-2 : goal.returns-in_default-name_next-2
 unfolding link_then or_stopped mark_bytes
-returns-in_err-label c =
-    rw c.from_residual-in_err-label.ensures
-    (step_stopped (ap or_stopped (mark_read true false c.args.s.now c.args.from 91 c.mark_next.result
-    c.mark_next.ensures c.in_ok-a.a c.in_ok-a.was _
-    ∙ name_read true false c.args.s.now c.in_ok-a.a c.name_next.result c.name_next.ensures
-    c.in_ok-edge.edge c.in_ok-edge.b c.in_ok-edge.was _
-    ∙ mark_read true true c.args.s.now c.in_ok-edge.b 58 c.mark_next-2.result
-    c.mark_next-2.ensures c.in_ok-c.c c.in_ok-c.was _
-    ∙ name_unread true false c.args.s.now c.in_ok-c.c c.name_next-2.result
-    c.name_next-2.ensures c.in_err-label.was _)))
+returns-in_default-name_next-2 c =
+    step_stopped (ap or_stopped (mark_read true false c.args.s.now c.args.from 91 c.mark_next.result
+    c.mark_next.ensures c.in-Some.a c.in-Some.is _
+    ∙ name_read true false c.args.s.now c.in-Some.a c.name_next.result c.name_next.ensures
+    c.in-Some-name_next.edge c.in-Some-name_next.b c.in-Some-name_next.is _
+    ∙ mark_read true true c.args.s.now c.in-Some-name_next.b 58 c.mark_next-2.result
+    c.mark_next-2.ensures c.in-Some-mark_next.c c.in-Some-mark_next.is _
+    ∙ name_unread true false c.args.s.now c.in-Some-mark_next.c c.name_next-2.result
+    c.name_next-2.ensures c.in_default-name_next-2.is _))
 
-pub returns-in_err-e : goal.returns-in_err-e
+pub returns-in_default-mark_next-2 : goal.returns-in_default-mark_next-2
 unfolding link_then or_stopped mark_bytes
-returns-in_err-e c =
-    rw c.from_residual-in_err-e.ensures
-    (step_stopped (ap or_stopped (mark_read true false c.args.s.now c.args.from 91 c.mark_next.result
-    c.mark_next.ensures c.in_ok-a.a c.in_ok-a.was _
-    ∙ name_read true false c.args.s.now c.in_ok-a.a c.name_next.result c.name_next.ensures
-    c.in_ok-edge.edge c.in_ok-edge.b c.in_ok-edge.was _
-    ∙ mark_read true true c.args.s.now c.in_ok-edge.b 58 c.mark_next-2.result
-    c.mark_next-2.ensures c.in_ok-c.c c.in_ok-c.was _
-    ∙ name_read true false c.args.s.now c.in_ok-c.c c.name_next-2.result c.name_next-2.ensures
-    c.in_ok-label.label c.in_ok-label.d c.in_ok-label.was _
-    ∙ mark_unread true true c.args.s.now c.in_ok-label.d 93 c.mark_next-3.result
-    c.mark_next-3.ensures c.in_err-e.was _)))
+returns-in_default-mark_next-2 c =
+    step_stopped (ap or_stopped (mark_read true false c.args.s.now c.args.from 91 c.mark_next.result
+    c.mark_next.ensures c.in-Some.a c.in-Some.is _
+    ∙ name_read true false c.args.s.now c.in-Some.a c.name_next.result c.name_next.ensures
+    c.in-Some-name_next.edge c.in-Some-name_next.b c.in-Some-name_next.is _
+    ∙ mark_read true true c.args.s.now c.in-Some-name_next.b 58 c.mark_next-2.result
+    c.mark_next-2.ensures c.in-Some-mark_next.c c.in-Some-mark_next.is _
+    ∙ name_read true false c.args.s.now c.in-Some-mark_next.c c.name_next-2.result c.name_next-2.ensures
+    c.in-Some-name_next-2.label c.in-Some-name_next-2.d c.in-Some-name_next-2.is _
+    ∙ mark_unread true true c.args.s.now c.in-Some-name_next-2.d 93 c.mark_next-3.result
+    c.mark_next-3.ensures c.in_default-mark_next-2.is _))
 
 pub mark_next-requires-4 : goal.mark_next-requires-4
 mark_next-requires-4 c =
     c.requires
 
-pub returns-in_err-f : goal.returns-in_err-f
+pub returns-in_default-mark_next-3 : goal.returns-in_default-mark_next-3
 unfolding link_then or_stopped mark_bytes
-returns-in_err-f c =
-    rw c.from_residual-in_err-f.ensures
-    (step_stopped (ap or_stopped (mark_read true false c.args.s.now c.args.from 91 c.mark_next.result
-    c.mark_next.ensures c.in_ok-a.a c.in_ok-a.was _
-    ∙ name_read true false c.args.s.now c.in_ok-a.a c.name_next.result c.name_next.ensures
-    c.in_ok-edge.edge c.in_ok-edge.b c.in_ok-edge.was _
-    ∙ mark_read true true c.args.s.now c.in_ok-edge.b 58 c.mark_next-2.result
-    c.mark_next-2.ensures c.in_ok-c.c c.in_ok-c.was _
-    ∙ name_read true false c.args.s.now c.in_ok-c.c c.name_next-2.result c.name_next-2.ensures
-    c.in_ok-label.label c.in_ok-label.d c.in_ok-label.was _
-    ∙ mark_read true true c.args.s.now c.in_ok-label.d 93 c.mark_next-3.result
-    c.mark_next-3.ensures c.in_ok-e.e c.in_ok-e.was _
-    ∙ mark_unread true false c.args.s.now c.in_ok-e.e c.args.arrow c.mark_next-4.result
-    c.mark_next-4.ensures c.in_err-f.was _)))
+returns-in_default-mark_next-3 c =
+    step_stopped (ap or_stopped (mark_read true false c.args.s.now c.args.from 91 c.mark_next.result
+    c.mark_next.ensures c.in-Some.a c.in-Some.is _
+    ∙ name_read true false c.args.s.now c.in-Some.a c.name_next.result c.name_next.ensures
+    c.in-Some-name_next.edge c.in-Some-name_next.b c.in-Some-name_next.is _
+    ∙ mark_read true true c.args.s.now c.in-Some-name_next.b 58 c.mark_next-2.result
+    c.mark_next-2.ensures c.in-Some-mark_next.c c.in-Some-mark_next.is _
+    ∙ name_read true false c.args.s.now c.in-Some-mark_next.c c.name_next-2.result c.name_next-2.ensures
+    c.in-Some-name_next-2.label c.in-Some-name_next-2.d c.in-Some-name_next-2.is _
+    ∙ mark_read true true c.args.s.now c.in-Some-name_next-2.d 93 c.mark_next-3.result
+    c.mark_next-3.ensures c.in-Some-mark_next-2.e c.in-Some-mark_next-2.is _
+    ∙ mark_unread true false c.args.s.now c.in-Some-mark_next-2.e c.args.arrow c.mark_next-4.result
+    c.mark_next-4.ensures c.in_default-mark_next-3.is _))
 
-pub returns-in_err-vertex : goal.returns-in_err-vertex
+pub returns-in_default-vertex : goal.returns-in_default-vertex
 unfolding link_then or_stopped mark_bytes
-returns-in_err-vertex c =
-    rw c.from_residual-in_err-vertex.ensures
-    (step_stopped (ap or_stopped (mark_read true false c.args.s.now c.args.from 91 c.mark_next.result
-    c.mark_next.ensures c.in_ok-a.a c.in_ok-a.was _
-    ∙ name_read true false c.args.s.now c.in_ok-a.a c.name_next.result c.name_next.ensures
-    c.in_ok-edge.edge c.in_ok-edge.b c.in_ok-edge.was _
-    ∙ mark_read true true c.args.s.now c.in_ok-edge.b 58 c.mark_next-2.result
-    c.mark_next-2.ensures c.in_ok-c.c c.in_ok-c.was _
-    ∙ name_read true false c.args.s.now c.in_ok-c.c c.name_next-2.result c.name_next-2.ensures
-    c.in_ok-label.label c.in_ok-label.d c.in_ok-label.was _
-    ∙ mark_read true true c.args.s.now c.in_ok-label.d 93 c.mark_next-3.result
-    c.mark_next-3.ensures c.in_ok-e.e c.in_ok-e.was _
-    ∙ mark_read true false c.args.s.now c.in_ok-e.e c.args.arrow c.mark_next-4.result
-    c.mark_next-4.ensures c.in_ok-f.f c.in_ok-f.was _
-    ∙ vertex_unread false c.args.s.now c.in_ok-f.f c.vertex.result c.vertex.ensures
-    c.in_err-vertex.was _)))
+returns-in_default-vertex c =
+    step_stopped (ap or_stopped (mark_read true false c.args.s.now c.args.from 91 c.mark_next.result
+    c.mark_next.ensures c.in-Some.a c.in-Some.is _
+    ∙ name_read true false c.args.s.now c.in-Some.a c.name_next.result c.name_next.ensures
+    c.in-Some-name_next.edge c.in-Some-name_next.b c.in-Some-name_next.is _
+    ∙ mark_read true true c.args.s.now c.in-Some-name_next.b 58 c.mark_next-2.result
+    c.mark_next-2.ensures c.in-Some-mark_next.c c.in-Some-mark_next.is _
+    ∙ name_read true false c.args.s.now c.in-Some-mark_next.c c.name_next-2.result c.name_next-2.ensures
+    c.in-Some-name_next-2.label c.in-Some-name_next-2.d c.in-Some-name_next-2.is _
+    ∙ mark_read true true c.args.s.now c.in-Some-name_next-2.d 93 c.mark_next-3.result
+    c.mark_next-3.ensures c.in-Some-mark_next-2.e c.in-Some-mark_next-2.is _
+    ∙ mark_read true false c.args.s.now c.in-Some-mark_next-2.e c.args.arrow c.mark_next-4.result
+    c.mark_next-4.ensures c.in-Some-mark_next-3.f c.in-Some-mark_next-3.is _
+    ∙ vertex_unread false c.args.s.now c.in-Some-mark_next-3.f c.vertex.result c.vertex.ensures
+    c.in_default-vertex.is _))
 
 pub returns : goal.returns
 unfolding link_then step_of walk_at spot_of chain_at or_stopped mark_bytes bracket_of is_mark same variable_at
 returns c =
     record {
       reads = ap or_stopped (mark_read true false c.args.s.now c.args.from 91 c.mark_next.result
-          c.mark_next.ensures c.in_ok-a.a c.in_ok-a.was _
-          ∙ name_read true false c.args.s.now c.in_ok-a.a c.name_next.result c.name_next.ensures
-          c.in_ok-edge.edge c.in_ok-edge.b c.in_ok-edge.was _
-          ∙ mark_read true true c.args.s.now c.in_ok-edge.b 58 c.mark_next-2.result
-          c.mark_next-2.ensures c.in_ok-c.c c.in_ok-c.was _
-          ∙ name_read true false c.args.s.now c.in_ok-c.c c.name_next-2.result c.name_next-2.ensures
-          c.in_ok-label.label c.in_ok-label.d c.in_ok-label.was _
-          ∙ mark_read true true c.args.s.now c.in_ok-label.d 93 c.mark_next-3.result
-          c.mark_next-3.ensures c.in_ok-e.e c.in_ok-e.was _
-          ∙ mark_read true false c.args.s.now c.in_ok-e.e c.args.arrow c.mark_next-4.result
-          c.mark_next-4.ensures c.in_ok-f.f c.in_ok-f.was _
-          ∙ vertex_read false c.args.s.now c.in_ok-f.f c.vertex.result c.vertex.ensures
-          c.in_ok-vertex.vertex c.in_ok-vertex.q c.in_ok-vertex.was _)
-          ∙ ap (λ p. ahead p (walk in_chain 0 (signs_from true false c.args.s.now c.in_ok-vertex.q)))
+          c.mark_next.ensures c.in-Some.a c.in-Some.is _
+          ∙ name_read true false c.args.s.now c.in-Some.a c.name_next.result c.name_next.ensures
+          c.in-Some-name_next.edge c.in-Some-name_next.b c.in-Some-name_next.is _
+          ∙ mark_read true true c.args.s.now c.in-Some-name_next.b 58 c.mark_next-2.result
+          c.mark_next-2.ensures c.in-Some-mark_next.c c.in-Some-mark_next.is _
+          ∙ name_read true false c.args.s.now c.in-Some-mark_next.c c.name_next-2.result c.name_next-2.ensures
+          c.in-Some-name_next-2.label c.in-Some-name_next-2.d c.in-Some-name_next-2.is _
+          ∙ mark_read true true c.args.s.now c.in-Some-name_next-2.d 93 c.mark_next-3.result
+          c.mark_next-3.ensures c.in-Some-mark_next-2.e c.in-Some-mark_next-2.is _
+          ∙ mark_read true false c.args.s.now c.in-Some-mark_next-2.e c.args.arrow c.mark_next-4.result
+          c.mark_next-4.ensures c.in-Some-mark_next-3.f c.in-Some-mark_next-3.is _
+          ∙ vertex_read false c.args.s.now c.in-Some-mark_next-3.f c.vertex.result c.vertex.ensures
+          c.in-Some-vertex.vertex c.in-Some-vertex.q c.in-Some-vertex.is _)
+          ∙ ap (λ p. ahead p (walk in_chain 0 (signs_from true false c.args.s.now c.in-Some-vertex.q)))
           (c.linked.ensures.reads c.args.s.now);
       moves = omega (
         arith,
         mark_moves true false c.args.s.now c.args.from 91 c.mark_next.result c.mark_next.ensures
-            c.in_ok-a.a c.in_ok-a.was,
-        name_moves true false c.args.s.now c.in_ok-a.a c.name_next.result
-            c.name_next.ensures c.in_ok-edge.edge c.in_ok-edge.b c.in_ok-edge.was,
+            c.in-Some.a c.in-Some.is,
+        name_moves true false c.args.s.now c.in-Some.a c.name_next.result
+            c.name_next.ensures c.in-Some-name_next.edge c.in-Some-name_next.b c.in-Some-name_next.is,
         mark_moves true true
-            c.args.s.now c.in_ok-edge.b 58 c.mark_next-2.result c.mark_next-2.ensures
-            c.in_ok-c.c c.in_ok-c.was,
-        name_moves true false c.args.s.now c.in_ok-c.c
-            c.name_next-2.result c.name_next-2.ensures c.in_ok-label.label c.in_ok-label.d
-            c.in_ok-label.was,
-        mark_moves true true c.args.s.now c.in_ok-label.d 93 c.mark_next-3.result
-            c.mark_next-3.ensures c.in_ok-e.e c.in_ok-e.was,
+            c.args.s.now c.in-Some-name_next.b 58 c.mark_next-2.result c.mark_next-2.ensures
+            c.in-Some-mark_next.c c.in-Some-mark_next.is,
+        name_moves true false c.args.s.now c.in-Some-mark_next.c
+            c.name_next-2.result c.name_next-2.ensures c.in-Some-name_next-2.label c.in-Some-name_next-2.d
+            c.in-Some-name_next-2.is,
+        mark_moves true true c.args.s.now c.in-Some-name_next-2.d 93 c.mark_next-3.result
+            c.mark_next-3.ensures c.in-Some-mark_next-2.e c.in-Some-mark_next-2.is,
         mark_moves true false c.args.s.now
-            c.in_ok-e.e c.args.arrow c.mark_next-4.result c.mark_next-4.ensures c.in_ok-f.f
-            c.in_ok-f.was,
-        vertex_moves false c.args.s.now c.in_ok-f.f c.vertex.result c.vertex.ensures
-            c.in_ok-vertex.vertex c.in_ok-vertex.q c.in_ok-vertex.was,
+            c.in-Some-mark_next-2.e c.args.arrow c.mark_next-4.result c.mark_next-4.ensures c.in-Some-mark_next-3.f
+            c.in-Some-mark_next-3.is,
+        vertex_moves false c.args.s.now c.in-Some-mark_next-3.f c.vertex.result c.vertex.ensures
+            c.in-Some-vertex.vertex c.in-Some-vertex.q c.in-Some-vertex.is,
       );
       inside = c.linked.ensures.inside c.args.s.now (record {
-        edge = subst (NameInside c.args.s.now) c.in_ok-edge.was c.name_next.ensures.inside;
-        label = subst (NameInside c.args.s.now) c.in_ok-label.was c.name_next-2.ensures.inside;
-        vertex = subst (NameInside c.args.s.now) c.in_ok-vertex.was c.vertex.ensures.inside;
+        edge = subst (NameInside c.args.s.now) c.in-Some-name_next.is c.name_next.ensures.inside;
+        label = subst (NameInside c.args.s.now) c.in-Some-name_next-2.is c.name_next-2.ensures.inside;
+        vertex = subst (NameInside c.args.s.now) c.in-Some-vertex.is c.vertex.ensures.inside;
       });
       stands = mark_stands true false
-          c.args.s.now c.args.from 91 c.mark_next.result c.mark_next.ensures c.in_ok-a.a
-          c.in_ok-a.was none ∙ name_stands true false c.args.s.now c.in_ok-a.a c.name_next.result
-          c.name_next.ensures c.in_ok-edge.edge c.in_ok-edge.b c.in_ok-edge.was square
-          ∙ ap (λ l. edge c.in_ok-edge.edge ∷ l)
-          (mark_stands true true c.args.s.now c.in_ok-edge.b 58 c.mark_next-2.result
-          c.mark_next-2.ensures c.in_ok-c.c c.in_ok-c.was none
-          ∙ name_stands true false c.args.s.now c.in_ok-c.c c.name_next-2.result c.name_next-2.ensures
-          c.in_ok-label.label c.in_ok-label.d c.in_ok-label.was none
-          ∙ mark_stands true true c.args.s.now c.in_ok-label.d 93 c.mark_next-3.result
-          c.mark_next-3.ensures c.in_ok-e.e c.in_ok-e.was none
-          ∙ mark_stands true false c.args.s.now c.in_ok-e.e c.args.arrow c.mark_next-4.result
-          c.mark_next-4.ensures c.in_ok-f.f c.in_ok-f.was none
-          ∙ vertex_stands false c.args.s.now c.in_ok-f.f c.vertex.result c.vertex.ensures
-          c.in_ok-vertex.vertex c.in_ok-vertex.q c.in_ok-vertex.was _)
-          ∙ ap (λ l. l ++ standings_from none true false c.args.s.now c.in_ok-vertex.q) (sym c.linked.ensures.stands);
+          c.args.s.now c.args.from 91 c.mark_next.result c.mark_next.ensures c.in-Some.a
+          c.in-Some.is none ∙ name_stands true false c.args.s.now c.in-Some.a c.name_next.result
+          c.name_next.ensures c.in-Some-name_next.edge c.in-Some-name_next.b c.in-Some-name_next.is square
+          ∙ ap (λ l. edge c.in-Some-name_next.edge ∷ l)
+          (mark_stands true true c.args.s.now c.in-Some-name_next.b 58 c.mark_next-2.result
+          c.mark_next-2.ensures c.in-Some-mark_next.c c.in-Some-mark_next.is none
+          ∙ name_stands true false c.args.s.now c.in-Some-mark_next.c c.name_next-2.result c.name_next-2.ensures
+          c.in-Some-name_next-2.label c.in-Some-name_next-2.d c.in-Some-name_next-2.is none
+          ∙ mark_stands true true c.args.s.now c.in-Some-name_next-2.d 93 c.mark_next-3.result
+          c.mark_next-3.ensures c.in-Some-mark_next-2.e c.in-Some-mark_next-2.is none
+          ∙ mark_stands true false c.args.s.now c.in-Some-mark_next-2.e c.args.arrow c.mark_next-4.result
+          c.mark_next-4.ensures c.in-Some-mark_next-3.f c.in-Some-mark_next-3.is none
+          ∙ vertex_stands false c.args.s.now c.in-Some-mark_next-3.f c.vertex.result c.vertex.ensures
+          c.in-Some-vertex.vertex c.in-Some-vertex.q c.in-Some-vertex.is _)
+          ∙ ap (λ l. l ++ standings_from none true false c.args.s.now c.in-Some-vertex.q) (sym c.linked.ensures.stands);
+      ends = tt;
     }

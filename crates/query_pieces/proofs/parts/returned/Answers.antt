@@ -10,13 +10,12 @@ use mathlib.Core.Bool.{false}
 use mathlib.Core.Path.{ap, subst, ◌∙◌}
 use Rattle.query_pieces.proofs.parts.returned.Goals as goal
 
-pub returns-in_err-v : goal.returns-in_err-v
+pub returns-in_default : goal.returns-in_default
 unfolding or_stopped
-returns-in_err-v c =
-    rw c.from_residual.ensures
-    (step_stopped (return_by (signs_from false c.args.close c.args.s.now c.args.from)
+returns-in_default c =
+    step_stopped (return_by (signs_from false c.args.close c.args.s.now c.args.from)
     ∙ ap or_stopped (name_unread false c.args.close c.args.s.now c.args.from c.name_next.result
-    c.name_next.ensures c.in_err-v.was _)))
+    c.name_next.ensures c.in_default.is _))
 
 pub returns : goal.returns
 unfolding step_of walk_at piece_of spot_of chain_at or_stopped piece_standing variable_at
@@ -24,14 +23,15 @@ returns c =
     record {
       reads = return_by (signs_from false c.args.close c.args.s.now c.args.from)
           ∙ ap or_stopped (name_read false c.args.close c.args.s.now c.args.from c.name_next.result
-          c.name_next.ensures c.in_ok-v.v c.in_ok-v.q c.in_ok-v.was _);
+          c.name_next.ensures c.in-Some.v c.in-Some.q c.in-Some.is _);
       moves = omega (
         arith,
         name_moves false c.args.close c.args.s.now c.args.from c.name_next.result
-            c.name_next.ensures c.in_ok-v.v c.in_ok-v.q c.in_ok-v.was,
+            c.name_next.ensures c.in-Some.v c.in-Some.q c.in-Some.is,
       );
-      inside = subst (NameInside c.args.s.now) c.in_ok-v.was c.name_next.ensures.inside;
+      inside = subst (NameInside c.args.s.now) c.in-Some.is c.name_next.ensures.inside;
       stands = name_stands false
           c.args.close c.args.s.now c.args.from c.name_next.result c.name_next.ensures
-          c.in_ok-v.v c.in_ok-v.q c.in_ok-v.was none;
+          c.in-Some.v c.in-Some.q c.in-Some.is none;
+      ends = tt;
     }

@@ -10,13 +10,12 @@ use mathlib.Core.Bool.{true}
 use mathlib.Core.Path.{ap, subst, ◌∙◌}
 use Rattle.query_pieces.proofs.parts.start.Goals as goal
 
-pub returns-in_err-v : goal.returns-in_err-v
+pub returns-in_default : goal.returns-in_default
 unfolding or_stopped
-returns-in_err-v c =
-    rw c.from_residual.ensures
-    (step_stopped (start_by (signs_from true true c.args.s.now c.args.from)
+returns-in_default c =
+    step_stopped (start_by (signs_from true true c.args.s.now c.args.from)
     ∙ ap or_stopped (vertex_unread true c.args.s.now c.args.from c.vertex.result
-    c.vertex.ensures c.in_err-v.was _)))
+    c.vertex.ensures c.in_default.is _))
 
 pub returns : goal.returns
 unfolding step_of walk_at piece_of spot_of chain_at or_stopped piece_standing
@@ -24,14 +23,15 @@ returns c =
     record {
       reads = start_by (signs_from true true c.args.s.now c.args.from)
           ∙ ap or_stopped (vertex_read true c.args.s.now c.args.from c.vertex.result c.vertex.ensures
-          c.in_ok-v.v c.in_ok-v.q c.in_ok-v.was _);
+          c.in-Some.v c.in-Some.q c.in-Some.is _);
       moves = omega (
         arith,
         vertex_moves true c.args.s.now c.args.from c.vertex.result c.vertex.ensures
-            c.in_ok-v.v c.in_ok-v.q c.in_ok-v.was,
+            c.in-Some.v c.in-Some.q c.in-Some.is,
       );
-      inside = subst (NameInside c.args.s.now) c.in_ok-v.was c.vertex.ensures.inside;
+      inside = subst (NameInside c.args.s.now) c.in-Some.is c.vertex.ensures.inside;
       stands = vertex_stands true c.args.s.now
-          c.args.from c.vertex.result c.vertex.ensures c.in_ok-v.v c.in_ok-v.q
-          c.in_ok-v.was none;
+          c.args.from c.vertex.result c.vertex.ensures c.in-Some.v c.in-Some.q
+          c.in-Some.is none;
+      ends = tt;
     }
