@@ -19,7 +19,8 @@ pub fn word_at(s: &[u8], p: usize) -> Option<usize>
     None
 }
 
-// The next item, if it is a name; or the closing bracket.
+// The next item, if it is a name; or the closing bracket. Put into its callers, since a book's names are all read by it: for speed.
+#[inline]
 pub fn next_name(s: &[u8], from: usize, free: bool, depth: usize) -> Option<Next<Part>>
     ensures { result ≡ name_next depth free s.now from }
 {
@@ -59,7 +60,8 @@ pub fn value(s: &[u8], at: usize, depth: usize) -> Option<(Value, usize)>
     }
 }
 
-// The next item, if it is a value.
+// The next item, if it is a value. Put into its callers: for speed.
+#[inline(always)]
 pub fn next_value(s: &[u8], from: usize, free: bool, depth: usize) -> Option<(Value, usize)>
     ensures { result ≡ value_next depth free s.now from }
 {

@@ -55,7 +55,8 @@ pub fn has_name(s: &[u8], from: usize, name: &[u8]) -> bool
     false
 }
 
-// Whether some name stands a second time among those from a place on.
+// Whether some name stands a second time among those from a place on. Put into its callers, whose tables then lie in the same stretch of the stack as this one.
+#[inline]
 pub fn has_twice(s: &[u8], from: usize) -> bool
     ensures { (x : NamesRead) → names_behind s.now from ≡ just x → result ≡ twice x.names }
 {

@@ -10,12 +10,12 @@ use model::limits::MAX_WORD_BYTES;
 pub fn spaces_end(s: &[u8], from: usize) -> usize
     ensures { result ≡ past is_space s.now from }
 {
-    for i in from..s.len() {
-        if s[i] != b' ' {
-            return i;
-        }
+    // No `for`: put into its callers it counts in three to five ways at once, and a book with wide spaces takes half as long again to read.
+    let mut i = from;
+    while bytes::peek(s, i) == bytes::SPACE {
+        i += 1;
     }
-    from.max(s.len())
+    i
 }
 
 // The place behind the letters, digits and underscores that stand from a place on.
