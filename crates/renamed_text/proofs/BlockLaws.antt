@@ -1,11 +1,9 @@
 -- A text that has room is put by storing its bytes one behind another, and one that has none by counting them. Assumes nothing.
-use Prim.Native.Nat.{ℕ, zero, suc, ◌+◌, ◌≤◌, ◌<◌}
+use Prim.Native.Nat.{ℕ, suc, ◌+◌, ◌≤◌, ◌<◌}
 use mathlib.Core.Path.{◌≡◌, ◌∙◌, subst}
-use mathlib.Core.List.{[], ◌∷◌, ◌++◌, append_assoc}
-use native.Mathlib.Numerals.{add-one}
+use mathlib.Core.List.{[], ◌∷◌}
 use native.Mathlib.Omega.{arith}
-use lib.ListN.{length, take, drop, set, get_or}
-use lib.Seq.{paste, paste-zero, paste-suc, drop-drop, take-length}
+use lib.ListN.{length, take, set, get_or}
 use Rattle.model.specs.Bytes.{Bytes}
 use Rattle.putting.specs.Putting.{last_place, further, Puts}
 use Rattle.putting.proofs.PuttingLaws.{puts_byte, puts_no_room, puts_then, puts_more, puts_nothing, puts_all, further_on}
@@ -22,19 +20,11 @@ module _ (o s : Bytes) (a : ℕ) where
       let e : further (a + i) ≡ a + (i + 1) = further_on (a + i) h ∙ omega arith in
       puts_more s i l p (subst (λ (n : ℕ). Puts o' (a + i) (get_or s i 0 ∷ []) (set o' (a + i) (get_or s i 0)) n) e (puts_byte o' (a + i) (get_or s i 0)))
 
-  -- the first i of them, copied
-  pasted : (i : ℕ) → i ≤ length s → a + i ≤ length o → a + i ≤ last_place → Puts o a (take i s) (paste o a s i) (a + i)
-  pasted zero h k l = subst (λ (x : Bytes). Puts o a (take 0 s) x (a + 0)) (paste-zero o a s) none_stored
-  pasted (suc i) h k l =
-      let q = one_stored (paste o a s i) i (omega arith) (omega arith) (pasted i (omega arith) (omega arith) (omega arith)) in
-      subst (λ (x : Bytes). Puts o a (take (suc i) s) x (a + suc i)) (paste-suc o a s i 0 (omega arith) (omega arith)) (rw (add-one i) at q)
-
-  -- all of them, copied at once
-  pub copied : (n : ℕ) (new : Bytes) → n ≡ length s → new ≡ s → a + length s ≤ length o → a + length s ≤ last_place
-      → Puts o a s (take a o ++ (new ++ drop n (drop a o))) (a + length s)
-  copied n new e f k l =
-      let q : Puts o a (take (length s) s) (paste o a s (length s)) (a + length s) = pasted (length s) (omega arith) k l in
-      rw (e, f, drop-drop, ← append_assoc) (rw take-length at q)
+  -- all of them
+  pub all_stored : (o' : Bytes) (i : ℕ) → i ≤ length s → length s ≤ i → Puts o a (take i s) o' (a + i) → Puts o a s o' (a + length s)
+  all_stored o' i l g p =
+      let e : a + i ≡ a + length s = omega arith in
+      subst (λ (n : ℕ). Puts o a s o' n) e (puts_all s i g p)
 
 -- no byte has room
 pub none_kept : (o s : Bytes) (a : ℕ) → length o ≤ a → a + length s ≤ last_place → Puts o a s o (a + length s)

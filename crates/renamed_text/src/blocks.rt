@@ -20,10 +20,13 @@ pub fn put_block(bytes: &[u8], out: &mut [u8], at: usize) -> usize
     putting::bytes::put_bytes(bytes, out, at)
 }
 
-// Puts a text where there is room for all of it.
+// Puts a text where there is room for all of it. Byte by byte: of `copy_from_slice` the C function `memmove` is made here, which a caller of the library would
+// have to have, and it needs nothing but `memcpy` and `memset`.
 fn copy(bytes: &[u8], out: &mut [u8], at: usize)
     requires { at + length bytes.now ≤ length out.old }
     ensures { Puts out.old at bytes.now out.new (at + length bytes.now) }
 {
-    out[at..at + bytes.len()].copy_from_slice(bytes);
+    for i in 0..bytes.len() {
+        out[at + i] = bytes[i];
+    }
 }
