@@ -19,6 +19,9 @@ pub fn lamp(
         work.new result }
 {
     let mut rows = [0u32; 0];
-    let found = ask(book, rules, query, request, &mut rows, work)?;
-    Ok(found.is_none())
+    // No `?`: each answer has a line of its own, which an edit in must-fail/ can make wrong by itself.
+    match ask(book, rules, query, request, &mut rows, work) {
+        Ok(found) => Ok(found.is_none()),
+        Err(refusal) => Err(refusal),
+    }
 }
